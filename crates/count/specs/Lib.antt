@@ -1,2 +1,8 @@
 pub mod Pick
+pub mod Paper
 pub mod Numbers
+pub mod Ranges
+pub mod Text
+pub mod Laws
+pub mod Lists
+pub mod Digits

@@ -1,0 +1,93 @@
+-- No second outcome satisfies the contract of an exported function: of any two results that the contract itself allows for the same
+-- arguments, and of what the lent part then holds, each is the other. Assumes nothing.
+use mathlib.Core.Path.{_≡_, sym, ap, _∙_}
+use denote.Ref.{now}
+use Rattle.count.specs.Text.{Written}
+use Rattle.count.proofs.in_range.Reads as in-range
+use Rattle.count.proofs.add.Reads as add
+use Rattle.count.proofs.distance.Reads as distance
+use Rattle.count.proofs.word_of.Reads as word-of
+use Rattle.count.proofs.count_of.Reads as count-of
+use Rattle.count.proofs.count_word.Reads as count-word
+use Rattle.count.proofs.number.Reads as number
+use Rattle.count.proofs.ranges.is_24.Reads as is-24
+use Rattle.count.proofs.ranges.is_speed.Reads as is-speed
+use Rattle.count.proofs.ranges.is_offset.Reads as is-offset
+use Rattle.count.proofs.ranges.is_back.Reads as is-back
+use Rattle.count.proofs.ranges.is_loop.Reads as is-loop
+use Rattle.count.proofs.ranges.is_delay.Reads as is-delay
+use Rattle.count.proofs.ranges.is_character.Reads as is-character
+use Rattle.count.proofs.ranges.is_switch.Reads as is-switch
+use Rattle.count.proofs.ranges.is_port.Reads as is-port
+use Rattle.count.proofs.ranges.is_byte.Reads as is-byte
+use Rattle.count.proofs.ranges.is_zero.Reads as is-zero
+use Rattle.count.proofs.text.put_report.Reads as put-report
+use Rattle.count.proofs.text.put_byte.Reads as put-byte
+use Rattle.count.proofs.text.put_word.Reads as put-word
+use Rattle.count.proofs.text.put_count.Reads as put-count
+
+pub in-range-one : (κs : _) (a : _) (r r′ : _) (s s′ : _) → in-range.Post κs a r s → in-range.Post κs a r′ s′ → r ≡ r′
+in-range-one κs a r r′ s s′ p q = p ∙ sym q
+
+pub add-one : (κs : _) (a : _) (r r′ : _) (s s′ : _) → add.Post κs a r s → add.Post κs a r′ s′ → r ≡ r′
+add-one κs a r r′ s s′ p q = p ∙ sym q
+
+pub distance-one : (κs : _) (a : _) (r r′ : _) (s s′ : _) → distance.Post κs a r s → distance.Post κs a r′ s′ → r ≡ r′
+distance-one κs a r r′ s s′ p q = p ∙ sym q
+
+pub word-of-one : (κs : _) (a : _) (r r′ : _) (s s′ : _) → word-of.Post κs a r s → word-of.Post κs a r′ s′ → r ≡ r′
+word-of-one κs a r r′ s s′ p q = p ∙ sym q
+
+pub count-of-one : (κs : _) (a : _) (r r′ : _) (s s′ : _) → count-of.Post κs a r s → count-of.Post κs a r′ s′ → r ≡ r′
+count-of-one κs a r r′ s s′ p q = p ∙ sym q
+
+pub count-word-one : (κs : _) (a : _) (r r′ : _) (s s′ : _) → count-word.Post κs a r s → count-word.Post κs a r′ s′ → r ≡ r′
+count-word-one κs a r r′ s s′ p q = p ∙ sym q
+
+pub number-one : (κs : _) (a : _) (r r′ : _) (s s′ : _) → number.Post κs a r s → number.Post κs a r′ s′ → r ≡ r′
+number-one κs a r r′ s s′ p q = p ∙ sym q
+
+pub is-24-one : (κs : _) (a : _) (r r′ : _) (s s′ : _) → is-24.Post κs a r s → is-24.Post κs a r′ s′ → r ≡ r′
+is-24-one κs a r r′ s s′ p q = p ∙ sym q
+
+pub is-speed-one : (κs : _) (a : _) (r r′ : _) (s s′ : _) → is-speed.Post κs a r s → is-speed.Post κs a r′ s′ → r ≡ r′
+is-speed-one κs a r r′ s s′ p q = p ∙ sym q
+
+pub is-offset-one : (κs : _) (a : _) (r r′ : _) (s s′ : _) → is-offset.Post κs a r s → is-offset.Post κs a r′ s′ → r ≡ r′
+is-offset-one κs a r r′ s s′ p q = p ∙ sym q
+
+pub is-back-one : (κs : _) (a : _) (r r′ : _) (s s′ : _) → is-back.Post κs a r s → is-back.Post κs a r′ s′ → r ≡ r′
+is-back-one κs a r r′ s s′ p q = p ∙ sym q
+
+pub is-loop-one : (κs : _) (a : _) (r r′ : _) (s s′ : _) → is-loop.Post κs a r s → is-loop.Post κs a r′ s′ → r ≡ r′
+is-loop-one κs a r r′ s s′ p q = p ∙ sym q
+
+pub is-delay-one : (κs : _) (a : _) (r r′ : _) (s s′ : _) → is-delay.Post κs a r s → is-delay.Post κs a r′ s′ → r ≡ r′
+is-delay-one κs a r r′ s s′ p q = p ∙ sym q
+
+pub is-character-one : (κs : _) (a : _) (r r′ : _) (s s′ : _) → is-character.Post κs a r s → is-character.Post κs a r′ s′ → r ≡ r′
+is-character-one κs a r r′ s s′ p q = p ∙ sym q
+
+pub is-switch-one : (κs : _) (a : _) (r r′ : _) (s s′ : _) → is-switch.Post κs a r s → is-switch.Post κs a r′ s′ → r ≡ r′
+is-switch-one κs a r r′ s s′ p q = p ∙ sym q
+
+pub is-port-one : (κs : _) (a : _) (r r′ : _) (s s′ : _) → is-port.Post κs a r s → is-port.Post κs a r′ s′ → r ≡ r′
+is-port-one κs a r r′ s s′ p q = p ∙ sym q
+
+pub is-byte-one : (κs : _) (a : _) (r r′ : _) (s s′ : _) → is-byte.Post κs a r s → is-byte.Post κs a r′ s′ → r ≡ r′
+is-byte-one κs a r r′ s s′ p q = p ∙ sym q
+
+pub is-zero-one : (κs : _) (a : _) (r r′ : _) (s s′ : _) → is-zero.Post κs a r s → is-zero.Post κs a r′ s′ → r ≡ r′
+is-zero-one κs a r r′ s s′ p q = p ∙ sym q
+
+pub put-report-one : (κs : _) (a : _) (r r′ : _) (s s′ : _) → put-report.Post κs a r s → put-report.Post κs a r′ s′ → (r ≡ r′) × (now (s .0) ≡ now (s′ .0))
+put-report-one κs a r r′ s s′ p q = (ap (λ (w : Written). w .len) (p ∙ sym q), ap (λ (w : Written). w .text) (p ∙ sym q))
+
+pub put-byte-one : (κs : _) (a : _) (r r′ : _) (s s′ : _) → put-byte.Post κs a r s → put-byte.Post κs a r′ s′ → (r ≡ r′) × (now (s .0) ≡ now (s′ .0))
+put-byte-one κs a r r′ s s′ p q = (ap (λ (w : Written). w .len) (p ∙ sym q), ap (λ (w : Written). w .text) (p ∙ sym q))
+
+pub put-word-one : (κs : _) (a : _) (r r′ : _) (s s′ : _) → put-word.Post κs a r s → put-word.Post κs a r′ s′ → (r ≡ r′) × (now (s .0) ≡ now (s′ .0))
+put-word-one κs a r r′ s s′ p q = (ap (λ (w : Written). w .len) (p ∙ sym q), ap (λ (w : Written). w .text) (p ∙ sym q))
+
+pub put-count-one : (κs : _) (a : _) (r r′ : _) (s s′ : _) → put-count.Post κs a r s → put-count.Post κs a r′ s′ → (r ≡ r′) × (now (s .0) ≡ now (s′ .0))
+put-count-one κs a r r′ s s′ p q = (ap (λ (w : Written). w .len) (p ∙ sym q), ap (λ (w : Written). w .text) (p ∙ sym q))

@@ -25,6 +25,9 @@ use Rattle.count.proofs.text.put_report.Reads as put-report
 use Rattle.count.proofs.text.put_byte.Reads as put-byte
 use Rattle.count.proofs.text.put_word.Reads as put-word
 use Rattle.count.proofs.text.put_count.Reads as put-count
+use Rattle.count.proofs.movement.right_count.Reads as right-count
+use Rattle.count.proofs.movement.right_distances.Reads as right-distances
+use Rattle.count.proofs.movement.right_speeds.Reads as right-speeds
 
 pub in-range-one : (κs : _) (a : _) (r r′ : _) (s s′ : _) → in-range.Post κs a r s → in-range.Post κs a r′ s′ → r ≡ r′
 in-range-one κs a r r′ s s′ p q = p ∙ sym q
@@ -91,3 +94,12 @@ put-word-one κs a r r′ s s′ p q = (ap (λ (w : Written). w .len) (p ∙ sym
 
 pub put-count-one : (κs : _) (a : _) (r r′ : _) (s s′ : _) → put-count.Post κs a r s → put-count.Post κs a r′ s′ → (r ≡ r′) × (now (s .0) ≡ now (s′ .0))
 put-count-one κs a r r′ s s′ p q = (ap (λ (w : Written). w .len) (p ∙ sym q), ap (λ (w : Written). w .text) (p ∙ sym q))
+
+pub right-count-one : (κs : _) (a : _) (r r′ : _) (s s′ : _) → right-count.Post κs a r s → right-count.Post κs a r′ s′ → r ≡ r′
+right-count-one κs a r r′ s s′ p q = p ∙ sym q
+
+pub right-distances-one : (κs : _) (a : _) (r r′ : _) (s s′ : _) → right-distances.Post κs a r s → right-distances.Post κs a r′ s′ → r ≡ r′
+right-distances-one κs a r r′ s s′ p q = p ∙ sym q
+
+pub right-speeds-one : (κs : _) (a : _) (r r′ : _) (s s′ : _) → right-speeds.Post κs a r s → right-speeds.Post κs a r′ s′ → r ≡ r′
+right-speeds-one κs a r r′ s s′ p q = p ∙ sym q

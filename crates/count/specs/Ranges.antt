@@ -1,7 +1,12 @@
 -- The ranges that lines and records ask of their numbers (01, "Lines": both tables and the paragraph under the second).
-use mathlib.Core.Bool.{Bool}
+use mathlib.Core.Bool.{Bool, true, false, _&&_}
+use mathlib.Core.List.{List}
+use Prim.Native.Nat.{ℕ}
+use lib.Dec.{eqb}
 use lib.IntN.{ℤ, pos, negsuc}
-use Rattle.count.specs.Numbers.{within}
+use lib.ListN.{getD}
+use Rattle.count.specs.Pick.{pick}
+use Rattle.count.specs.Numbers.{within, in24, signed}
 
 -- a speed: 30 to 10,000 (reply D)
 unfoldable pub inSpeed : ℤ → Bool
@@ -42,3 +47,32 @@ inByte z = within (pos 0) (pos 255) z
 -- the number 0: a jump's number, the output port, an absolute movement's z2
 unfoldable pub inZero : ℤ → Bool
 inZero z = within (pos 0) (pos 0) z
+
+-- ---- the numbers of a movement (01, "Lines", row A, M; "Movement", sentences 1, 3 and 4): a distance or target and a speed for each
+-- of x, y, z1, z2; under axes 1, 3 and 7 these are one, two and four pairs, and no other axes have a movement
+
+-- 2, 4 or 8 numbers for axes 1, 3, 7
+unfoldable pub rightCount : ℕ → ℕ → Bool
+rightCount axes n = pick (eqb axes 1) (eqb n 2) (pick (eqb axes 3) (eqb n 4) (pick (eqb axes 7) (eqb n 8) false))
+
+-- the number at a place among the words
+abbrev pub nth : List ℕ → ℕ → ℤ
+nth l i = signed (getD l i 0)
+
+-- z2: a distance of 24 bits; of an absolute movement 0
+unfoldable pub rightZ2 : Bool → ℤ → Bool
+rightZ2 absolute z = pick absolute (inZero z) (in24 z)
+
+-- distances and targets are of 24 bits
+unfoldable pub rightDistances : ℕ → Bool → List ℕ → Bool
+rightDistances axes absolute l =
+    pick (eqb axes 1) (in24 (nth l 0))
+    (pick (eqb axes 3) (in24 (nth l 0) && in24 (nth l 2))
+    (pick (eqb axes 7) (in24 (nth l 0) && in24 (nth l 2) && in24 (nth l 4) && rightZ2 absolute (nth l 6)) false))
+
+-- every speed, used or not, is a speed
+unfoldable pub rightSpeeds : ℕ → List ℕ → Bool
+rightSpeeds axes l =
+    pick (eqb axes 1) (inSpeed (nth l 1))
+    (pick (eqb axes 3) (inSpeed (nth l 1) && inSpeed (nth l 3))
+    (pick (eqb axes 7) (inSpeed (nth l 1) && inSpeed (nth l 3) && inSpeed (nth l 5) && inSpeed (nth l 7)) false))

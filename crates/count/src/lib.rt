@@ -9,9 +9,13 @@ ghost use Rattle.count.specs.Numbers.{full, value, signed, word, withSig
 ghost use Rattle.count.specs.Ranges.{inSpeed, inOffset, inBack, inLoop, inDelay, inCharacter, inSwitch, inPort, inByte, inZero};
 ghost use Rattle.count.specs.Text.{written, wrote, hexDigit, twos24, report, twoHex, digits, shown};
 
+mod movement;
 mod ranges;
 mod text;
 
+pub use movement::right_count;
+pub use movement::right_distances;
+pub use movement::right_speeds;
 pub use ranges::is_24;
 pub use ranges::is_back;
 pub use ranges::is_byte;

@@ -5,4 +5,5 @@ pub mod Ranges
 pub mod Text
 pub mod Laws
 pub mod Lists
+pub mod Words
 pub mod Digits

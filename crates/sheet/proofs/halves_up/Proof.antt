@@ -24,7 +24,8 @@ rem-rest c = rw (unit c) (pow-pos (c .args .places))
 returns : tie.Need-returns
 returns c =
     let s = c .before in
-    rw (unit s) (down (s .args .digits) (s .args .places) (s .pre .some) (rw (unit s) at (c .if1 .taken)))
+    let h = rw (unit s) at (c .if1 .taken) in
+    rw (unit s) (down (s .args .digits) (s .args .places) (s .pre .some) (omega arith))
 
 add-result : tie.Need-add-result
 add-result c =
@@ -34,7 +35,8 @@ add-result c =
 returns-2 : tie.Need-returns-2
 returns-2 c =
     let s = c .before in
-    rw (unit s) (up (s .args .digits) (s .args .places) (s .pre .some) (rw (unit s) at (c .if1 .left)))
+    let h = rw (unit s) at (c .if1 .left) in
+    rw (unit s) (up (s .args .digits) (s .args .places) (s .pre .some) (omega arith))
 
 pub halves-up-spec : {M : Type 1} → statement M
 halves-up-spec = tie.close (tie.spec shl-unit div-whole rem-rest returns add-result returns-2)

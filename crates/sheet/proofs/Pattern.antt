@@ -1,6 +1,6 @@
 -- What the digits and the exponent field of a pattern say of the nearest whole number of its float. Assumes nothing.
-use mathlib.Core.Path.{_≡_, refl, sym, ap, _∙_, subst}
-use mathlib.Core.Bool.{Bool, true, false, not, cond}
+use mathlib.Core.Path.{_≡_, refl, sym, ap, _∙_}
+use mathlib.Core.Bool.{Bool, true, false, cond}
 use Prim.Native.Nat.{ℕ, zero, suc, _+_, _-_, _*_, _/_, _%_, _^_, _≤_, _<_, min}
 use native.Mathlib.Nat.{le-trans, le-of-eq, lt-of-lt-of-le, lt-of-le-of-lt, mul-le-mul-right, mod-lt, div-eq-of-lt, div-lt-iff-lt-mul, le-div-iff-mul-le, le-add-right}
 use native.Mathlib.Omega.{arith}

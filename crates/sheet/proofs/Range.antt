@@ -1,7 +1,7 @@
 -- From the cut whole number that the code keeps to the answer, and whole numbers as the machine holds them. Assumes nothing.
 use mathlib.Core.Path.{_≡_, refl, sym, ap, _∙_}
 use mathlib.Core.Bool.{Bool, true, false, _&&_}
-use Prim.Native.Nat.{ℕ, zero, suc, _^_, _≤_, _<_, min}
+use Prim.Native.Nat.{ℕ, zero, suc, _≤_, _<_, min}
 use native.Mathlib.Omega.{arith}
 use lib.Dec.{leb}
 use lib.IntN.{ℤ, pos, negsuc, negℤ, _-ℤ_, +ℤ-idl}
@@ -13,7 +13,7 @@ use mir.ValLaws.{toZ-pos, toZ-ofZ}
 use borrow.Author.Tests.{leb-true, leb-false, le-leb, lt-leb}
 use Rattle.sheet.specs.declared.Converted.{Converted}
 use Rattle.sheet.specs.Sheet.{near, signed, refused, wholeSteps, wholeSpeed, rounded}
-use Rattle.sheet.specs.Work.{capped, cappedWhole}
+use Rattle.sheet.specs.Work.{cappedWhole}
 
 -- what refuses every size from 2 ^ 24 up answers the same of a size and of the size cut there
 cut : (f : ℕ → Converted) → ((k : ℕ) → 16777216 ≤ k → f k ≡ refused 203) → (k : ℕ) → f k ≡ f (min k 16777216)

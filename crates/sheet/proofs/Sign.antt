@@ -8,7 +8,7 @@ use lib.Ieee.{Float, nan, inf, fin, binary64, odd, ofFields, ofBits, toBits, fit
 use lib.Ieee.Bits.{ofBits-toBits}
 use lib.Ieee.Compare.{differs-from-itself}
 use lib.Ieee.Exact.{HasValue, odd-sign}
-use Rattle.sheet.specs.Sheet.{near, signed}
+use Rattle.sheet.specs.Sheet.{signed}
 use Rattle.sheet.specs.Work.{capped, cappedWhole}
 use Rattle.sheet.proofs.Pattern.{ofBits-is}
 

@@ -9,11 +9,11 @@ use native.Mathlib.Omega.{arith}
 use lib.IntN.{ℤ, pos, negsuc}
 use lib.Dec.{T, leb, ltb, eqb, ltb→lt, lt→ltb}
 use lib.Pow.{pow-add, pow-pos}
-use lib.Ieee.{Float, fin, binary64, up, down, round, fits, le}
+use lib.Ieee.{fin, binary64, up, down, round, fits, le}
 use lib.Ieee.Fits.{down-pos, and-l, and-r}
 use lib.Ieee.Positive.{le→cross, cross→le, above-of-le}
 use borrow.Author.Tests.{leb-true, leb-false}
-use Rattle.sheet.specs.Sheet.{float, halfUp, near, signed}
+use Rattle.sheet.specs.Sheet.{float, near, signed}
 
 -- k - 1/2 ≤ m * 2 ^ e < k + 1/2, with every denominator multiplied out
 pub record Nearest (m : ℕ) (e : ℤ) (k : ℕ) : Type 0 where

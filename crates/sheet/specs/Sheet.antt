@@ -27,7 +27,7 @@ unfoldable pub axisRight : Axis → Bool
 axisRight a =
     between (float 1 1000) (a .lead) (float 1000000 1) && between (float 1 1000) (a .steps) (float 1000000 1) && between (float 1 1000) (a .gear) (float 1000000 1)
 
--- ---- sentences 2 and 3: a distance is from -1,000,000 to 1,000,000, a speed of any of the three kinds from 0 to 1,000,000
+-- ---- 01, "The sheet", sentences 2 and 3: a distance is from -1,000,000 to 1,000,000, a speed of any of the three kinds from 0 to 1,000,000
 
 unfoldable pub distanceRight : Float → Bool
 distanceRight mm = between (minusFloat 1000000 1) mm (float 1000000 1)
@@ -37,7 +37,7 @@ rateRight (PerSecond v) = between (float 0 1) v (float 1000000 1)
 rateRight (PerMinute v) = between (float 0 1) v (float 1000000 1)
 rateRight (Steps n) = leZ (pos 0) n && leZ n (pos 1000000)
 
--- ---- sentence 5: the formulas, each operation rounded once, in the order written
+-- ---- 01, "The sheet", sentence 5: the formulas, each operation rounded once, in the order written
 
 -- (mm / lead) × steps × gear
 abbrev pub distanceFloat : Axis → Float → Float
@@ -47,7 +47,7 @@ distanceFloat a mm = mul binary64 (mul binary64 (div binary64 mm (a .lead)) (a .
 abbrev pub speedFloat : Axis → Float → Float
 speedFloat a v = div binary64 (mul binary64 (mul binary64 v (a .steps)) (a .gear)) (a .lead)
 
--- ---- sentence 8: the nearest whole number of a float's exact value, halves away from zero
+-- ---- 01, "The sheet", sentence 8: the nearest whole number of a float's exact value, halves away from zero
 
 -- of a / c: a half more, rounded down
 unfoldable pub halfUp : ℕ → ℕ → ℕ
@@ -63,7 +63,7 @@ abbrev pub signed : Bool → ℕ → ℤ
 signed false k = pos k
 signed true k = negℤ (pos k)
 
--- ---- sentence 9: the whole number must be of 24 bits, or from 30 to 10,000 for a speed. An infinity and not-a-number have none
+-- ---- 01, "The sheet", sentence 9: the whole number must be of 24 bits, or from 30 to 10,000 for a speed. An infinity and not-a-number have none
 
 abbrev pub refused : ℕ → Converted
 refused n = record { refusal = n; value = pos 0 }
@@ -71,12 +71,14 @@ refused n = record { refusal = n; value = pos 0 }
 abbrev pub found : ℤ → Converted
 found z = record { refusal = 0; value = z }
 
+-- from -8,388,608, which is `negsuc 8388607`, to 8,388,607
 unfoldable pub wholeSteps : ℤ → Converted
 wholeSteps z = pick (leZ (negsuc 8388607) z && leZ z (pos 8388607)) (found z) (refused 203)
 
 unfoldable pub wholeSpeed : ℤ → Converted
 wholeSpeed z = pick (leZ (pos 30) z && leZ z (pos 10000)) (found z) (refused 203)
 
+-- the float's whole number in such a range
 unfoldable pub rounded : (ℤ → Converted) → Float → Converted
 unfolding near
 rounded range nan = refused 203
@@ -93,7 +95,7 @@ speedSteps a (PerSecond v) = rounded wholeSpeed (speedFloat a v)
 speedSteps a (PerMinute v) = rounded wholeSpeed (div binary64 (speedFloat a v) (float 60 1))
 speedSteps a (Steps n) = wholeSpeed n
 
--- ---- sentence 10: the tests in their order, and the value 0 with a refusal
+-- ---- 01, "The sheet", sentence 10: the tests in their order, and the value 0 with a refusal
 
 unfoldable pub distanceOf : Axis → Float → Converted
 distanceOf a mm = pick (not (axisRight a)) (refused 201) (pick (not (distanceRight mm)) (refused 202) (distanceSteps a mm))

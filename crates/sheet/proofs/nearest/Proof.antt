@@ -1,13 +1,12 @@
 -- `sheet::nearest` meets its contract. Assumes nothing.
 use borrow.Author.Needs.{needs}
-use native.Mathlib.Omega.{arith}
 use mathlib.Core.Path.{_≡_, sym, ap, subst, _∙_}
-use Prim.Native.Nat.{ℕ, _≤_, _^_}
+use Prim.Native.Nat.{_≤_, _^_}
 use lib.Dec.{T, leb}
-use lib.Ieee.{Float, binary64, fits, toBits, ofBits}
+use lib.Ieee.{binary64, toBits, ofBits}
 use borrow.Author.Tests.{le-leb, lt-leb}
 use Rattle.sheet.specs.Sheet.{signed}
-use Rattle.sheet.specs.Work.{capped, cappedWhole}
+use Rattle.sheet.specs.Work.{cappedWhole}
 use Rattle.sheet.proofs.Range.{plus-fits, plus-back, minus-fits, minus-back}
 use Rattle.sheet.proofs.Sign.{only-nan, no-nan, from-pattern, capped-small}
 use Rattle.sheet.proofs.nearest.Statement.{statement}

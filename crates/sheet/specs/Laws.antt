@@ -9,11 +9,11 @@ use native.Mathlib.Omega.{arith}
 use lib.IntN.{ℤ, pos, negsuc}
 use lib.Dec.{T, leb, ltb, eqb, ltb→lt, lt→ltb}
 use lib.Pow.{pow-add, pow-pos}
-use lib.Ieee.{fin, binary64, up, down, round, fits, le}
+use lib.Ieee.{Float, nan, inf, fin, binary64, up, down, round, fits, le}
 use lib.Ieee.Fits.{down-pos, and-l, and-r}
 use lib.Ieee.Positive.{le→cross, cross→le, above-of-le}
 use borrow.Author.Tests.{leb-true, leb-false}
-use Rattle.sheet.specs.Sheet.{float, near, signed}
+use Rattle.sheet.specs.Sheet.{float, between, near, signed}
 
 -- k - 1/2 ≤ m * 2 ^ e < k + 1/2, with every denominator multiplied out
 pub record Nearest (m : ℕ) (e : ℤ) (k : ℕ) : Type 0 where
@@ -43,6 +43,14 @@ half-away s k = ap (λ (n : ℕ). signed s n) (near-only (2 * k + 1) (negsuc 0) 
 -- a whole number is its own nearest
 pub whole-stays : (k : ℕ) → near k (pos 0) ≡ k
 whole-stays k = near-only k (pos 0) k (record { low = omega arith; high = omega arith })
+
+-- ---- not-a-number is in no range, so it fails the test of the axis and that of the value
+
+pub nan-fails : (lo hi : Float) → between lo nan hi ≡ false
+unfolding le
+nan-fails nan hi = refl
+nan-fails (inf s) hi = refl
+nan-fails (fin s m e) hi = refl
 
 -- ---- 0.001: the float nearest to it is the least float that is not below it, so a float is from that float up exactly if its value is 1 / 1000 or more
 

@@ -90,8 +90,8 @@ fn within(lo: f64, x: f64, hi: f64) -> bool
 fn distance_steps(axis: Axis, mm: f64) -> Converted
     ensures { λ r. ⌜ r ≡ distanceSteps axis mm ⌝ }
 {
-    let exact = mm / axis.lead * axis.steps * axis.gear;
-    whole_steps(nearest(exact))
+    let steps = mm / axis.lead * axis.steps * axis.gear;
+    whole_steps(nearest(steps))
 }
 
 // The formula of a speed, rounded to whole steps per second from 30 to 10,000, else 203.

@@ -1,0 +1,4 @@
+pub mod Sheet
+pub mod Work
+pub mod Laws
+pub mod Examples

@@ -1,0 +1,47 @@
+"""How the cases for `walk` are written down.
+
+Nothing here runs a board: replies are written by hand, and pulses by the paper's formula.
+`lines` ends each line with a carriage return; `R(text)` is one `R` line per reply.
+"""
+CASES = []
+
+
+def case(name, why, given, printed, end="0 0 0"):
+    """`printed` is what stands between the first line and the last."""
+    CASES.append((name, why, given, "\n".join(["walk"] + printed + ["E " + end]) + "\n"))
+
+
+def lines(*texts):
+    return b"".join(t.encode("latin-1") + b"\r" for t in texts)
+
+
+def R(*replies):
+    return ["R " + r for r in replies]
+
+
+def P(d, speed):
+    """The pulses of one phase: after pulse k of n an axis has made (2k|d| + n) div 2n steps."""
+    n = max(abs(v) for v in d)
+    printed = []
+    for k in range(1, n + 1):
+        signs = ""
+        for v in d:
+            step = (2 * k * abs(v) + n) // (2 * n) - (2 * (k - 1) * abs(v) + n) // (2 * n)
+            signs += "." if step == 0 else "+" if v > 0 else "-"
+        printed.append("P %s %d" % (signs, speed))
+    return printed
+
+
+def all_reply(reply, *texts):
+    """Lines that all get the same reply."""
+    return lines(*texts), R(*[reply] * len(texts))
+
+
+def store(*records):
+    """A program sent for storing, from `@0i` to `9`, and the replies if all are accepted."""
+    return lines("@0i", *records, "9"), R(*["0"] * (len(records) + 2))
+
+
+def refused_at_9(*records):
+    """The same, with G at `9`."""
+    return lines("@0i", *records, "9"), R(*["0"] * (len(records) + 1), "G")

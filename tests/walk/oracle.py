@@ -1,0 +1,296 @@
+#!/usr/bin/env python3
+"""A slow third opinion on `walk`: programs are lists of records and runs are generators.
+
+No state machine, no bytes of a store and no place kept between calls, so that a slip in one of
+those is not made here as well. Reads standard input, writes standard output.
+"""
+import re
+import sys
+
+LOW, HIGH, LIMIT = -8388608, 8388607, 100000
+DIRECT = re.compile(rb"@0(?:([AaMmSsnNzPbBik])( ?-?\d{1,8}(?:,-?\d{1,8})*)?|(-?\d{1,8}(?:,-?\d{1,8})*))\Z")
+STORED = re.compile(rb"(?:(9)|([0mnz3512])( ?-?\d{1,8}(?:,-?\d{1,8})*)?)\Z")
+PAIRS = {1: 1, 3: 2, 7: 4}
+
+
+class Refused(Exception):
+    pass
+
+
+def refuse(wrong, reply):
+    if wrong:
+        raise Refused(reply)
+
+
+def numbers(text):
+    return [int(v) for v in text.split(b",")] if text else []
+
+
+def within(v, low, high):
+    return low <= v <= high
+
+
+class Board:
+    def __init__(self, program=(), program_axes=0):
+        self.axes, self.three = 0, False
+        self.at, self.origin = [0, 0, 0], [0, 0, 0]
+        self.line = b""
+        self.storing = None
+        self.program, self.program_axes = list(program), program_axes
+        self.job = None      # a generator while something runs
+        self.waiting = False
+
+    # Movement: one list of distances and a speed for each phase.
+    def phases(self, absolute, v, axes):
+        count = {1: 1, 3: 2, 7: 3}[axes]
+        base = self.origin if absolute else self.at
+        goal = [base[a] + v[2 * a] if a < count else self.at[a] for a in range(3)]
+        d = [goal[a] - self.at[a] for a in range(3)]
+        if self.three:
+            phases = [(d, v[1])]
+        else:
+            longest = v[3] if axes != 1 and abs(d[1]) > abs(d[0]) else v[1]
+            phases = [([d[0], d[1], 0], longest)]
+            if axes == 7:
+                phases += [([0, 0, d[2]], v[5])] + ([] if absolute else [([0, 0, v[6]], v[7])])
+        place = list(self.at)
+        for distances, _ in phases:
+            place = [p + q for p, q in zip(place, distances)]
+            refuse(not all(within(p, LOW, HIGH) for p in place), "9")
+        return [(distances, speed) for distances, speed in phases if any(distances)]
+
+    def pulses(self, phases):
+        for d, speed in phases:
+            n = max(map(abs, d))
+            start = list(self.at)
+            for k in range(1, n + 1):
+                before = list(self.at)
+                for a in range(3):
+                    made = (2 * k * abs(d[a]) + n) // (2 * n)
+                    self.at[a] = start[a] + (made if d[a] > 0 else -made)
+                step = "".join("-.+"[self.at[a] - before[a] + 1] for a in range(3))
+                yield "P %s %d" % (step, speed)
+
+    def movement(self, phases):
+        yield from self.pulses(phases)
+        yield "R 0"
+
+    # A program: each yield is one clock call; a yield of WAIT is none and gets the byte.
+    def run(self):
+        place, loops = 0, []
+        while place < len(self.program):
+            code, v = self.program[place]
+            step = 1
+            if code in "0m":
+                try:
+                    phases = self.phases(code == "m", v, self.program_axes)
+                except Refused:
+                    yield "R 9"
+                    return
+                yield from self.pulses(phases) if phases else [None]
+            elif code == "5":
+                yield from [None] * max(1, v[0])
+            elif code == "1":
+                yield "R " + chr(v[0])
+            elif code == "2":
+                yield None
+                byte = yield self
+                step = v[1] if byte == v[0] else 1
+            else:
+                step = self.plain(code, v, place, loops)
+                yield None
+            place += step
+        yield "R 0"
+
+    def plain(self, code, v, place, loops):
+        """Runs n, z, a jump or a loop, and says how far to go; open loops are [place, backs made]."""
+        if code == "n":
+            self.set_origin(v[0])
+        elif code == "z":
+            self.three = v[0] == 1
+        elif v[0] == 0:
+            return v[1]
+        else:
+            if not loops or loops[-1][0] != place:
+                loops.append([place, 0])
+            if loops[-1][1] < v[0]:
+                loops[-1][1] += 1
+                return v[1]
+            loops.pop()
+        return 1
+
+    def set_origin(self, mask):
+        for a in range(3):
+            if mask & 1 << a:
+                self.origin[a] = self.at[a]
+
+    # Lines.
+    def receive(self, byte):
+        if byte == 254:
+            kept = ([], 0) if self.storing is not None else (self.program, self.program_axes)
+            self.__init__(*kept)
+        elif byte == 255:
+            if self.job:
+                self.job, self.waiting = None, False
+                return "F"
+        elif byte == 253:
+            assert not self.job or self.waiting
+        elif self.waiting:
+            self.waiting = False
+            self.advance(byte)
+        elif byte == 13:
+            line, self.line = self.line, b""
+            try:
+                refuse(len(line) > 80, "5")
+                return self.direct(line) if self.storing is None else self.stored(line)
+            except Refused as refused:
+                return refused.args[0]
+        else:
+            self.line += bytes([byte])
+        return ""
+
+    def right(self, code, v, axes):
+        """The tests 7, 3, 1, D of a movement, n, z or another record."""
+        count = {"n": 1, "z": 1, "3": 2, "5": 1, "1": 1, "2": 2}.get(code, 2 * PAIRS[axes])
+        refuse(len(v) != count, "7")
+        if code == "n":
+            refuse(v[0] not in [m for m in range(1, 8) if m | axes == axes], "3")
+        elif code in "0m":
+            refuse(any(not within(d, LOW, HIGH) for d in v[0::2]), "1")
+            refuse(code == "m" and axes == 7 and v[6] != 0, "1")
+            refuse(any(not within(s, 30, 10000) for s in v[1::2]), "D")
+        elif code == "3":
+            refuse(not within(v[0], 0, 32767) or not within(v[1], -32768, 32767 if v[0] == 0 else -1), "1")
+        else:
+            low, high = {"z": (0, 1), "5": (0, 65535)}.get(code, (33, 126))
+            refuse(not within(v[0], low, high), "1")
+            refuse(code == "2" and not within(v[1], -32768, 32767), "1")
+
+    def stored(self, line):
+        shape = STORED.match(line)
+        refuse(not shape, "5")
+        if shape[1]:
+            self.program, self.storing = self.storing, None
+            if not sound(self.program):
+                self.program, self.program_axes = [], 0
+                raise Refused("G")
+            return "0"
+        code, v = shape[2].decode(), numbers(shape[3])
+        self.right(code, v, self.program_axes)
+        used = sum(4 + 4 * len(w) for _, w in self.storing)
+        refuse(len(self.storing) == 1000 or used + 4 + 4 * len(v) > 16384, "6")
+        self.storing.append((code, v))
+        return "0"
+
+    def direct(self, line):
+        shape = DIRECT.match(line)
+        refuse(not shape, "5")
+        letter = (shape[1] or b"").decode()
+        letter = letter.upper() if letter in "ams" else letter
+        v = numbers(shape[2] or shape[3])
+        refuse(letter and letter in "AMnNziS" and not self.axes, "4")
+        if letter and letter in "AMnNz":
+            self.right({"A": "0", "M": "m", "N": "n"}.get(letter, letter), v, self.axes)
+        else:
+            refuse(len(v) != {"": 1, "b": 1, "B": 2}.get(letter, 0), "7")
+        if letter and letter in "AM":
+            phases = self.phases(letter == "M", v, self.axes)
+            if phases:
+                self.job = self.movement(phases)
+            return "" if phases else "0"
+        return getattr(self, "line_" + (letter or "axes"))(*v)
+
+    def line_axes(self, value):
+        refuse(value not in (1, 3, 7), "3")
+        self.axes, self.three, self.at, self.origin = value, False, [0, 0, 0], [0, 0, 0]
+        return "0"
+
+    def line_n(self, mask):
+        self.set_origin(mask)
+        return "0"
+
+    def line_N(self, mask):
+        for a in range(3):
+            if mask & 1 << a:
+                self.at[a] = self.origin[a] = 0
+        return "0"
+
+    def line_z(self, value):
+        self.three = value == 1
+        return "0"
+
+    def line_P(self):
+        return "0" + "".join("%06X" % (p % 2 ** 24) for p in self.at)
+
+    def line_b(self, port):
+        refuse(not within(port, 0, 3), "1")
+        return "000"
+
+    def line_B(self, port, value):
+        refuse(port != 0 or not within(value, 0, 255), "1")
+        return "0"
+
+    def line_i(self):
+        self.program, self.program_axes, self.storing = [], self.axes, []
+        return "0"
+
+    def line_k(self):
+        self.program, self.program_axes = [], 0
+        return "0"
+
+    def line_S(self):
+        refuse(not self.program, "8")
+        refuse(self.axes != self.program_axes, "G")
+        self.job = self.run()
+        return ""
+
+    # The clock.
+    def advance(self, byte=None):
+        """Takes the generator to its next answer, which is kept; a wait keeps none."""
+        try:
+            self.answer = self.job.send(byte)
+            self.waiting = self.answer is self
+        except StopIteration:
+            self.job = None
+
+
+def sound(program):
+    """The check at 9, place by place with sets of ranges."""
+    ranges, ways = [], []
+    for place, (code, v) in enumerate(program):
+        if code == "3" and v[0] > 0:
+            ranges.append(set(range(place + v[1], place + 1)))
+        elif code in "32":
+            ways.append((place, place + v[1]))
+    holding = lambda p: [i for i, r in enumerate(ranges) if p in r]
+    return (all(within(t, 0, len(program)) for _, t in ways)
+            and all(min(r) >= 0 for r in ranges)
+            and all(r <= s or s <= r or not r & s for r in ranges for s in ranges)
+            and all(len(holding(p)) <= 7 for p in range(len(program)))
+            and all(holding(p) == holding(t) for p, t in ways))
+
+
+def main():
+    board, out = Board(), ["walk"]
+    for byte in sys.stdin.buffer.read():
+        had = board.job
+        reply = board.receive(byte)
+        if reply:
+            out.append("R " + reply)
+        if board.job and board.job is not had:
+            board.advance()
+        calls = 0
+        while board.job and not board.waiting and calls < LIMIT:
+            calls += 1
+            if board.answer:
+                out.append(board.answer)
+            kept = list(board.at)
+            board.advance()
+        if board.job and not board.waiting:
+            out.append("L 100000")
+            board.at = kept
+            break
+    print("\n".join(out), "\nE %d %d %d" % tuple(board.at), sep="")
+
+
+main()

@@ -1,0 +1,177 @@
+//! Scripts for `calls`: COUNT scenes with stops between any two calls and what a host does.
+
+use crate::damage;
+use crate::gen_walk;
+use crate::program::{self, Span, Taste};
+use crate::rng::Rng;
+use std::io::Write;
+
+pub fn script(rng: &mut Rng, count: u64, out: &mut Vec<u8>) {
+    let mut script = Script { rng, out, altered: false, hurt_movement: false, stored: (0, 0, 0) };
+    for _ in 0..count {
+        script.scene();
+    }
+}
+
+pub struct Script<'a> {
+    pub rng: &'a mut Rng,
+    out: &'a mut Vec<u8>,
+    /// Whether the host has set fields that no later call would mend.
+    pub altered: bool,
+    pub hurt_movement: bool,
+    /// Used bytes, records and axes of the program sent last, if all of it was accepted.
+    pub stored: (usize, usize, u8),
+}
+
+impl Script<'_> {
+    pub fn say(&mut self, text: String) {
+        let _ = writeln!(self.out, "{text}");
+    }
+
+    pub fn byte(&mut self, v: u8) {
+        self.say(format!("B {v}"));
+    }
+
+    pub fn line(&mut self, text: &str) {
+        for c in text.chars() {
+            self.byte(c as u8);
+        }
+        self.byte(13);
+    }
+
+    /// A scene starts from a board that is set up afresh and ends with its state.
+    fn scene(&mut self) {
+        let axes = self.rng.pick(&[1, 3, 7, 7]);
+        if self.altered {
+            self.repair();
+        }
+        if self.rng.once_in(3) {
+            self.byte(254);
+        } else {
+            self.byte(255);
+        }
+        self.line("");
+        self.line(&format!("@0{axes}"));
+        if self.rng.once_in(3) {
+            let z = self.rng.below(2);
+            self.line(&format!("@0z{z}"));
+        }
+        if self.rng.once_in(3) {
+            self.move_directly(axes);
+        } else {
+            self.store(axes);
+            self.line("@0S");
+        }
+        self.run(axes);
+        self.say("S".to_string());
+        if self.rng.once_in(3) {
+            self.say("L".to_string());
+        }
+    }
+
+    fn span(&mut self) -> Span {
+        Span { reach: if self.rng.once_in(30) { 400 } else { 7 }, edges: 60 }
+    }
+
+    fn move_directly(&mut self, axes: u8) {
+        let absolute = self.rng.once_in(3);
+        let span = self.span();
+        let numbers = program::movement(self.rng, axes, absolute, span);
+        self.line(&format!("@0{}{numbers}", if absolute { 'M' } else { 'A' }));
+    }
+
+    fn store(&mut self, axes: u8) {
+        if self.rng.once_in(8) {
+            return;
+        }
+        let span = self.span();
+        let taste = Taste { axes, span, waits: true, long: false };
+        let mut lines = program::sound(self.rng, &taste);
+        if self.rng.once_in(8) {
+            let at = self.rng.below(lines.len() as u64) as usize;
+            lines[at] = damage::hurt(self.rng, &lines[at]);
+        }
+        let used = lines.iter().map(|l| 8 + 4 * l.bytes().filter(|&b| b == b',').count()).sum();
+        self.stored = (used, lines.len(), axes);
+        self.line("@0i");
+        let hurt = self.rng.once_in(10);
+        for text in lines {
+            self.line(&text);
+            if hurt && self.rng.once_in(3) {
+                self.hurt();
+            }
+        }
+        self.line("9");
+    }
+
+    /// Clock calls with anything between them, then enough calls to come to an end.
+    fn run(&mut self, axes: u8) {
+        let calm = self.rng.once_in(2);
+        for _ in 0..self.rng.between(1, 14) {
+            let calls = if self.rng.once_in(15) { 40 } else { self.rng.below(6) };
+            self.say(format!("C {calls}"));
+            match self.rng.below(14) {
+                0..=2 => self.stop(axes),
+                3..=6 => {
+                    let answer = self.rng.between(33, 41) as u8;
+                    self.byte(answer);
+                }
+                7 if !calm => self.hurt(),
+                8 if !calm => self.alter(),
+                9 if !calm => self.lend(),
+                10 => self.control(axes),
+                11 => self.say("S".to_string()),
+                12 => self.line("@0S"),
+                _ => {}
+            }
+        }
+        let calls = self.rng.pick(&[1, 3, 20]);
+        self.say(format!("C {calls}"));
+    }
+
+    /// A stop, lines while it stands, and mostly a restart.
+    fn stop(&mut self, axes: u8) {
+        self.byte(253);
+        for _ in 0..self.rng.below(3) {
+            match self.rng.below(8) {
+                0 => self.say(format!("C {}", 1)),
+                1 => self.byte(253),
+                2 => self.line("@0P"),
+                3 => self.any_line(axes),
+                4 => self.say("S".to_string()),
+                5 => self.byte(b'@'),
+                6 => self.byte(13),
+                _ => self.any_line(axes),
+            }
+        }
+        if !self.rng.once_in(6) {
+            let s = self.rng.pick(&["@0S", "@0s", "@0S", "@0S1"]);
+            self.line(s);
+        }
+    }
+
+    fn any_line(&mut self, axes: u8) {
+        let text = gen_walk::direct(self.rng, axes);
+        let text = if self.rng.once_in(6) { damage::hurt(self.rng, &text) } else { text };
+        self.line(&text);
+    }
+
+    /// A control code, a line or a lost byte in the middle of a run.
+    fn control(&mut self, axes: u8) {
+        match self.rng.below(5) {
+            0 => self.byte(255),
+            1 => self.byte(254),
+            2 => self.any_line(axes),
+            3 => {
+                let ports: Vec<u64> = (0..4).map(|_| self.rng.below(256)).collect();
+                self.say(format!("I {} {} {} {}", ports[0], ports[1], ports[2], ports[3]));
+                let port = self.rng.below(4);
+                self.line(&format!("@0b{port}"));
+            }
+            _ => {
+                let v = self.rng.below(253) as u8;
+                self.byte(v);
+            }
+        }
+    }
+}

@@ -1,0 +1,155 @@
+//! What a host does in a script: stores and states altered, short buffers, wrong lines.
+
+use crate::gen_calls::Script;
+
+const RESTING_POINTS: [&str; 12] = [
+    "startx", "starty", "startz", "firstx", "firsty", "firstz", "secondx", "secondy", "secondz", "thirdx",
+    "thirdy", "thirdz",
+];
+
+impl Script<'_> {
+    /// Sets every field so that no call is refused; what isn't there is a wrong line.
+    pub fn repair(&mut self) {
+        self.altered = false;
+        for name in ["x", "y", "z", "ox", "oy", "oz", "depth", "len", "over", "standing", "place"] {
+            self.say(format!("H {name} 0"));
+        }
+        self.say("H axes 7".to_string());
+        self.say("K 0 0 0".to_string());
+        for name in RESTING_POINTS.into_iter().chain(["phase", "made"]) {
+            self.say(format!("H {name} 0"));
+        }
+        if self.hurt_movement {
+            self.hurt_movement = false;
+            for name in ["speed1", "speed2", "speed3"] {
+                self.say(format!("H {name} 500"));
+            }
+        }
+    }
+
+    /// The host writes to the store or to its fields.
+    pub fn hurt(&mut self) {
+        self.altered = true;
+        match self.rng.below(7) {
+            0..=2 => {
+                let at = self.rng.pick(&[0, 1, 2, 3, 4, 8, 12, 16, 20, 24, 36, 40, 44])
+                    + self.rng.pick(&[0, 0, 1, 2, 3]);
+                let v = self.rng.pick(&[0, 1, 2, 8, 0xD7, 0x2B, b'3', b'0', b'5', b'z', 255]);
+                self.say(format!("W {at} {v}"));
+            }
+            3 => {
+                let (used, records) = (4 * self.rng.below(30), self.rng.below(9));
+                let axes = self.rng.pick(&[0, 1, 3, 7, 7, 2]);
+                self.say(format!("K {used} {records} {axes}"));
+            }
+            4 => self.bring_back(),
+            5 => {
+                let used = self.rng.pick(&[16_384, 16_385, 20_000, 16_380, 0, 12, 16_372, 65_535]);
+                let records = self.rng.pick(&[0, 1, 2, 999, 1_000, 1_001]);
+                let axes = self.rng.pick(&[0, 1, 3, 7]);
+                self.say(format!("K {used} {records} {axes}"));
+            }
+            _ => self.wrong_line(),
+        }
+        if self.rng.once_in(3) {
+            self.say("L".to_string());
+        }
+    }
+
+    /// The fields of the program sent last, or nearly those: an emptied store's bytes are still there.
+    fn bring_back(&mut self) {
+        let (used, records, axes) = self.stored;
+        let used = used as i64 + self.rng.pick(&[0, 0, 0, 1, -1, 4, -8]);
+        let records = records as i64 + self.rng.pick(&[0, 0, 0, 1, -1]);
+        self.say(format!("K {} {} {axes}", used.max(0), records.max(0)));
+    }
+
+    fn wrong_line(&mut self) {
+        let text = self.rng.pick(&[
+            "B 256",
+            "B",
+            "B -1",
+            "Q",
+            "H what 1",
+            "H speed4 30",
+            "W 16384 0",
+            "C",
+            "S 1",
+            "K 1 1",
+            "I 1 2 3",
+            "B 1 2",
+            "H x",
+            "H over 2",
+            "H x -8388609",
+            "H x 4286578688",
+            "M -1",
+            "L 1",
+            "",
+        ]);
+        self.say(text.to_string());
+    }
+
+    /// The host alters the state, and mostly mends it after a call.
+    pub fn alter(&mut self) {
+        self.altered = true;
+        let (name, values): (&str, &[i64]) = match self.rng.below(12) {
+            0 => (
+                self.rng.pick(&["x", "y", "z"]),
+                &[0, 1, 3, -2, 8_388_607, 8_388_608, -8_388_608, 4_286_578_687],
+            ),
+            1 => (
+                self.rng.pick(&["ox", "oy", "oz"]),
+                &[0, 1, -5, 8_388_607, 8_388_608, 4_000_000_000, -8_388_608],
+            ),
+            2 => ("axes", &[0, 1, 3, 7, 2, 4, 8, 255]),
+            3 => ("depth", &[0, 1, 2, 6, 7, 8, 255]),
+            4 => ("len", &[0, 1, 2, 79, 80, 81, 255]),
+            5 => (self.rng.pick(&["over", "standing", "standing"]), &[0, 1]),
+            6 => ("place", &[0, 1, 2, 3, 5, 8, 1_000, 1_001, 65_535]),
+            7 => ("phase", &[0, 1, 2, 3, 255]),
+            8 => ("made", &[0, 1, 2, 3, 7, 8_388_607, 4_294_967_295]),
+            9 => (self.rng.pick(&["speed1", "speed2", "speed3"]), &[29, 30, 10_000, 10_001, 0, 65_535]),
+            _ => (
+                self.rng.pick(&RESTING_POINTS),
+                &[0, 1, -1, 4, -7, 8_388_607, 8_388_608, -8_388_608, 4_286_578_687],
+            ),
+        };
+        let value = self.rng.pick(values);
+        self.hurt_movement |= name.starts_with("speed");
+        self.say(format!("H {name} {value}"));
+        self.say("C 1".to_string());
+        if self.rng.once_in(3) {
+            self.line("@0P");
+        }
+        if self.rng.once_in(3) {
+            self.say("L".to_string());
+        }
+        self.mend(name);
+    }
+
+    fn mend(&mut self, name: &str) {
+        let value = match name {
+            "axes" => 7,
+            "depth" | "len" | "over" | "phase" | "made" => 0,
+            "speed1" | "speed2" | "speed3" => 500,
+            "place" | "standing" => return,
+            _ => 0,
+        };
+        if !self.rng.once_in(4) {
+            self.say(format!("H {name} {value}"));
+        }
+    }
+
+    /// A short or long buffer for the next call.
+    pub fn lend(&mut self) {
+        let text =
+            self.rng.pick(&["M 0", "M 16383", "M 16384", "M 16385", "R 0", "R 31", "R 32", "R 33", "R 1"]);
+        self.say(text.to_string());
+        match self.rng.below(4) {
+            0 => self.say("C 2".to_string()),
+            1 => self.say("L".to_string()),
+            2 => self.byte(253),
+            _ => self.line("@0P"),
+        }
+    }
+}

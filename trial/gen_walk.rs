@@ -1,0 +1,184 @@
+//! Inputs for `walk`: COUNT scenes of lines, programs and control codes.
+
+use crate::damage;
+use crate::program::{self, Span, Taste};
+use crate::rng::Rng;
+
+pub fn stream(rng: &mut Rng, count: u64, out: &mut Vec<u8>) {
+    let mut axes = 0;
+    for _ in 0..count {
+        scene(rng, &mut axes, out);
+    }
+}
+
+fn scene(rng: &mut Rng, axes: &mut u8, out: &mut Vec<u8>) {
+    if rng.once_in(4) {
+        out.extend_from_slice(b"\xff\r9\r"); // ends whatever waits or is being stored
+        *axes = 0;
+    }
+    if *axes == 0 {
+        *axes = rng.pick(&[1, 3, 7, 7]);
+        line(rng, out, &format!("@0{axes}"));
+    }
+    match rng.below(12) {
+        0..=4 => {
+            for _ in 0..rng.between(1, 6) {
+                let text = direct(rng, *axes);
+                line(rng, out, &text);
+            }
+        }
+        5..=9 => stored(rng, *axes, out),
+        10 if rng.once_in(2) => long_line(rng, out),
+        10 => edge(rng, *axes, out),
+        _ => {
+            let code = rng.pick(&[253, 254, 255, 255]);
+            out.push(code);
+            *axes = if code == 254 { 0 } else { *axes };
+        }
+    }
+}
+
+/// A line with its return; now and then damaged, with a control code inside, or with CRLF.
+fn line(rng: &mut Rng, out: &mut Vec<u8>, text: &str) {
+    let start = out.len();
+    let text = if rng.once_in(20) { damage::hurt(rng, text) } else { text.to_string() };
+    out.extend(text.chars().map(|c| c as u8));
+    out.push(13);
+    if rng.once_in(60) {
+        out.push(10);
+    }
+    if rng.once_in(40) {
+        let at = rng.between(start as i64, out.len() as i64) as usize;
+        out.insert(at, rng.pick(&[253, 255, 255, 254, 0, 200, 252]));
+    }
+}
+
+/// A line outside storing, mostly right.
+pub fn direct(rng: &mut Rng, axes: u8) -> String {
+    let gap = if rng.once_in(4) { " " } else { "" };
+    let span = Span { reach: if rng.once_in(30) { 2_000 } else { 9 }, edges: 20_000 };
+    match rng.below(20) {
+        0..=4 => format!("@0{}{gap}{}", rng.pick(&['A', 'a']), program::movement(rng, axes, false, span)),
+        5..=7 => format!("@0{}{gap}{}", rng.pick(&['M', 'm']), program::movement(rng, axes, true, span)),
+        8 => format!("@0n{gap}{}", rng.between(0, 8)),
+        9 => format!("@0N{gap}{}", rng.between(0, 8)),
+        10 => format!("@0z{gap}{}", rng.below(2)),
+        11..=13 => "@0P".to_string(),
+        14 => format!("@0b{gap}{}", rng.between(-1, 4)),
+        15 => format!("@0B{gap}{},{}", rng.below(2), rng.between(-1, 256)),
+        16 => format!("@0{}", rng.pick(&["S", "s", "S", "k"])),
+        17 => format!("@0{}", rng.between(-1, 9)),
+        18 => format!("@0{}{gap}{}", rng.pick(&["A", "M"]), program::movement(rng, 1, false, span)),
+        _ => odd(rng).to_string(),
+    }
+}
+
+fn odd(rng: &mut Rng) -> &'static str {
+    rng.pick(&[
+        "",
+        "@",
+        "@0",
+        "@1",
+        "@0 7",
+        "@007",
+        "@000000007",
+        "@0000000007",
+        "@07 ",
+        "@01,3",
+        "@0-1",
+        "@0A",
+        "@0A ",
+        "@0S1",
+        "@0i2",
+        "@0P5",
+        "@0P ",
+        "@0R7",
+        "@0a-0,30,0,30",
+        "@0A1,30,1",
+        "@0A8388608,600",
+        "@0A8388608,5",
+        "@0M 1,29",
+        "@0A1,10001",
+        "@0z2",
+        "@0z",
+        "@0n",
+        "@0N 1,1",
+        "@0B0",
+        "@0b",
+        "@0k1",
+        "0 1,30",
+        "9",
+        "@0A1,2,3,4,5,6,7,8,9,10,11,12",
+        "@0A 123456789,30",
+        "@0A--1,30",
+        "@0A1,,30",
+        "@0I",
+        "@0p",
+        "@0Z1",
+        "@0A 5,600,7,700,3,800,-3,900",
+        "@0M 5,600,7,700,3,800,1,900",
+        "@0M 5,600,7,700,3,800,0,29",
+    ])
+}
+
+/// Stores a program and starts it once or twice, feeding its waits.
+fn stored(rng: &mut Rng, axes: u8, out: &mut Vec<u8>) {
+    let span = Span { reach: if rng.once_in(25) { 300 } else { 6 }, edges: 20_000 };
+    let taste = Taste { axes, span, waits: true, long: true };
+    let mut lines = program::sound(rng, &taste);
+    if rng.once_in(4) {
+        let at = rng.below(lines.len() as u64) as usize;
+        lines[at] = damage::hurt(rng, &lines[at]);
+    }
+    line(rng, out, "@0i");
+    for text in &lines {
+        line(rng, out, text);
+    }
+    if rng.once_in(30) {
+        out.push(rng.pick(&[254, 255, 253]));
+    }
+    line(rng, out, "9");
+    if rng.once_in(3) {
+        let z = rng.pick(&["@0z1", "@0z0", "@0P", "@0n1"]);
+        line(rng, out, z);
+    }
+    for _ in 0..rng.between(1, 2) {
+        line(rng, out, "@0S");
+        for _ in 0..rng.below(12) {
+            let byte = rng.between(33, 41) as u8;
+            out.push(byte);
+        }
+        out.push(if rng.once_in(2) { 255 } else { 13 });
+    }
+}
+
+/// Resting points just outside 24 bits, met without a long run; so these lines are never damaged.
+fn edge(rng: &mut Rng, axes: u8, out: &mut Vec<u8>) {
+    let tail = [",600", ",600,0,600", ",600,0,600,0,600,0,600"][axes.count_ones() as usize - 1];
+    let mut lines = vec![String::new(), format!("@0N{axes}"), format!("@0A1{tail}")];
+    match rng.below(3) {
+        0 => lines.push(format!("@0A8388607{tail}")),
+        1 => lines.extend(["@0n1".to_string(), format!("@0M8388607{tail}"), format!("@0M1{tail}")]),
+        _ => lines.extend([format!("@0A-2{tail}"), format!("@0A-8388608{tail}")]),
+    }
+    if axes == 7 {
+        let lift = rng.pick(&["1,30,8388607", "-1,30,-8388608", "2,600,8388606"]);
+        lines.push(rng.pick(&["@0z0", "@0z1", "@0P"]).to_string());
+        lines.push(format!("@0A0,30,0,40,{lift},50"));
+    }
+    for text in lines {
+        out.extend_from_slice(text.as_bytes());
+        out.push(13);
+    }
+}
+
+/// Lines of about 80 bytes.
+fn long_line(rng: &mut Rng, out: &mut Vec<u8>) {
+    let len = rng.pick(&[78, 79, 80, 81, 82, 100, 300]);
+    let head: &[u8] = rng.pick(&[b"@0A0", b"@0P0", b"@0k,"]);
+    out.extend_from_slice(head);
+    for i in head.len()..len {
+        out.push(if i % 2 == 0 { b',' } else { b'1' });
+    }
+    out.push(13);
+}

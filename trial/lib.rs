@@ -1,0 +1,13 @@
+//! A plain board in ordinary Rust, written from the paper: the second opinion on the proved one.
+#![allow(unexpected_cfgs)] // the planted slips: see README.md
+
+pub mod board;
+pub mod check;
+pub mod line;
+pub mod lister;
+pub mod motion;
+pub mod number;
+pub mod receive;
+pub mod record;
+pub mod run;
+pub mod sheet;

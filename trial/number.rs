@@ -1,0 +1,43 @@
+//! Whole numbers: the 24-bit range, and text in decimal and hexadecimal.
+
+pub const LOW: i32 = -8_388_608;
+pub const HIGH: i32 = 8_388_607;
+
+#[inline]
+pub fn in_24_bits(v: i32) -> bool {
+    (LOW..=HIGH).contains(&v)
+}
+
+/// Whether all are in 24 bits: counted from `LOW`, none has a bit above them.
+#[inline]
+pub fn all_in_24_bits(values: &[i32]) -> bool {
+    values.iter().fold(0, |bits, &v| bits | v.wrapping_sub(LOW) as u32) >> 24 == 0
+}
+
+/// Appends the decimal digits of `v`, with a minus if it is negative.
+pub fn push_decimal(out: &mut Vec<u8>, v: i64) {
+    let mut digits = [0u8; 20];
+    let mut first = digits.len();
+    let mut left = v.unsigned_abs();
+    loop {
+        first -= 1;
+        digits[first] = b'0' + (left % 10) as u8;
+        left /= 10;
+        if left == 0 {
+            break;
+        }
+    }
+    if v < 0 {
+        out.push(b'-');
+    }
+    out.extend_from_slice(&digits[first..]);
+}
+
+/// Writes the low `text.len()` hexadecimal digits of `v`, in capitals.
+pub fn write_hexadecimal(text: &mut [u8], v: u32) {
+    let mut left = v;
+    for place in text.iter_mut().rev() {
+        *place = b"0123456789ABCDEF"[(left & 15) as usize];
+        left >>= 4;
+    }
+}

@@ -1,0 +1,205 @@
+//! `stop`: the stop trial. `stop emit SEED COUNT` writes a script for `calls`: each movement or
+//! program once unstopped and once with stops; `stop check` compares the two in what `calls` printed.
+
+mod program;
+mod rng;
+
+use program::{Span, Taste};
+use rng::Rng;
+use std::io::{self, Read, Write};
+use trial::board::{Board, Job};
+use trial::record::STORE;
+
+/// Answers followed of a run; one without end is compared as far as this.
+const FOLLOWED: u64 = 400;
+
+/// A board that is driven while the same calls are written as a script.
+struct Guide {
+    board: Board,
+    store: Vec<u8>,
+    out: Vec<u8>,
+}
+
+impl Guide {
+    fn byte(&mut self, v: u8) {
+        let _ = self.board.receive(v, [0; 4], &mut [0; 32], &mut self.store);
+        let _ = writeln!(self.out, "B {v}");
+    }
+
+    fn line(&mut self, text: &str) {
+        for c in text.chars() {
+            self.byte(c as u8);
+        }
+        self.byte(13);
+    }
+
+    fn clocks(&mut self, n: u32) {
+        for _ in 0..n {
+            let _ = self.board.clock(&self.store);
+        }
+        let _ = writeln!(self.out, "C {n}");
+    }
+
+    fn clock_to_end(&mut self) {
+        while self.board.running() {
+            self.clocks(1);
+        }
+    }
+
+    /// Brings the board to where the case starts, the same for both runs.
+    fn set_up(&mut self, case: &Case) {
+        self.byte(254);
+        self.line("@0k");
+        for line in &case.lines {
+            self.line(line);
+            self.clock_to_end();
+        }
+    }
+}
+
+/// The lines before it, the line that starts it, and what arrives at its waits.
+struct Case {
+    lines: Vec<String>,
+    start: String,
+    answers: Vec<u8>,
+}
+
+fn case(rng: &mut Rng) -> Case {
+    let axes = rng.pick(&[1, 3, 7, 7]);
+    let span = Span { reach: rng.pick(&[3, 9, 9, 40]), edges: 100 };
+    let mut lines =
+        vec![format!("@0{axes}"), format!("@0z{}", rng.below(2)), format!("@0B0,{}", rng.below(256))];
+    if rng.once_in(2) {
+        let near = Span { reach: 9, edges: u64::MAX };
+        lines.push(format!("@0A{}", program::movement(rng, axes, false, near)));
+        lines.push(format!("@0n{axes}"));
+    }
+    let answers = (0..16).map(|_| rng.between(33, 41) as u8).collect();
+    if rng.once_in(3) {
+        let absolute = rng.once_in(3);
+        let letter = if absolute { 'M' } else { 'A' };
+        return Case {
+            lines,
+            start: format!("@0{letter}{}", program::movement(rng, axes, absolute, span)),
+            answers,
+        };
+    }
+    let taste = Taste { axes, span, waits: true, long: false };
+    lines.push("@0i".to_string());
+    lines.extend(program::sound(rng, &taste));
+    lines.push("9".to_string());
+    Case { lines, start: "@0S".to_string(), answers }
+}
+
+/// Runs the case; `stops` is how rare a stop is, none if it is 0.
+fn run(guide: &mut Guide, case: &Case, rng: &mut Rng, stops: u64) {
+    guide.set_up(case);
+    guide.line(&case.start);
+    let mut waits = 0;
+    let mut followed = 0;
+    while followed < FOLLOWED && guide.board.job != Job::Idle {
+        if stops > 0 && rng.once_in(stops) {
+            stand(guide, rng);
+        }
+        if let Job::Wait(..) = guide.board.job {
+            guide.byte(case.answers[waits % case.answers.len()]);
+            waits += 1;
+        }
+        guide.clocks(1);
+        followed += 1;
+    }
+    let _ = guide.out.write_all(b"L\nS\n");
+    guide.byte(255);
+    let _ = guide.out.write_all(b"S\n");
+}
+
+/// A stop; if it holds: anything but break and reset, then a start that is accepted.
+fn stand(guide: &mut Guide, rng: &mut Rng) {
+    guide.byte(253);
+    if !guide.board.standing {
+        return;
+    }
+    for _ in 0..rng.below(4) {
+        match rng.below(8) {
+            0 => guide.byte(253),
+            1 => guide.clocks(1),
+            2 => guide.byte(rng.below(253) as u8),
+            3 => (0..90).for_each(|_| guide.byte(b'1')),
+            4 => guide.line(rng.pick(&["@0P", "@0b0", "@0S1", "@0b9", "5", ""])),
+            5 => guide.line(rng.pick(&["@07", "@0k", "@0i", "@0N1", "@0n1", "@0z1", "@0z0", "@0B0,9"])),
+            6 => guide.line(rng.pick(&["@0A5,600", "@0M1,600,2,700", "@0A1,30,1,30,1,30,1,30", "9"])),
+            _ => guide.clocks(3),
+        }
+    }
+    if guide.board.len > 0 || guide.board.over {
+        guide.byte(13);
+    }
+    if guide.board.standing {
+        guide.line("@0S");
+    }
+}
+
+fn emit(seed: u64, count: u64) -> io::Result<()> {
+    let mut rng = Rng::new(seed);
+    let mut guide = Guide { board: Board::fresh(), store: vec![0; STORE], out: Vec::new() };
+    for _ in 0..count {
+        let case = case(&mut rng);
+        run(&mut guide, &case, &mut rng, 0);
+        let stops = rng.pick(&[1, 2, 5, 20]);
+        run(&mut guide, &case, &mut rng, stops);
+        io::stdout().write_all(&guide.out)?;
+        guide.out.clear();
+    }
+    Ok(())
+}
+
+/// Pulses and sent characters of one run, its listing, and its state at the end, also after break.
+fn check() -> io::Result<()> {
+    let mut text = String::new();
+    io::stdin().lock().read_to_string(&mut text)?;
+    let mut runs: Vec<Vec<&str>> = vec![Vec::new()];
+    let mut states = 0;
+    for line in text.lines() {
+        let kept = line.starts_with("C Pulse") || line.starts_with("C Send") || line.starts_with(['L', 'S']);
+        if kept {
+            runs.last_mut().unwrap().push(line);
+        }
+        states += line.starts_with('S') as usize;
+        if line.starts_with('S') && states % 2 == 0 {
+            runs.push(Vec::new());
+        }
+    }
+    runs.pop();
+    let pairs: Vec<&[Vec<&str>]> = runs.chunks(2).collect();
+    let wrong = pairs.iter().position(|pair| pair.len() < 2 || pair[0] != pair[1]);
+    let answers: usize = runs.iter().map(Vec::len).sum();
+    println!("stop: {} runs twice, {} lines compared", pairs.len(), answers / 2);
+    if let Some(at) = wrong {
+        println!("stop: run {at} differs when stopped");
+        show(pairs[at]);
+        std::process::exit(1);
+    }
+    Ok(())
+}
+
+fn show(pair: &[Vec<&str>]) {
+    let empty = Vec::new();
+    let (a, b) = (&pair[0], pair.get(1).unwrap_or(&empty));
+    let at = (0..).find(|&i| a.get(i) != b.get(i)).unwrap_or(0);
+    println!("  answer {at}: unstopped {:?}, stopped {:?}", a.get(at), b.get(at));
+}
+
+fn main() -> io::Result<()> {
+    let arguments: Vec<String> = std::env::args().skip(1).collect();
+    match arguments.iter().map(String::as_str).collect::<Vec<_>>()[..] {
+        ["emit", seed, count] => match (seed.parse(), count.parse()) {
+            (Ok(seed), Ok(count)) => emit(seed, count),
+            _ => std::process::exit(2),
+        },
+        ["check"] => check(),
+        _ => {
+            eprintln!("usage: stop emit SEED COUNT | stop check");
+            std::process::exit(2)
+        }
+    }
+}

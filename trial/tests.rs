@@ -1,0 +1,103 @@
+//! Hand-worked cases from the paper's sentences, for the trial board alone.
+#![cfg(test)]
+
+mod program;
+mod rng;
+mod test_check;
+mod test_host;
+mod test_lines;
+mod test_movement;
+mod test_random;
+mod test_run;
+mod test_sheet;
+mod test_stop;
+
+use trial::board::{Answer, Board};
+use trial::record::STORE;
+
+/// A board with its store, driven by text.
+pub struct Bench {
+    pub board: Board,
+    pub store: Vec<u8>,
+    pub ports: [u8; 4],
+}
+
+impl Bench {
+    pub fn fresh() -> Bench {
+        Bench { board: Board::fresh(), store: vec![0; STORE], ports: [0; 4] }
+    }
+
+    pub fn with_axes(axes: u8) -> Bench {
+        let mut bench = Bench::fresh();
+        assert_eq!(bench.line(&format!("@0{axes}")), "0");
+        bench
+    }
+
+    /// A board with a stored program; the last reply is the one to `9`.
+    pub fn with_program(axes: u8, lines: &[&str]) -> (Bench, String) {
+        let mut bench = Bench::with_axes(axes);
+        assert_eq!(bench.line("@0i"), "0");
+        for line in lines {
+            assert_eq!(bench.line(line), "0", "{line}");
+        }
+        let last = bench.line("9");
+        (bench, last)
+    }
+
+    pub fn byte(&mut self, byte: u8) -> String {
+        let mut reply = [0; 32];
+        let len = self.board.receive(byte, self.ports, &mut reply, &mut self.store).unwrap();
+        reply[..len].iter().map(|&b| b as char).collect()
+    }
+
+    /// Sends a line with its return; all replies of its bytes together.
+    pub fn line(&mut self, text: &str) -> String {
+        text.bytes().chain([13]).map(|b| self.byte(b)).collect()
+    }
+
+    pub fn clock(&mut self) -> Answer {
+        self.board.clock(&self.store).unwrap()
+    }
+
+    pub fn clocks(&mut self, n: usize) {
+        for _ in 0..n {
+            self.clock();
+        }
+    }
+
+    /// The answers up to `Nothing`, short: signs for a pulse, `_` pause, `d` done, `!c` sent.
+    pub fn answers(&mut self) -> String {
+        let mut all = Vec::new();
+        while all.len() < 1_000 {
+            let answer = self.clock();
+            if answer == Answer::Nothing {
+                break;
+            }
+            all.push(short(answer));
+        }
+        all.join(" ")
+    }
+
+    pub fn listing(&self) -> Result<String, u8> {
+        let mut text = vec![0; 32_768];
+        let len = self.board.list(&self.store, &mut text)?;
+        Ok(text[..len].iter().map(|&b| b as char).collect())
+    }
+}
+
+pub fn short(answer: Answer) -> String {
+    match answer {
+        Answer::Pulse(p) => p.signs.map(|s| b"-.+"[(s + 1) as usize] as char).iter().collect(),
+        Answer::Pause => "_".to_string(),
+        Answer::Send(byte) => format!("!{}", byte as char),
+        Answer::Done => "d".to_string(),
+        Answer::Nothing => "nothing".to_string(),
+    }
+}
+
+pub fn speed(answer: Answer) -> u16 {
+    match answer {
+        Answer::Pulse(p) => p.speed,
+        _ => panic!("no pulse"),
+    }
+}

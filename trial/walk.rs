@@ -1,0 +1,108 @@
+//! `walk`: what a board does with standard input, as text, with a clock that runs after each byte.
+
+use std::io::{self, Read, Write};
+use trial::board::{Answer, Board};
+use trial::motion::Pulse;
+use trial::number::push_decimal;
+use trial::record::STORE;
+
+const LIMIT: u32 = 100_000;
+const PORTION: usize = 1 << 16;
+
+struct Walk {
+    board: Board,
+    store: Vec<u8>,
+    out: Vec<u8>,
+}
+
+impl Walk {
+    /// Takes one byte and lets the clock run. False: the run isn't over at the limit.
+    fn byte(&mut self, byte: u8) -> io::Result<bool> {
+        let mut reply = [0u8; 32];
+        let received = self.board.receive(byte, [0; 4], &mut reply, &mut self.store);
+        self.reply(&reply[..received.unwrap_or(0)]);
+        let calls = self.run()?;
+        if calls == LIMIT && self.board.running() {
+            self.out.extend_from_slice(b"L 100000\n");
+            return Ok(false);
+        }
+        self.flush_if_full()?;
+        Ok(true)
+    }
+
+    /// Clock calls until idle, storing, stopped or waiting, at most the limit; says how many.
+    fn run(&mut self) -> io::Result<u32> {
+        let mut calls = 0;
+        while calls < LIMIT && self.board.running() {
+            let Ok(answer) = self.board.clock(&self.store) else { break };
+            calls += 1;
+            match answer {
+                Answer::Pulse(pulse) => self.pulse(pulse),
+                Answer::Send(byte) => self.reply(&[byte]),
+                Answer::Pause | Answer::Done | Answer::Nothing => {}
+            }
+            self.flush_if_full()?;
+        }
+        Ok(calls)
+    }
+
+    fn reply(&mut self, reply: &[u8]) {
+        if !reply.is_empty() {
+            self.out.extend_from_slice(b"R ");
+            self.out.extend_from_slice(reply);
+            self.out.push(b'\n');
+        }
+    }
+
+    #[inline]
+    fn pulse(&mut self, pulse: Pulse) {
+        let sign = |s: i8| b"-.+"[(s + 1) as usize];
+        let [x, y, z] = pulse.signs;
+        self.out.extend_from_slice(&[b'P', b' ', sign(x), sign(y), sign(z), b' ']);
+        push_decimal(&mut self.out, pulse.speed as i64);
+        self.out.push(b'\n');
+    }
+
+    fn flush_if_full(&mut self) -> io::Result<()> {
+        if self.out.len() >= PORTION {
+            self.flush()?;
+        }
+        Ok(())
+    }
+
+    fn flush(&mut self) -> io::Result<()> {
+        io::stdout().write_all(&self.out)?;
+        self.out.clear();
+        Ok(())
+    }
+
+    fn end(&mut self) -> io::Result<()> {
+        self.out.push(b'E');
+        for v in self.board.position {
+            self.out.push(b' ');
+            push_decimal(&mut self.out, v as i64);
+        }
+        self.out.push(b'\n');
+        self.flush()?;
+        io::stdout().flush()
+    }
+}
+
+fn main() -> io::Result<()> {
+    let mut walk =
+        Walk { board: Board::fresh(), store: vec![0; STORE], out: Vec::with_capacity(PORTION + 64) };
+    walk.out.extend_from_slice(b"walk\n");
+    let mut portion = vec![0u8; PORTION];
+    'all: loop {
+        let got = io::stdin().lock().read(&mut portion)?;
+        if got == 0 {
+            break;
+        }
+        for &byte in &portion[..got] {
+            if !walk.byte(byte)? {
+                break 'all;
+            }
+        }
+    }
+    walk.end()
+}

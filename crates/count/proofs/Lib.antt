@@ -1,3 +1,4 @@
 pub mod Table
 pub mod Signed
 pub mod Only
+pub mod Examples

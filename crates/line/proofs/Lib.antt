@@ -1,0 +1,4 @@
+pub mod Digits
+pub mod Shapes
+pub mod Items
+pub mod Only

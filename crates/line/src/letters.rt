@@ -1,0 +1,99 @@
+// A line outside storing: its letter, and the numbers behind it.
+ghost use mathlib.Core.Path.{_≡_};
+ghost use Rattle.line.specs.Numbers.{wrong};
+ghost use Rattle.line.specs.Lines.{letterOf, direct, directOf};
+ghost use Rattle.line.specs.Reading.{lettered, withLetter};
+use crate::Direct;
+use crate::Letter;
+use crate::numbers;
+use crate::numbers::Items;
+
+// A wrong shape.
+fn wrong_direct() -> Direct
+    ensures { λ r. ⌜ r ≡ direct Letter.Wrong wrong ⌝ }
+{
+    Direct {
+        letter: Letter::Wrong,
+        count: 0,
+        words: [0u32; 8],
+    }
+}
+
+// The letters, and no other; A, M and S may be small.
+fn letter_of(b: u8) -> Letter
+    ensures { λ r. ⌜ r ≡ letterOf b ⌝ }
+{
+    match b {
+        65 => Letter::Relative,
+        97 => Letter::Relative,
+        77 => Letter::Absolute,
+        109 => Letter::Absolute,
+        110 => Letter::Origin,
+        78 => Letter::Zero,
+        122 => Letter::Three,
+        80 => Letter::Position,
+        98 => Letter::Input,
+        66 => Letter::Output,
+        105 => Letter::Store,
+        107 => Letter::Empty,
+        83 => Letter::Start,
+        115 => Letter::Start,
+        _ => Letter::Wrong,
+    }
+}
+
+// Whether there is a letter.
+fn is_lettered(letter: Letter) -> bool
+    ensures { λ r. ⌜ r ≡ lettered letter ⌝ }
+{
+    match letter {
+        Letter::Wrong => false,
+        Letter::Axes => false,
+        Letter::Relative => true,
+        Letter::Absolute => true,
+        Letter::Origin => true,
+        Letter::Zero => true,
+        Letter::Three => true,
+        Letter::Position => true,
+        Letter::Input => true,
+        Letter::Output => true,
+        Letter::Store => true,
+        Letter::Empty => true,
+        Letter::Start => true,
+    }
+}
+
+// A letter and the numbers read behind it.
+fn with_letter(letter: Letter, read: Items) -> Direct
+    ensures { λ r. ⌜ r ≡ withLetter letter read ⌝ }
+{
+    if read.right {
+        let words = read.words;
+        return Direct {
+            letter,
+            count: read.count,
+            words,
+        };
+    }
+    wrong_direct()
+}
+
+// A line outside storing: `@0`, a letter, at most one space, then numbers; setting axes has no letter and no space.
+pub fn direct_line(line: &[u8]) -> Direct
+    ensures { λ r. ⌜ r ≡ directOf (now (line .entry)) ⌝ }
+{
+    if line.len() < 3 {
+        return wrong_direct();
+    }
+    if line[0] != 64 {
+        return wrong_direct();
+    }
+    if line[1] != 48 {
+        return wrong_direct();
+    }
+    let letter = letter_of(line[2]);
+    if is_lettered(letter) {
+        return with_letter(letter, numbers::read_behind(line, 3));
+    }
+    with_letter(Letter::Axes, numbers::read_numbers(line, 2))
+}

@@ -1,0 +1,5 @@
+pub mod Work
+pub mod Standing
+pub mod Routes
+pub mod Only
+pub mod Examples

@@ -1,0 +1,32 @@
+-- `motion::Move::left` meets its contract. Assumes nothing.
+use native.Mathlib.Omega.{arith}
+use Rattle.motion.proofs.Standing.{after-small}
+use Rattle.motion.specs.Next.{leftOf, fromOf, toOf}
+use Rattle.motion.specs.Pulses.{pulses-small}
+use borrow.Author.Needs.{needs}
+use Rattle.motion.proofs.Move.left.Statement.{statement}
+use Rattle.motion.proofs.Move.left.Tie as tie
+
+leg-requires : tie.Need-leg-requires
+leg-requires c κs = search needs
+
+after-requires : tie.Need-after-requires
+after-requires c κs = search needs
+
+returns : tie.Need-returns
+unfolding leftOf
+returns c = omega arith
+
+sub-result : tie.Need-sub-result
+sub-result c = search needs
+
+add-result : tie.Need-add-result
+add-result c = let a = c .before .before .before .args .self in omega (arith, c .before .after .ensures, c .before .before .leg .ensures, after-small a, pulses-small (fromOf a) (toOf a))
+
+returns-2 : tie.Need-returns-2
+unfolding leftOf
+returns-2 c = omega arith
+
+pub left-spec : {M : Type 1} → statement M
+left-spec =
+    tie.close (tie.spec leg-requires after-requires returns sub-result add-result returns-2)

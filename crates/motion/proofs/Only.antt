@@ -1,0 +1,23 @@
+-- No second outcome satisfies the contract of an exported function: of any two results that the contract itself allows for the same
+-- arguments, each is the other. Assumes nothing.
+use mathlib.Core.Path.{_≡_, sym, _∙_}
+use Rattle.motion.proofs.route.plan.Reads as plan
+use Rattle.motion.proofs.Move.next.Reads as next
+use Rattle.motion.proofs.Move.left.Reads as left
+use Rattle.motion.proofs.Move.sound.Reads as sound
+use Rattle.motion.proofs.Move.resting.Reads as resting
+
+pub plan-one : (κs : _) (a : _) (r r′ : _) (s s′ : _) → plan.Post κs a r s → plan.Post κs a r′ s′ → r ≡ r′
+plan-one κs a r r′ s s′ p q = p ∙ sym q
+
+pub next-one : (κs : _) (a : _) (r r′ : _) (s s′ : _) → next.Post κs a r s → next.Post κs a r′ s′ → r ≡ r′
+next-one κs a r r′ s s′ p q = p ∙ sym q
+
+pub left-one : (κs : _) (a : _) (r r′ : _) (s s′ : _) → left.Post κs a r s → left.Post κs a r′ s′ → r ≡ r′
+left-one κs a r r′ s s′ p q = p ∙ sym q
+
+pub sound-one : (κs : _) (a : _) (r r′ : _) (s s′ : _) → sound.Post κs a r s → sound.Post κs a r′ s′ → r ≡ r′
+sound-one κs a r r′ s s′ p q = p ∙ sym q
+
+pub resting-one : (κs : _) (a : _) (r r′ : _) (s s′ : _) → resting.Post κs a r s → resting.Post κs a r′ s′ → r ≡ r′
+resting-one κs a r r′ s s′ p q = p ∙ sym q

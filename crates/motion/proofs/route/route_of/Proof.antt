@@ -1,0 +1,64 @@
+-- `motion::route::route_of` meets its contract. Assumes nothing.
+use Rattle.motion.specs.Plan.{asked, firstSpeed, laterSpeed}
+use Rattle.motion.proofs.Routes.{route-made}
+use mathlib.Core.Bool.{true}
+use borrow.Author.Needs.{needs}
+use Rattle.motion.proofs.route.route_of.Statement.{statement}
+use Rattle.motion.proofs.route.route_of.Tie as tie
+
+chosen-requires : tie.Need-chosen-requires
+chosen-requires c κs = search needs
+
+first-speed-requires : tie.Need-first-speed-requires
+first-speed-requires c κs = search needs
+
+narrow-requires : tie.Need-narrow-requires
+unfolding firstSpeed
+narrow-requires c κs = rw (c .first-speed .ensures) (c .before .before .pre .0)
+
+array-read-chosen : tie.Need-array-read-chosen
+array-read-chosen c = search needs
+
+array-read-chosen-2 : tie.Need-array-read-chosen-2
+array-read-chosen-2 c = search needs
+
+chosen-requires-2 : tie.Need-chosen-requires-2
+chosen-requires-2 c κs = search needs
+
+narrow-requires-2 : tie.Need-narrow-requires-2
+unfolding laterSpeed
+narrow-requires-2 c κs = rw (c .chosen2 .ensures) (c .before .before .before .before .pre .1)
+
+array-read-chosen-3 : tie.Need-array-read-chosen-3
+array-read-chosen-3 c = search needs
+
+array-read-chosen-4 : tie.Need-array-read-chosen-4
+array-read-chosen-4 c = search needs
+
+chosen-requires-3 : tie.Need-chosen-requires-3
+chosen-requires-3 c κs = search needs
+
+narrow-requires-3 : tie.Need-narrow-requires-3
+unfolding laterSpeed
+narrow-requires-3 c κs = rw (c .chosen3 .ensures) (c .before .before .before .before .before .before .pre .2)
+
+returns : tie.Need-returns
+unfolding firstSpeed laterSpeed
+returns c = let a = c .before .before .before .before .before .before .before .args in route-made (asked (a .axes) (a .three) (a .at) (a .at) true (a .t4)) (a .x) (a .y) (a .z1) (a .z2) (c .before .before .before .before .before .before .chosen .ensures) (c .before .before .before .before .narrow .ensures) (c .before .before .before .before .before .first-speed .ensures) (c .before .before .narrow2 .ensures) (c .before .before .before .chosen2 .ensures) (c .narrow3 .ensures) (c .before .chosen3 .ensures)
+
+pub route-of-spec : {M : Type 1} → statement M
+route-of-spec =
+    tie.close
+    (tie.spec
+    chosen-requires
+    first-speed-requires
+    narrow-requires
+    array-read-chosen
+    array-read-chosen-2
+    chosen-requires-2
+    narrow-requires-2
+    array-read-chosen-3
+    array-read-chosen-4
+    chosen-requires-3
+    narrow-requires-3
+    returns)

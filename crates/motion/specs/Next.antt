@@ -1,0 +1,95 @@
+-- The next pulse of a movement (01, "Movement", paragraph 2).
+use mathlib.Core.List.{[], _∷_}
+use Prim.Native.Nat.{ℕ, _+_, _-_}
+use lib.Dec.{ltb, leb, eqb}
+use lib.IntN.{pos}
+use Rattle.count.specs.Pick.{pick}
+use Rattle.count.specs.Paper.{Paper, says}
+use Rattle.motion.specs.declared.Sign.{Sign}
+use Rattle.motion.specs.declared.Signs.{Signs}
+use Rattle.motion.specs.declared.Counters.{Counters}
+use Rattle.motion.specs.declared.Move.{Move}
+use Rattle.motion.specs.declared.Stepped.{Stepped}
+use Rattle.motion.specs.declared.Next.{Next}
+use Rattle.motion.specs.declared.Next.the-variants.{Over, Made}
+use Rattle.motion.specs.Phase.{pulses, signAt, signHere, movedAll, signValue}
+
+-- where a phase starts and ends; past the third there is nowhere to go
+unfoldable pub fromOf : Move → Counters
+fromOf m = pick (eqb (m .phase) 0) (m .start) (pick (eqb (m .phase) 1) (m .first) (pick (eqb (m .phase) 2) (m .second) (m .third)))
+
+unfoldable pub toOf : Move → Counters
+toOf m = pick (eqb (m .phase) 0) (m .first) (pick (eqb (m .phase) 1) (m .second) (m .third))
+
+-- the pulses of the phase under way
+abbrev pub leg : Move → ℕ
+leg m = pulses (fromOf m) (toOf m)
+
+-- the speed of pulse k of a phase: the phase's, for each of its pulses
+unfoldable pub speedAt : Move → ℕ → ℕ
+speedAt m k = pick (eqb (m .phase) 0) (m .speed1) (pick (eqb (m .phase) 1) (m .speed2) (m .speed3))
+
+abbrev pub atPhase : Move → ℕ → ℕ → Move
+atPhase m p k = record {
+  start = m .start;
+  first = m .first;
+  second = m .second;
+  third = m .third;
+  speed1 = m .speed1;
+  speed2 = m .speed2;
+  speed3 = m .speed3;
+  phase = p;
+  made = k;
+}
+
+-- a phase whose pulses are made, or that has none, gives way to the next without a call
+unfoldable pub skipped : Move → Move
+skipped m = pick (leb 3 (m .phase)) m (pick (ltb (m .made) (leg m)) m (atPhase m (m .phase + 1) 0))
+
+abbrev pub settled : Move → Move
+settled m = skipped (skipped (skipped m))
+
+-- a rule says what a pulse shows on an axis, from where the axis stands, the phase's ends on it, the pulses made and their number
+abbrev pub SignRule : Type 0
+SignRule = ℕ → ℕ → ℕ → ℕ → ℕ → Sign
+
+abbrev pub signsBy : SignRule → Counters → Counters → Counters → ℕ → ℕ → Signs
+signsBy rule at from to k n = record {
+  x = rule (at .x) (from .x) (to .x) k n;
+  y = rule (at .y) (from .y) (to .y) k n;
+  z = rule (at .z) (from .z) (to .z) k n;
+}
+
+-- one pulse with its signs: the counters that much further, and one pulse more made
+abbrev pub stepped : Move → Counters → Signs → Stepped
+stepped m at s = record { signs = s; speed = speedAt m (m .made + 1); at = movedAll at s; rest = atPhase m (m .phase) (m .made + 1) }
+
+-- the next pulse of a movement, or that it has none left
+unfoldable pub nextBy : SignRule → Move → Counters → Next
+nextBy rule m at =
+    pick (ltb (settled m .made) (leg (settled m)))
+    (Made (stepped (settled m) at (signsBy rule at (fromOf (settled m)) (toOf (settled m)) (settled m .made) (leg (settled m)))))
+    Over
+
+-- by 01's formula: the rule that the board and every promise cite
+unfoldable pub pulseOf : Move → Counters → Next
+pulseOf m at = nextBy (λ here from to k n. signAt k from to n) m at
+
+-- by the test on where the axis stands: the rule of the code, without a division
+unfoldable pub nextOf : Move → Counters → Next
+nextOf m at = nextBy signHere m at
+
+-- the pulses of the phases after the one under way
+unfoldable pub afterOf : Move → ℕ
+afterOf m =
+    pick (eqb (m .phase) 0) (pulses (m .first) (m .second) + pulses (m .second) (m .third))
+    (pick (eqb (m .phase) 1) (pulses (m .second) (m .third)) 0)
+
+-- the pulses still to make: of this phase and of those after it
+unfoldable pub leftOf : Move → ℕ
+leftOf m = (leg m - m .made) + afterOf m
+
+-- the clock's answers are 1, a pulse with its signs and speed, to 5, nothing
+abbrev pub nextPaper : Next → Paper
+nextPaper (Made s) = says 1 (signValue (s .signs .x) ∷ signValue (s .signs .y) ∷ signValue (s .signs .z) ∷ pos (s .speed) ∷ [])
+nextPaper Over = says 5 []

@@ -1,0 +1,55 @@
+-- One phase of a movement (01, "Movement", paragraph 2): how many pulses it has, and what each of them does to an axis.
+use Prim.Native.Nat.{ℕ, _+_, _-_, _*_, _/_, max}
+use lib.Dec.{ltb, eqb}
+use lib.IntN.{ℤ, pos, negsuc}
+use Rattle.count.specs.Pick.{pick}
+use Rattle.count.specs.Numbers.{far}
+use Rattle.motion.specs.declared.Sign.{Sign}
+use Rattle.motion.specs.declared.Sign.the-variants.{Minus, Rest, Plus}
+use Rattle.motion.specs.declared.Signs.{Signs}
+use Rattle.motion.specs.declared.Counters.{Counters}
+
+-- the greatest distance of an axis between two resting points
+abbrev pub most : Counters → Counters → ℕ
+most from to = max (far (from .x) (to .x)) (max (far (from .y) (to .y)) (far (from .z) (to .z)))
+
+-- the pulses of a phase, n: the greatest distance. A phase with a distance beyond 24 bits, which no sound movement has, has none.
+unfoldable pub pulses : Counters → Counters → ℕ
+pulses from to = pick (ltb 16777215 (most from to)) 0 (most from to)
+
+-- after pulse k of n an axis of distance d has made (2k·d + n) divided by 2n, rounded down, steps
+unfoldable pub steps : ℕ → ℕ → ℕ → ℕ
+steps k d n = (2 * k * d + n) / (2 * n)
+
+-- a step in the sign of the distance
+abbrev pub towards : ℕ → ℕ → Sign
+towards from to = pick (ltb to from) Minus Plus
+
+-- 01's rule: what the pulse after pulse k of n shows on an axis that goes from one count to another
+unfoldable pub signAt : ℕ → ℕ → ℕ → ℕ → Sign
+signAt k from to n = pick (eqb (steps (k + 1) (far from to) n) (steps k (far from to) n)) Rest (towards from to)
+
+-- and where that axis stands after pulse k of n
+unfoldable pub countAfter : ℕ → ℕ → ℕ → ℕ → ℕ
+countAfter k from to n = pick (ltb to from) (from - steps k (far from to) n) (from + steps k (far from to) n)
+
+-- the test on where the axis stands: at count `at` it has made s = |at - from| steps, and the pulse after pulse k makes one more
+-- exactly if 2n·(s + 1) ≤ 2(k + 1)·d + n. On a sound movement this is 01's rule (the law `here-is-at`).
+unfoldable pub signHere : ℕ → ℕ → ℕ → ℕ → ℕ → Sign
+signHere at from to k n = pick (ltb (2 * (k + 1) * far from to + n) (2 * n * (far from at + 1))) Rest (towards from to)
+
+-- a count with one pulse's sign
+abbrev pub moved : ℕ → Sign → ℕ
+moved c Minus = c - 1
+moved c Rest = c
+moved c Plus = c + 1
+
+-- the three counters with one pulse's signs
+abbrev pub movedAll : Counters → Signs → Counters
+movedAll c s = record { x = moved (c .x) (s .x); y = moved (c .y) (s .y); z = moved (c .z) (s .z) }
+
+-- a sign as a number
+abbrev pub signValue : Sign → ℤ
+signValue Minus = negsuc 0
+signValue Rest = pos 0
+signValue Plus = pos 1

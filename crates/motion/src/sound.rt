@@ -1,0 +1,98 @@
+// What 103 asks of a movement under way.
+ghost use mathlib.Core.Path.{_≡_};
+ghost use mathlib.Core.Bool.{true};
+ghost use Prim.Native.Nat.{_≤_, _<_};
+ghost use lib.Dec.{eqb};
+ghost use Rattle.count.specs.Numbers.{far};
+ghost use Rattle.motion.specs.Phase.{steps, countAfter};
+ghost use Rattle.motion.specs.Next.{leg};
+ghost use Rattle.motion.specs.Sound.{speedRight, counted, inRange, standsAt, underWay};
+use super::Counters;
+use super::Move;
+
+// A speed: 30 to 10,000.
+fn speed_right(v: u16) -> bool
+    ensures { λ r. ⌜ r ≡ speedRight v ⌝ }
+{
+    (30 <= v) & (v <= 10000)
+}
+
+// Three counts of 24 bits.
+fn counted_at(c: Counters) -> bool
+    ensures { λ r. ⌜ r ≡ counted c ⌝ }
+{
+    count::in_range(c.x) & count::in_range(c.y) & count::in_range(c.z)
+}
+
+// Whether an axis of distance d has made s steps after pulse k of n: 01's quotient by its two bounds.
+fn has_made(s: u32, k: u32, d: u32, n: u32) -> bool
+    requires { ⌜ (0 < n) × (n < 16777216) × (k ≤ n) × (d ≤ n) ⌝ }
+    ensures { λ r. ⌜ r ≡ eqb s (steps k d n) ⌝ }
+{
+    let wide_s = s as u64;
+    let wide_k = k as u64;
+    let wide_d = d as u64;
+    let wide_n = n as u64;
+    let sum = 2 * wide_k * wide_d + wide_n;
+    let low = 2 * wide_n * wide_s;
+    (low <= sum) & (sum < low + 2 * wide_n)
+}
+
+// Whether an axis stands where pulse k of n puts it.
+fn stands(at: u32, from: u32, to: u32, k: u32, n: u32) -> bool
+    requires { ⌜ (n < 16777216) × (k ≤ n) × (far from to ≤ n) ⌝ }
+    ensures { λ r. ⌜ r ≡ eqb at (countAfter k from to n) ⌝ }
+{
+    if n == 0 {
+        return at == from;
+    }
+    let s = count::distance(from, at);
+    let d = count::distance(from, to);
+    if to < from {
+        return (at <= from) & has_made(s, k, d, n);
+    }
+    (from <= at) & has_made(s, k, d, n)
+}
+
+impl Move {
+    // Speeds and resting points in range.
+    fn in_range(self) -> bool
+        ensures { λ r. ⌜ r ≡ inRange self ⌝ }
+    {
+        let speeds = speed_right(self.speed1) & speed_right(self.speed2) & speed_right(self.speed3);
+        let points = counted_at(self.start)
+            & counted_at(self.first)
+            & counted_at(self.second)
+            & counted_at(self.third);
+        speeds & points
+    }
+
+    // Whether the counters are where the pulse number puts them.
+    fn stands_at(self, at: Counters, n: u32) -> bool
+        requires { ⌜ (n ≡ leg self) × (inRange self ≡ true) × (self .made ≤ n) ⌝ }
+        ensures { λ r. ⌜ r ≡ standsAt self at ⌝ }
+    {
+        let from = self.from_of();
+        let to = self.to_of();
+        let k = self.made;
+        let x = stands(at.x, from.x, to.x, k, n);
+        let y = stands(at.y, from.y, to.y, k, n);
+        let z = stands(at.z, from.z, to.z, k, n);
+        x & y & z
+    }
+
+    // Whether a movement under way is one that 103 lets pass.
+    pub fn sound(self, at: Counters) -> bool
+        ensures { λ r. ⌜ r ≡ underWay self at ⌝ }
+    {
+        if self.in_range() {
+            let n = self.leg();
+            if self.phase < 3 {
+                if self.made <= n {
+                    return self.stands_at(at, n);
+                }
+            }
+        }
+        false
+    }
+}

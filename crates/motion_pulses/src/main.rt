@@ -1,0 +1,234 @@
+// The pulses of the movements on standard input. The first number says how many movements follow. Each is the axes, 3D, absolute,
+// the positions, the origins, the eight numbers, and how many of its first and last pulses to print.
+use libc::STDIN_FILENO;
+use libc::STDOUT_FILENO;
+use motion::Counters;
+use motion::Move;
+use motion::Next;
+use motion::Planned;
+use motion::Sign;
+use motion::Stepped;
+
+// A number of the text as a word of 32 bits, and where the text goes on.
+struct Number {
+    word: u32,
+    at: usize,
+}
+
+// The numbers of one movement, and where the text goes on.
+struct Given {
+    words: [u32; 18],
+    at: usize,
+}
+
+fn is_digit(b: u8) -> bool {
+    (48 <= b) & (b <= 57)
+}
+
+// A size with one digit more, to nine digits; any other byte leaves it.
+fn with_digit(size: u32, b: u8) -> u32 {
+    if size < 100000000 {
+        if 48 <= b {
+            if b <= 57 {
+                return size * 10 + ((b - 48) as u32);
+            }
+        }
+    }
+    size
+}
+
+// The next number from a place of the text on.
+fn next_number(text: &[u8], from: usize) -> Number {
+    let mut at = from;
+    let mut size: u32 = 0;
+    let mut minus = false;
+    let mut begun = false;
+    while at < text.len() {
+        let b = text[at];
+        at = at + 1;
+        let digit = is_digit(b);
+        if begun & !digit {
+            return Number {
+                word: count::word_of(minus, size),
+                at,
+            };
+        }
+        minus = minus | (b == 45);
+        begun = begun | digit;
+        size = with_digit(size, b);
+    }
+    Number {
+        word: count::word_of(minus, size),
+        at,
+    }
+}
+
+fn next_movement(text: &[u8], from: usize) -> Given {
+    let mut words: [u32; 18] = [0; 18];
+    let mut at = from;
+    let mut k = 0;
+    while k < 18 {
+        let t = next_number(text, at);
+        words[k] = t.word;
+        at = t.at;
+        k = k + 1;
+    }
+    Given { words, at }
+}
+
+fn narrow(w: u32) -> u8 {
+    if w < 256 { w as u8 } else { 0 }
+}
+
+fn counted(w: u32) -> u32 {
+    let p = count::count_of(w);
+    match p {
+        count::Placed::At(c) => c,
+        count::Placed::Outside => 0,
+    }
+}
+
+fn point(x: u32, y: u32, z: u32) -> Counters {
+    Counters {
+        x: counted(x),
+        y: counted(y),
+        z: counted(z),
+    }
+}
+
+fn sign_byte(s: Sign) -> u8 {
+    match s {
+        Sign::Minus => 45,
+        Sign::Rest => 46,
+        Sign::Plus => 43,
+    }
+}
+
+fn show_number(w: u32) {
+    io::print_decimal(STDOUT_FILENO, w as u64);
+}
+
+fn show_count(c: u32) {
+    io::write_all(STDOUT_FILENO, b" ");
+    if c < 8388608 {
+        io::write_all(STDOUT_FILENO, b"-");
+        show_number(8388608 - c);
+    } else {
+        show_number(c - 8388608);
+    }
+}
+
+fn show_point(c: Counters) {
+    show_count(c.x);
+    show_count(c.y);
+    show_count(c.z);
+    io::write_all(STDOUT_FILENO, b"\n");
+}
+
+fn show_pulse(s: Stepped) {
+    let signs = s.signs;
+    let x = signs.x;
+    let y = signs.y;
+    let z = signs.z;
+    let bytes = [80, 32, sign_byte(x), sign_byte(y), sign_byte(z), 32];
+    io::write_all(STDOUT_FILENO, &bytes);
+    show_number(s.speed as u32);
+    io::write_all(STDOUT_FILENO, b"\n");
+}
+
+// Whether the movement passes the test of 103 here, and one count beside.
+fn show_sound(m: Move, at: Counters) {
+    let beside = Counters {
+        x: at.x,
+        y: at.y ^ 1,
+        z: at.z,
+    };
+    if m.sound(at) {
+        io::write_all(STDOUT_FILENO, b"S 1");
+    } else {
+        io::write_all(STDOUT_FILENO, b"S 0");
+    }
+    if m.sound(beside) {
+        io::write_all(STDOUT_FILENO, b" 1\n");
+    } else {
+        io::write_all(STDOUT_FILENO, b" 0\n");
+    }
+}
+
+// All pulses of a movement, of which the first and the last few are printed.
+fn run(start: Move, from: Counters, few: u32) {
+    let total = start.left();
+    let mut m = start;
+    let mut at = from;
+    let mut left = total;
+    while 0 < left {
+        let next = m.next(at);
+        let Next::Made(s) = next else {
+            return;
+        };
+        if (left <= few) | (total - left < few) {
+            show_pulse(s);
+        }
+        let rest = s.rest;
+        let there = s.at;
+        m = rest;
+        at = there;
+        left = left - 1;
+    }
+    show_sound(m, at);
+    io::write_all(STDOUT_FILENO, b"E");
+    show_point(at);
+    io::write_all(STDOUT_FILENO, b"R");
+    show_point(m.resting());
+}
+
+fn show(words: [u32; 18]) {
+    let at = point(words[3], words[4], words[5]);
+    let origin = point(words[6], words[7], words[8]);
+    let given = [
+        words[9],
+        words[10],
+        words[11],
+        words[12],
+        words[13],
+        words[14],
+        words[15],
+        words[16],
+    ];
+    let planned = motion::plan(
+        narrow(words[0]),
+        words[1] == 1,
+        at,
+        origin,
+        words[2] == 1,
+        given,
+    );
+    let Planned::Going(m) = planned else {
+        io::write_all(STDOUT_FILENO, b"9\n");
+        return;
+    };
+    io::write_all(STDOUT_FILENO, b"N ");
+    show_number(m.left());
+    io::write_all(STDOUT_FILENO, b"\n");
+    show_sound(m, at);
+    run(m, at, words[17]);
+}
+
+fn show_all(text: &[u8]) {
+    let first = next_number(text, 0);
+    let mut left = first.word;
+    let mut at = first.at;
+    while 0 < left {
+        let n = next_movement(text, at);
+        at = n.at;
+        let words = n.words;
+        show(words);
+        left = left - 1;
+    }
+}
+
+fn main() {
+    let mut text = io::large_buffer();
+    let n = io::read_full(STDIN_FILENO, &mut text);
+    show_all(&text[..n]);
+}

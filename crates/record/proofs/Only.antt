@@ -1,0 +1,34 @@
+-- No second outcome satisfies the contract of an exported function: of any two results that the contract itself allows for the same
+-- arguments, and of what the lent part then holds, each is the other. Assumes nothing.
+use mathlib.Core.Path.{_≡_, sym, ap, _∙_}
+use denote.Ref.{now}
+use Rattle.record.specs.Keep.{Storing}
+use Rattle.record.specs.Listing.{Telling}
+use Rattle.record.proofs.fault.record_fault.Reads as record-fault
+use Rattle.record.proofs.bytes.record_at.Reads as record-at
+use Rattle.record.proofs.places.find.Reads as find
+use Rattle.record.proofs.places.fetch.Reads as fetch
+use Rattle.record.proofs.places.readable.Reads as readable
+use Rattle.record.proofs.keep.store_record.Reads as store-record
+use Rattle.record.proofs.listing.list.Reads as list
+
+pub record-fault-one : (κs : _) (a : _) (r r′ : _) (s s′ : _) → record-fault.Post κs a r s → record-fault.Post κs a r′ s′ → r ≡ r′
+record-fault-one κs a r r′ s s′ p q = p ∙ sym q
+
+pub record-at-one : (κs : _) (a : _) (r r′ : _) (s s′ : _) → record-at.Post κs a r s → record-at.Post κs a r′ s′ → r ≡ r′
+record-at-one κs a r r′ s s′ p q = p ∙ sym q
+
+pub find-one : (κs : _) (a : _) (r r′ : _) (s s′ : _) → find.Post κs a r s → find.Post κs a r′ s′ → r ≡ r′
+find-one κs a r r′ s s′ p q = p ∙ sym q
+
+pub fetch-one : (κs : _) (a : _) (r r′ : _) (s s′ : _) → fetch.Post κs a r s → fetch.Post κs a r′ s′ → r ≡ r′
+fetch-one κs a r r′ s s′ p q = p ∙ sym q
+
+pub readable-one : (κs : _) (a : _) (r r′ : _) (s s′ : _) → readable.Post κs a r s → readable.Post κs a r′ s′ → r ≡ r′
+readable-one κs a r r′ s s′ p q = p ∙ sym q
+
+pub store-record-one : (κs : _) (a : _) (r r′ : _) (s s′ : _) → store-record.Post κs a r s → store-record.Post κs a r′ s′ → (r ≡ r′) × (now (s .0) ≡ now (s′ .0))
+store-record-one κs a r r′ s s′ p q = (ap (λ (x : Storing). x .kept) (p ∙ sym q), ap (λ (x : Storing). x .bytes) (p ∙ sym q))
+
+pub list-one : (κs : _) (a : _) (r r′ : _) (s s′ : _) → list.Post κs a r s → list.Post κs a r′ s′ → (r ≡ r′) × (now (s .1 .1 .0) ≡ now (s′ .1 .1 .0))
+list-one κs a r r′ s s′ p q = (ap (λ (x : Telling). x .listed) (p ∙ sym q), ap (λ (x : Telling). x .text) (p ∙ sym q))

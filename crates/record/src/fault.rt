@@ -1,0 +1,109 @@
+// What is wrong with a record's code and numbers under given axes; all ranges are tested before all speeds.
+ghost use mathlib.Core.Path.{_≡_};
+ghost use lib.IntN.{pos};
+ghost use Rattle.count.specs.Numbers.{within, signed};
+ghost use Rattle.record.specs.Fault.{isMovement, isCode, countRight, axesRight, loopRight, rangesRight, speedsRight, faultOf};
+
+fn is_movement(code: u8) -> bool
+    ensures { λ r. ⌜ r ≡ isMovement code ⌝ }
+{
+    (code == 48) | (code == 109)
+}
+
+fn is_code(code: u8) -> bool
+    ensures { λ r. ⌜ r ≡ isCode code ⌝ }
+{
+    is_movement(code)
+        | ((code == 110)
+            | (code == 122)
+            | (code == 51)
+            | (code == 53)
+            | (code == 49)
+            | (code == 50))
+}
+
+// 7: whether a record of this code has this many numbers.
+fn count_right(axes: u8, code: u8, n: usize) -> bool
+    ensures { λ r. ⌜ r ≡ countRight axes code n ⌝ }
+{
+    if is_movement(code) {
+        return count::right_count(axes, n);
+    }
+    if (code == 51) | (code == 50) {
+        return n == 2;
+    }
+    n == 1
+}
+
+// Whether a number is from 1 to `most`.
+fn from_one(most: u8, w: u32) -> bool
+    ensures { λ r. ⌜ r ≡ within (pos 1) (pos most) (signed w) ⌝ }
+{
+    (1 <= w) & (w <= (most as u32))
+}
+
+// 3: whether the axes of `n` are some of the axes set.
+fn axes_right(axes: u8, code: u8, words: [u32; 8]) -> bool
+    ensures { λ r. ⌜ r ≡ axesRight axes code words ⌝ }
+{
+    if code == 110 {
+        return from_one(7, words[0]) & from_one(axes, words[0]);
+    }
+    true
+}
+
+// Whether a number and an offset are a loop's or a jump's.
+fn loop_right(number: u32, offset: u32) -> bool
+    ensures { λ r. ⌜ r ≡ loopRight (signed number) (signed offset) ⌝ }
+{
+    (count::is_loop(number) & count::is_back(offset))
+        | (count::is_zero(number) & count::is_offset(offset))
+}
+
+// 1: whether every other number is in its range.
+fn ranges_right(axes: u8, code: u8, words: [u32; 8]) -> bool
+    ensures { λ r. ⌜ r ≡ rangesRight axes code words ⌝ }
+{
+    match code {
+        48 => count::right_distances(axes, false, words),
+        109 => count::right_distances(axes, true, words),
+        122 => count::is_switch(words[0]),
+        51 => loop_right(words[0], words[1]),
+        53 => count::is_delay(words[0]),
+        49 => count::is_character(words[0]),
+        50 => count::is_character(words[0]) & count::is_offset(words[1]),
+        _ => true,
+    }
+}
+
+// D: whether every speed of a movement is one.
+fn speeds_right(axes: u8, code: u8, words: [u32; 8]) -> bool
+    ensures { λ r. ⌜ r ≡ speedsRight axes code words ⌝ }
+{
+    if is_movement(code) {
+        return count::right_speeds(axes, words);
+    }
+    true
+}
+
+// The reply's character for a code and its numbers: 5, 7, 3, 1 or D, and 0 where nothing is wrong.
+pub fn record_fault(axes: u8, code: u8, count: usize, words: [u32; 8]) -> u8
+    ensures { λ r. ⌜ r ≡ faultOf axes code count words ⌝ }
+{
+    if !is_code(code) {
+        return 53;
+    }
+    if !count_right(axes, code, count) {
+        return 55;
+    }
+    if !axes_right(axes, code, words) {
+        return 51;
+    }
+    if !ranges_right(axes, code, words) {
+        return 49;
+    }
+    if !speeds_right(axes, code, words) {
+        return 68;
+    }
+    48
+}

@@ -1,0 +1,84 @@
+-- The calls with their refusals (01, "Calls"): 101, 102, 103 in this order; a refused call returns the state given, with no reply or the
+-- answer nothing, and writes to no buffer.
+use Prim.Native.Nat.{ℕ}
+use mathlib.Core.Bool.{Bool, true, false, not}
+use mathlib.Core.List.{List, [], _∷_, _++_}
+use lib.Dec.{ltb, eqb}
+use lib.IntN.{ℤ, pos}
+use lib.ListN.{length, drop}
+use Rattle.count.specs.Pick.{pick}
+use Rattle.count.specs.Numbers.{full, value}
+use Rattle.motion.specs.declared.Counters.{Counters}
+use Rattle.motion.specs.Next.{pulseOf}
+use Rattle.record.specs.declared.Listed.{Listed}
+use Rattle.record.specs.Places.{fetchOf}
+use Rattle.record.specs.Listing.{Telling, telling, listOf}
+use Rattle.engine.specs.declared.Answer.{Answer}
+use Rattle.engine.specs.declared.Answer.the-variants as answer
+use Rattle.engine.specs.declared.Told.{Told}
+use Rattle.engine.specs.State.{idle, zeroes, nothingHeld}
+use Rattle.engine.specs.Tick.{ticked}
+use Rattle.board.specs.declared.Board.{Board}
+use Rattle.board.specs.declared.Received.{Received}
+use Rattle.board.specs.declared.Ticked.{Ticked}
+use Rattle.board.specs.declared.Point.{Point}
+use Rattle.board.specs.State.{board, noLine, sound, Said}
+use Rattle.board.specs.Receive.{hearing}
+
+-- ---- receiving a byte
+
+-- the result and both lent buffers afterwards
+pub record Outcome : Type 0 where
+  pub result : Received
+  pub reply : List ℕ
+  pub store : List ℕ
+
+abbrev pub did : Received → List ℕ → List ℕ → Outcome
+did r reply store = record { result = r; reply = reply; store = store }
+
+abbrev pub refused : ℕ → Board → List ℕ → List ℕ → Outcome
+refused n b reply store = did (record { board = b; len = 0; refusal = n }) reply store
+
+-- bytes past a reply stay
+abbrev pub answered : Said → List ℕ → Outcome
+answered s reply = did (record { board = s .board; len = length (s .reply); refusal = 0 }) (s .reply ++ drop (length (s .reply)) reply) (s .store)
+
+unfoldable pub receiving : ℕ → List ℕ → Board → List ℕ → List ℕ → Outcome
+receiving byte ports b reply store =
+    pick (ltb (length reply) 32) (refused 101 b reply store)
+    (pick (not (eqb (length store) 16384)) (refused 102 b reply store)
+    (pick (not (sound b)) (refused 103 b reply store) (answered (hearing byte ports b store) reply)))
+
+-- ---- a clock call
+
+abbrev pub clocked : ℕ → Board → Answer → Ticked
+clocked n b a = record { board = b; answer = a; refusal = n }
+
+abbrev pub wentOn : Board → Told → Ticked
+wentOn b t = clocked 0 (board (t .engine) (b .standing) (b .line)) (t .answer)
+
+-- what stands stopped answers nothing and changes nothing; else the engine's call, by 01's formula, on the store's records
+unfoldable pub clocking : Board → List ℕ → Ticked
+clocking b store =
+    pick (not (eqb (length store) 16384)) (clocked 102 b answer.Nothing)
+    (pick (not (sound b)) (clocked 103 b answer.Nothing)
+    (pick (b .standing) (clocked 0 b answer.Nothing) (wentOn b (ticked pulseOf (fetchOf (b .engine .held) store) (b .engine)))))
+
+-- ---- the lister: 102, 103, 106, then G
+
+unfoldable pub listing : Board → List ℕ → List ℕ → Telling
+listing b store text =
+    pick (not (eqb (length store) 16384)) (telling 102 0 text)
+    (pick (not (sound b)) (telling 103 0 text) (listOf (b .engine .held) store text))
+
+-- ---- a fresh board, and positions and origins as numbers
+
+abbrev pub fresh : Board
+fresh = board (record { axes = 0; at = zeroes; origin = zeroes; three = false; output = 0; held = nothingHeld; run = idle }) false noLine
+
+-- 0 where a count is not of 24 bits, which no sound board has
+abbrev pub numberOf : ℕ → ℤ
+numberOf c = pick (ltb c full) (value c) (pos 0)
+
+abbrev pub point : Counters → Point
+point c = record { x = numberOf (c .x); y = numberOf (c .y); z = numberOf (c .z) }

@@ -1,0 +1,109 @@
+-- What one received byte comes to (01, "Lines", paragraph 1; "Running a program", the sentence on code `2` and the last paragraph).
+use Prim.Native.Nat.{ℕ}
+use mathlib.Core.Bool.{Bool, true, false, not, _&&_, _||_}
+use mathlib.Core.List.{List, [], _∷_}
+use lib.Dec.{ltb, eqb}
+use Rattle.count.specs.Pick.{pick}
+use Rattle.line.specs.Lines.{directOf, storedOf}
+use Rattle.engine.specs.declared.Job.{Job}
+use Rattle.engine.specs.declared.Job.the-variants as job
+use Rattle.engine.specs.State.{ceased, resetOf, heard}
+use Rattle.board.specs.declared.Board.{Board}
+use Rattle.board.specs.State.{board, noLine, textOf, gathered, withLine, lineDone, Said, said}
+use Rattle.board.specs.Direct.{directSaid}
+use Rattle.board.specs.Storing.{storedSaid}
+
+-- ---- ordinary bytes, 0 to 252
+
+-- what an ordinary byte meets: a line is gathered; it is dropped; or a wait takes it
+pub data Ear : Type 0 where
+  gathers : Ear
+  drops : Ear
+  waits : Ear
+
+-- by what is under way, if it does not stand stopped
+abbrev pub earBy : Job → Ear
+earBy job.Idle = gathers
+earBy job.Storing = gathers
+earBy (job.Direct m) = drops
+earBy job.Ready = drops
+earBy (job.Moving m) = drops
+earBy (job.Delay q) = drops
+earBy (job.Wait c t) = waits
+
+-- while something stands stopped, lines are gathered
+unfoldable pub earOf : Board → Ear
+earOf b = pick (b .standing) gathers (earBy (b .engine .run .job))
+
+abbrev pub isStoring : Job → Bool
+isStoring job.Storing = true
+isStoring job.Idle = false
+isStoring (job.Direct m) = false
+isStoring job.Ready = false
+isStoring (job.Moving m) = false
+isStoring (job.Delay q) = false
+isStoring (job.Wait c t) = false
+
+-- a carriage return ends the line: one of more than 80 bytes is refused 5; while storing, and nothing stands, it is a record's or the end
+unfoldable pub returned : List ℕ → Board → List ℕ → Said
+returned ports b store =
+    pick (b .line .over) (said (lineDone b) (53 ∷ []) store)
+    (pick (isStoring (b .engine .run .job) && not (b .standing)) (storedSaid (storedOf (textOf (b .line))) b store)
+    (directSaid (directOf (textOf (b .line))) ports b store))
+
+unfoldable pub gathering : ℕ → List ℕ → Board → List ℕ → Said
+gathering byte ports b store =
+    pick (eqb byte 13) (returned ports b store)
+    (said (withLine b (gathered byte (b .line))) [] store)
+
+abbrev pub ordinary : Ear → ℕ → List ℕ → Board → List ℕ → Said
+ordinary gathers byte ports b store = gathering byte ports b store
+ordinary drops byte ports b store = said b [] store
+ordinary waits byte ports b store = said (board (heard byte (b .engine)) (b .standing) (b .line)) [] store
+
+-- ---- the three control codes
+
+-- stop (253) holds a running movement or program and sends F; it does nothing when idle, storing, stopped, in a delay or in a wait
+abbrev pub holdsBy : Job → Bool
+holdsBy (job.Direct m) = true
+holdsBy job.Ready = true
+holdsBy (job.Moving m) = true
+holdsBy job.Idle = false
+holdsBy job.Storing = false
+holdsBy (job.Delay q) = false
+holdsBy (job.Wait c t) = false
+
+unfoldable pub stopped : Board → List ℕ → Said
+stopped b store =
+    pick (holdsBy (b .engine .run .job) && not (b .standing))
+    (said (board (b .engine) true (b .line)) (70 ∷ []) store)
+    (said b [] store)
+
+-- break (255) ends what runs, waits or stands stopped, sends F and keeps the positions reached; when idle or storing it does nothing
+abbrev pub endsBy : Job → Bool
+endsBy (job.Direct m) = true
+endsBy job.Ready = true
+endsBy (job.Moving m) = true
+endsBy (job.Delay q) = true
+endsBy (job.Wait c t) = true
+endsBy job.Idle = false
+endsBy job.Storing = false
+
+unfoldable pub broken : Board → List ℕ → Said
+broken b store =
+    pick (endsBy (b .engine .run .job) || b .standing)
+    (said (board (ceased (b .engine)) false (b .line)) (70 ∷ []) store)
+    (said b [] store)
+
+-- reset (254) clears line and run, sends nothing
+unfoldable pub resetSaid : Board → List ℕ → Said
+resetSaid b store = said (board (resetOf (b .engine)) false noLine) [] store
+
+-- ---- one byte
+
+unfoldable pub hearing : ℕ → List ℕ → Board → List ℕ → Said
+hearing byte ports b store =
+    pick (eqb byte 253) (stopped b store)
+    (pick (eqb byte 254) (resetSaid b store)
+    (pick (eqb byte 255) (broken b store)
+    (ordinary (earOf b) byte ports b store)))

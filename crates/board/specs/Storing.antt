@@ -1,0 +1,56 @@
+-- A line while storing (01, "Lines", the paragraph on storing and the table of replies).
+use Prim.Native.Nat.{ℕ}
+use mathlib.Core.Bool.{Bool, true, false, not}
+use mathlib.Core.List.{List, [], _∷_}
+use lib.Dec.{eqb}
+use Rattle.count.specs.Pick.{pick}
+use Rattle.record.specs.declared.Held.{Held}
+use Rattle.record.specs.declared.Record.{Record}
+use Rattle.record.specs.Fault.{countRight, axesRight, rangesRight, speedsRight}
+use Rattle.record.specs.Keep.{Storing, storeOf}
+use Rattle.program.specs.Program.{verdictOf, isSound}
+use Rattle.line.specs.declared.Code.{Code}
+use Rattle.line.specs.declared.Code.the-variants as code
+use Rattle.line.specs.declared.Stored.{Stored}
+use Rattle.engine.specs.declared.Engine.{Engine}
+use Rattle.engine.specs.State.{withHeld, emptied, ceased}
+use Rattle.board.specs.declared.Board.{Board}
+use Rattle.board.specs.State.{board, noLine, lineDone, Said, said}
+use Rattle.board.specs.Direct.{first, row}
+
+abbrev pub recordOf : ℕ → Stored → Record
+recordOf c d = record { code = c; count = d .count; words = d .words }
+
+-- the rows of the table that a record can meet; counts and ranges go by the store's axes, and 4 and 9 are never given here
+unfoldable pub recordReply : Held → Record → List ℕ → ℕ
+recordReply h r store =
+    first
+    (row 55 (not (countRight (h .axes) (r .code) (r .count)))
+    ∷ row 51 (not (axesRight (h .axes) (r .code) (r .words)))
+    ∷ row 49 (not (rangesRight (h .axes) (r .code) (r .words)))
+    ∷ row 68 (not (speedsRight (h .axes) (r .code) (r .words)))
+    ∷ row 54 (not (storeOf h r store .kept .stored))
+    ∷ [])
+    48
+
+-- a right record is written at the end of the part in use; a refused one isn't stored and storing goes on
+abbrev pub recordSaid : Record → Board → List ℕ → Said
+recordSaid r b store =
+    pick (eqb (recordReply (b .engine .held) r store) 48)
+    (said (board (withHeld (b .engine) (storeOf (b .engine .held) r store .kept .held)) (b .standing) noLine) (48 ∷ []) (storeOf (b .engine .held) r store .bytes))
+    (said (lineDone b) (recordReply (b .engine .held) r store ∷ []) store)
+
+-- `9` ends storing: 0, or G with the store emptied if the check fails
+abbrev pub endSaid : Board → List ℕ → Said
+endSaid b store =
+    pick (isSound (verdictOf (b .engine .held) store))
+    (said (board (ceased (b .engine)) (b .standing) noLine) (48 ∷ []) store)
+    (said (board (ceased (emptied (b .engine))) (b .standing) noLine) (71 ∷ []) store)
+
+abbrev pub storedBy : Code → Stored → Board → List ℕ → Said
+storedBy code.Wrong d b store = said (lineDone b) (53 ∷ []) store
+storedBy (code.Record c) d b store = recordSaid (recordOf c d) b store
+storedBy code.End d b store = endSaid b store
+
+unfoldable pub storedSaid : Stored → Board → List ℕ → Said
+storedSaid d b store = storedBy (d .code) d b store

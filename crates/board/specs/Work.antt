@@ -1,0 +1,172 @@
+-- How the code goes: what a byte comes to before its reply is written, the first fault of a line in the code's order, and its effect.
+-- The laws that join these to the definitions of `Direct`, `Storing` and `Receive` stand in `Joins`. Assumes nothing.
+use Prim.Native.Nat.{ℕ, _%_}
+use mathlib.Core.Bool.{Bool, true, false, not, _&&_, _||_}
+use mathlib.Core.List.{List, [], _∷_, _++_}
+use lib.Dec.{eqb}
+use lib.ListN.{length, getD, drop}
+use Rattle.count.specs.Pick.{pick}
+use Rattle.count.specs.Numbers.{signed}
+use Rattle.count.specs.Ranges.{inPort, inByte, inZero}
+use Rattle.count.specs.Text.{Written, written, report, twoHex}
+use Rattle.motion.specs.declared.Counters.{Counters}
+use Rattle.record.specs.declared.Record.{Record}
+use Rattle.record.specs.Fault.{faultOf}
+use Rattle.record.specs.Keep.{storeOf}
+use Rattle.line.specs.declared.Letter.{Letter}
+use Rattle.line.specs.declared.Letter.the-variants as letter
+use Rattle.line.specs.declared.Direct.{Direct}
+use Rattle.engine.specs.declared.Engine.{Engine}
+use Rattle.engine.specs.declared.Begun.{Begun}
+use Rattle.engine.specs.declared.Job.{Job}
+use Rattle.engine.specs.declared.Job.the-variants as job
+use Rattle.engine.specs.State.{withThree, withOutput, withHeld, axesOf, originOf, zeroOf, started, emptied, storingOf, beginOf, ceased, resetOf}
+use Rattle.board.specs.declared.Board.{Board}
+use Rattle.board.specs.declared.Received.{Received}
+use Rattle.board.specs.declared.Saying.{Saying}
+use Rattle.board.specs.declared.Saying.the-variants as saying
+use Rattle.board.specs.declared.Spoke.{Spoke}
+use Rattle.board.specs.State.{board, noLine, lineDone, Said, said}
+use Rattle.board.specs.Direct.{isWrong, heardStanding, needsAxes}
+use Rattle.board.specs.Receive.{holdsBy, endsBy}
+
+-- ---- a reply that is still to be written
+
+abbrev pub bytesOf : Saying → Counters → List ℕ
+bytesOf saying.Silent at = []
+bytesOf (saying.One b) at = b ∷ []
+bytesOf saying.Positions at = 48 ∷ report (at .x) ++ report (at .y) ++ report (at .z)
+bytesOf (saying.Port v) at = 48 ∷ twoHex v
+
+abbrev pub spokeOf : Board → Saying → Spoke
+spokeOf b s = record { board = b; say = s }
+
+-- with the store, it is what a byte comes to
+abbrev pub spoke : Spoke → List ℕ → Said
+spoke s store = said (s .board) (bytesOf (s .say) (s .board .engine .at)) store
+
+abbrev pub textOf : Spoke → List ℕ
+textOf s = bytesOf (s .say) (s .board .engine .at)
+
+abbrev pub receivedOf : Spoke → Received
+receivedOf s = record { board = s .board; len = length (textOf s); refusal = 0 }
+
+-- written at the front of a buffer, the bytes past it as they were
+abbrev pub putOf : List ℕ → List ℕ → Written
+putOf t reply = written (length t) (t ++ drop (length t) reply)
+
+-- ---- the faults of a line: 7, 3, 1 and D by letter; before them 5, W and 4
+
+abbrev pub countFault : ℕ → ℕ
+countFault n = pick (eqb n 0) 48 55
+
+unfoldable pub axesFault : ℕ → ℕ → ℕ
+axesFault n w = pick (eqb n 1) (pick (eqb w 1 || eqb w 3 || eqb w 7) 48 51) 55
+
+unfoldable pub inputFault : ℕ → ℕ → ℕ
+inputFault n w = pick (eqb n 1) (pick (inPort (signed w)) 48 49) 55
+
+unfoldable pub outputFault : ℕ → ℕ → ℕ → ℕ
+outputFault n w v = pick (eqb n 2) (pick (inZero (signed w) && inByte (signed v)) 48 49) 55
+
+abbrev pub numbersFault : Letter → ℕ → ℕ → List ℕ → ℕ
+numbersFault letter.Wrong axes n l = 55
+numbersFault letter.Axes axes n l = axesFault n (getD l 0 0)
+numbersFault letter.Relative axes n l = faultOf axes 48 n l
+numbersFault letter.Absolute axes n l = faultOf axes 109 n l
+numbersFault letter.Origin axes n l = faultOf axes 110 n l
+numbersFault letter.Zero axes n l = faultOf axes 110 n l
+numbersFault letter.Three axes n l = faultOf axes 122 n l
+numbersFault letter.Position axes n l = countFault n
+numbersFault letter.Input axes n l = inputFault n (getD l 0 0)
+numbersFault letter.Output axes n l = outputFault n (getD l 0 0) (getD l 1 0)
+numbersFault letter.Store axes n l = countFault n
+numbersFault letter.Empty axes n l = countFault n
+numbersFault letter.Start axes n l = countFault n
+
+unfoldable pub lineFault : ℕ → Bool → Direct → ℕ
+lineFault axes standing d =
+    pick (isWrong (d .letter)) 53
+    (pick (standing && not (heardStanding (d .letter))) 87
+    (pick (needsAxes (d .letter) && eqb axes 0) 52 (numbersFault (d .letter) axes (d .count) (d .words))))
+
+-- ---- the effect of a line without such a fault
+
+abbrev pub repliedWith : Board → Engine → ℕ → Spoke
+repliedWith b e reply = spokeOf (board e (b .standing) noLine) (saying.One reply)
+
+abbrev pub silentWith : Board → Engine → Spoke
+silentWith b e = spokeOf (board e (b .standing) noLine) saying.Silent
+
+unfoldable pub begunWith : Board → Begun → Spoke
+begunWith b g = pick (eqb (g .reply) 0) (silentWith b (g .engine)) (repliedWith b (g .engine) (g .reply))
+
+unfoldable pub startedBy : Board → Spoke
+startedBy b =
+    pick (b .standing) (spokeOf (board (b .engine) false noLine) saying.Silent)
+    (pick (eqb (b .engine .held .records) 0) (repliedWith b (b .engine) 56)
+    (pick (eqb (b .engine .axes) (b .engine .held .axes)) (silentWith b (started (b .engine))) (repliedWith b (b .engine) 71)))
+
+abbrev pub affected : Letter → List ℕ → List ℕ → Board → Spoke
+affected letter.Wrong l ports b = repliedWith b (b .engine) 53
+affected letter.Axes l ports b = repliedWith b (axesOf (getD l 0 0 % 256) (b .engine)) 48
+affected letter.Relative l ports b = begunWith b (beginOf false l (b .engine))
+affected letter.Absolute l ports b = begunWith b (beginOf true l (b .engine))
+affected letter.Origin l ports b = repliedWith b (originOf (getD l 0 0 % 256) (b .engine)) 48
+affected letter.Zero l ports b = repliedWith b (zeroOf (getD l 0 0 % 256) (b .engine)) 48
+affected letter.Three l ports b = repliedWith b (withThree (b .engine) (eqb (getD l 0 0) 1)) 48
+affected letter.Position l ports b = spokeOf (lineDone b) saying.Positions
+affected letter.Input l ports b = spokeOf (lineDone b) (saying.Port (getD ports (getD l 0 0) 0))
+affected letter.Output l ports b = repliedWith b (withOutput (b .engine) (getD l 1 0 % 256)) 48
+affected letter.Store l ports b = repliedWith b (storingOf (b .engine)) 48
+affected letter.Empty l ports b = repliedWith b (emptied (b .engine)) 48
+affected letter.Start l ports b = startedBy b
+
+unfoldable pub obeyed : Direct → List ℕ → Board → Spoke
+obeyed d ports b =
+    pick (eqb (lineFault (b .engine .axes) (b .standing) d) 48)
+    (affected (d .letter) (d .words) ports b)
+    (repliedWith b (b .engine) (lineFault (b .engine .axes) (b .standing) d))
+
+-- ---- a record without such a fault
+
+abbrev pub keptSaid : Record → Board → List ℕ → Said
+keptSaid r b store =
+    pick (storeOf (b .engine .held) r store .kept .stored)
+    (said (board (withHeld (b .engine) (storeOf (b .engine .held) r store .kept .held)) (b .standing) noLine) (48 ∷ []) (storeOf (b .engine .held) r store .bytes))
+    (said (lineDone b) (54 ∷ []) store)
+
+-- ---- the control codes, and whether an ordinary byte is gathered or a wait takes it
+
+unfoldable pub stopSpoke : Board → Spoke
+stopSpoke b =
+    pick (holdsBy (b .engine .run .job) && not (b .standing))
+    (spokeOf (board (b .engine) true (b .line)) (saying.One 70))
+    (spokeOf b saying.Silent)
+
+unfoldable pub breakSpoke : Board → Spoke
+breakSpoke b =
+    pick (endsBy (b .engine .run .job) || b .standing)
+    (spokeOf (board (ceased (b .engine)) false (b .line)) (saying.One 70))
+    (spokeOf b saying.Silent)
+
+abbrev pub resetSpoke : Board → Spoke
+resetSpoke b = spokeOf (board (resetOf (b .engine)) false noLine) saying.Silent
+
+abbrev pub gathersBy : Job → Bool
+gathersBy job.Idle = true
+gathersBy job.Storing = true
+gathersBy (job.Direct m) = false
+gathersBy job.Ready = false
+gathersBy (job.Moving m) = false
+gathersBy (job.Delay q) = false
+gathersBy (job.Wait c t) = false
+
+abbrev pub waitsBy : Job → Bool
+waitsBy job.Idle = false
+waitsBy job.Storing = false
+waitsBy (job.Direct m) = false
+waitsBy job.Ready = false
+waitsBy (job.Moving m) = false
+waitsBy (job.Delay q) = false
+waitsBy (job.Wait c t) = true

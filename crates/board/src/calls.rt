@@ -1,0 +1,144 @@
+// The calls, with their refusals 101, 102 and 103 in this order, and what a host reads of a board.
+ghost use mathlib.Core.Path.{_≡_};
+ghost use Rattle.record.specs.Listing.{telling};
+ghost use Rattle.board.specs.State.{sound};
+ghost use Rattle.board.specs.Calls.{did, receiving, clocked, clocking, listing, fresh, point};
+use crate::Board;
+use crate::Line;
+use crate::Point;
+use crate::Received;
+use crate::Ticked;
+use engine::Answer;
+use engine::Engine;
+use motion::Counters;
+use record::Listed;
+
+// Counters as numbers.
+fn as_point(c: Counters) -> Point
+    ensures { λ r. ⌜ r ≡ point c ⌝ }
+{
+    Point {
+        x: count::number(c.x),
+        y: count::number(c.y),
+        z: count::number(c.z),
+    }
+}
+
+fn unlisted(refusal: u16) -> Listed
+    ensures { λ r. ⌜ r ≡ record { refusal = refusal; len = 0 } ⌝ }
+{
+    Listed { refusal, len: 0 }
+}
+
+impl Board {
+    pub fn fresh() -> Board
+        ensures { λ r. ⌜ r ≡ fresh ⌝ }
+    {
+        let engine = Engine::fresh();
+        let line = Line::empty();
+        Board {
+            engine,
+            standing: false,
+            line,
+        }
+    }
+
+    // Whether the state is one that no call refuses with 103.
+    pub fn sound(self) -> bool
+        ensures { λ r. ⌜ r ≡ sound self ⌝ }
+    {
+        let e = self.engine;
+        let l = self.line;
+        e.sound() & (l.len <= 80)
+    }
+
+    pub fn position(self) -> Point
+        ensures { λ r. ⌜ r ≡ point (self .engine .at) ⌝ }
+    {
+        let e = self.engine;
+        as_point(e.at)
+    }
+
+    pub fn origin(self) -> Point
+        ensures { λ r. ⌜ r ≡ point (self .engine .origin) ⌝ }
+    {
+        let e = self.engine;
+        as_point(e.origin)
+    }
+
+    fn refuse(self, refusal: u16) -> Received
+        ensures { λ r. ⌜ r ≡ record { board = self; len = 0; refusal = refusal } ⌝ }
+    {
+        Received {
+            board: self,
+            len: 0,
+            refusal,
+        }
+    }
+
+    // A byte received, with the input ports; the reply stands at the front of its buffer.
+    pub fn receive(self, byte: u8, ports: [u8; 4], reply: &mut [u8], store: &mut [u8]) -> Received
+        ensures { λ r. ⌜ did r (now (reply .exit)) (now (store .exit)) ≡ receiving byte ports self (now (reply .entry)) (now (store .entry)) ⌝ }
+    {
+        if reply.len() < 32 {
+            return self.refuse(101);
+        }
+        if store.len() != 16384 {
+            return self.refuse(102);
+        }
+        if !self.sound() {
+            return self.refuse(103);
+        }
+        self.hear(byte, ports, store).answer(reply)
+    }
+
+    fn still(self, refusal: u16) -> Ticked
+        ensures { λ r. ⌜ r ≡ clocked refusal self Answer.Nothing ⌝ }
+    {
+        Ticked {
+            board: self,
+            answer: Answer::Nothing,
+            refusal,
+        }
+    }
+
+    // A clock call; what stands stopped answers nothing.
+    pub fn clock(self, store: &[u8]) -> Ticked
+        ensures { λ r. ⌜ r ≡ clocking self (now (store .entry)) ⌝ }
+    {
+        if store.len() != 16384 {
+            return self.still(102);
+        }
+        if !self.sound() {
+            return self.still(103);
+        }
+        if self.standing {
+            return self.still(0);
+        }
+        let e = self.engine;
+        let told = e.tick(store);
+        let engine = told.engine;
+        let answer = told.answer;
+        let mut board = self;
+        board.engine = engine;
+        Ticked {
+            board,
+            answer,
+            refusal: 0,
+        }
+    }
+
+    // The listing of the store; refused with 106 for a short text buffer, then with G.
+    pub fn list(self, store: &[u8], text: &mut [u8]) -> Listed
+        ensures { λ r. ⌜ telling (r .refusal) (r .len) (now (text .exit)) ≡ listing self (now (store .entry)) (now (text .entry)) ⌝ }
+    {
+        if store.len() != 16384 {
+            return unlisted(102);
+        }
+        if !self.sound() {
+            return unlisted(103);
+        }
+        let e = self.engine;
+        record::list(store, e.held, text)
+    }
+}

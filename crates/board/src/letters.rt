@@ -1,0 +1,153 @@
+// What each letter asks of its line, and the first fault of a line outside storing.
+ghost use mathlib.Core.Path.{_≡_};
+ghost use Rattle.board.specs.Direct.{isWrong, heardStanding, needsAxes};
+ghost use Rattle.board.specs.Work.{countFault, axesFault, inputFault, outputFault, numbersFault, lineFault};
+use line::Direct;
+use line::Letter;
+
+fn is_wrong(letter: Letter) -> bool
+    ensures { λ r. ⌜ r ≡ isWrong letter ⌝ }
+{
+    match letter {
+        Letter::Wrong => true,
+        Letter::Axes => false,
+        Letter::Relative => false,
+        Letter::Absolute => false,
+        Letter::Origin => false,
+        Letter::Zero => false,
+        Letter::Three => false,
+        Letter::Position => false,
+        Letter::Input => false,
+        Letter::Output => false,
+        Letter::Store => false,
+        Letter::Empty => false,
+        Letter::Start => false,
+    }
+}
+
+// P, b and S are heard while something stands stopped.
+fn is_heard(letter: Letter) -> bool
+    ensures { λ r. ⌜ r ≡ heardStanding letter ⌝ }
+{
+    match letter {
+        Letter::Wrong => false,
+        Letter::Axes => false,
+        Letter::Relative => false,
+        Letter::Absolute => false,
+        Letter::Origin => false,
+        Letter::Zero => false,
+        Letter::Three => false,
+        Letter::Position => true,
+        Letter::Input => true,
+        Letter::Output => false,
+        Letter::Store => false,
+        Letter::Empty => false,
+        Letter::Start => true,
+    }
+}
+
+// A, M, n, N, z, i and S need axes.
+fn needs_axes(letter: Letter) -> bool
+    ensures { λ r. ⌜ r ≡ needsAxes letter ⌝ }
+{
+    match letter {
+        Letter::Wrong => false,
+        Letter::Axes => false,
+        Letter::Relative => true,
+        Letter::Absolute => true,
+        Letter::Origin => true,
+        Letter::Zero => true,
+        Letter::Three => true,
+        Letter::Position => false,
+        Letter::Input => false,
+        Letter::Output => false,
+        Letter::Store => true,
+        Letter::Empty => false,
+        Letter::Start => true,
+    }
+}
+
+// A line without numbers: 7 if it has some.
+fn count_fault(count: usize) -> u8
+    ensures { λ r. ⌜ r ≡ countFault count ⌝ }
+{
+    if count == 0 { 48 } else { 55 }
+}
+
+// Setting axes: 7, then 3.
+fn axes_fault(count: usize, axes: u32) -> u8
+    ensures { λ r. ⌜ r ≡ axesFault count axes ⌝ }
+{
+    if count != 1 {
+        return 55;
+    }
+    if (axes == 1) | (axes == 3) | (axes == 7) {
+        return 48;
+    }
+    51
+}
+
+// An input port: 7, then 1.
+fn input_fault(count: usize, port: u32) -> u8
+    ensures { λ r. ⌜ r ≡ inputFault count port ⌝ }
+{
+    if count != 1 {
+        return 55;
+    }
+    if count::is_port(port) {
+        return 48;
+    }
+    49
+}
+
+// An output port and its value: 7, then 1.
+fn output_fault(count: usize, port: u32, value: u32) -> u8
+    ensures { λ r. ⌜ r ≡ outputFault count port value ⌝ }
+{
+    if count != 2 {
+        return 55;
+    }
+    if count::is_zero(port) & count::is_byte(value) {
+        return 48;
+    }
+    49
+}
+
+// 7, 3, 1 and D in this order, or 0; A and M are a record's `0` and `m`, n and N its `n`, z its `z`.
+fn numbers_fault(letter: Letter, axes: u8, count: usize, words: [u32; 8]) -> u8
+    ensures { λ r. ⌜ r ≡ numbersFault letter axes count words ⌝ }
+{
+    match letter {
+        Letter::Wrong => 55,
+        Letter::Axes => axes_fault(count, words[0]),
+        Letter::Relative => record::record_fault(axes, 48, count, words),
+        Letter::Absolute => record::record_fault(axes, 109, count, words),
+        Letter::Origin => record::record_fault(axes, 110, count, words),
+        Letter::Zero => record::record_fault(axes, 110, count, words),
+        Letter::Three => record::record_fault(axes, 122, count, words),
+        Letter::Position => count_fault(count),
+        Letter::Input => input_fault(count, words[0]),
+        Letter::Output => output_fault(count, words[0], words[1]),
+        Letter::Store => count_fault(count),
+        Letter::Empty => count_fault(count),
+        Letter::Start => count_fault(count),
+    }
+}
+
+// The first fault of a line: 5, W, 4, 7, 3, 1 and D in this order, or 0.
+pub(crate) fn line_fault(axes: u8, standing: bool, d: Direct) -> u8
+    ensures { λ r. ⌜ r ≡ lineFault axes standing d ⌝ }
+{
+    let letter = d.letter;
+    let words = d.words;
+    if is_wrong(letter) {
+        return 53;
+    }
+    if standing & !is_heard(letter) {
+        return 87;
+    }
+    if needs_axes(letter) & (axes == 0) {
+        return 52;
+    }
+    numbers_fault(letter, axes, d.count, words)
+}

@@ -1,0 +1,60 @@
+// The board: what it does with every byte, control code and clock call. It gathers lines, stops and goes on; what runs is the engine's.
+mod calls;
+mod effects;
+mod gather;
+mod letters;
+mod receive;
+mod reply;
+mod storing;
+
+use engine::Answer;
+use engine::Engine;
+
+// The line being gathered: its bytes, the rest of the array 0, and whether more than 80 came.
+pub struct Line {
+    pub bytes: [u8; 80],
+    pub len: u8,
+    pub over: bool,
+}
+
+// The state of a board: what runs, whether it stands stopped, and the line.
+pub struct Board {
+    pub engine: Engine,
+    pub standing: bool,
+    pub line: Line,
+}
+
+// What receiving a byte comes to: the next state, the bytes of the reply, and the refusal's number or 0.
+pub struct Received {
+    pub board: Board,
+    pub len: usize,
+    pub refusal: u16,
+}
+
+// What a clock call comes to: the next state, its answer, and the refusal's number or 0.
+pub struct Ticked {
+    pub board: Board,
+    pub answer: Answer,
+    pub refusal: u16,
+}
+
+// The positions or origins of the three axes as numbers.
+pub struct Point {
+    pub x: i32,
+    pub y: i32,
+    pub z: i32,
+}
+
+// A reply that is still to be written: none, one byte, 0 and the three positions, or 0 and a port's byte.
+pub(crate) enum Saying {
+    Silent,
+    One(u8),
+    Positions,
+    Port(u8),
+}
+
+// What a byte comes to, before its reply is written: the next state and the reply.
+pub(crate) struct Spoke {
+    pub board: Board,
+    pub say: Saying,
+}

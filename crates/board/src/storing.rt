@@ -1,0 +1,87 @@
+// A line while storing: a record's, or the end.
+ghost use mathlib.Core.Path.{_≡_};
+ghost use mathlib.Core.Bool.{true};
+ghost use Prim.Native.Nat.{_≤_};
+ghost use Rattle.record.specs.Fault.{isCode};
+ghost use Rattle.program.specs.Program.{isSound};
+ghost use Rattle.line.specs.Lines.{storedOf};
+ghost use Rattle.board.specs.State.{textOf};
+ghost use Rattle.board.specs.Storing.{recordOf, recordSaid, endSaid, storedSaid};
+ghost use Rattle.board.specs.Work.{spoke, keptSaid};
+use crate::Board;
+use crate::Spoke;
+use line::Code;
+use line::Stored;
+use program::Verdict;
+use record::Record;
+
+fn is_sound(verdict: Verdict) -> bool
+    ensures { λ r. ⌜ r ≡ isSound verdict ⌝ }
+{
+    match verdict {
+        Verdict::Sound => true,
+        Verdict::Fault(_, _) => false,
+        Verdict::Unreadable => false,
+    }
+}
+
+impl Board {
+    // A right record is written at the end of the part in use, where there is room for it.
+    fn keep(self, item: Record, store: &mut [u8]) -> Spoke
+        ensures { λ r. ⌜ spoke r (now (store .exit)) ≡ keptSaid item self (now (store .entry)) ⌝ }
+    {
+        let e = self.engine;
+        let held = e.held;
+        let kept = record::store_record(store, held, item);
+        if kept.stored {
+            return self.replies(e.set_held(kept.held), 48);
+        }
+        self.replies(e, 54)
+    }
+
+    fn record_line(self, code: u8, d: Stored, store: &mut [u8]) -> Spoke
+        requires { ⌜ isCode code ≡ true ⌝ }
+        ensures { λ r. ⌜ spoke r (now (store .exit)) ≡ recordSaid (recordOf code d) self (now (store .entry)) ⌝ }
+    {
+        let e = self.engine;
+        let held = e.held;
+        let count = d.count;
+        let words = d.words;
+        let fault = record::record_fault(held.axes, code, count, words);
+        if fault != 48 {
+            return self.replies(e, fault);
+        }
+        let item = Record {
+            code,
+            count: count as u8,
+            words,
+        };
+        self.keep(item, store)
+    }
+
+    // `9` ends storing: 0, or G with the store emptied.
+    fn end_storing(self, store: &[u8]) -> Spoke
+        ensures { λ r. ⌜ spoke r (now (store .entry)) ≡ endSaid self (now (store .entry)) ⌝ }
+    {
+        let e = self.engine;
+        let held = e.held;
+        if is_sound(program::check(store, held)) {
+            return self.replies(e.cease(), 48);
+        }
+        self.replies(e.empty().cease(), 71)
+    }
+
+    pub(crate) fn store_line(self, store: &mut [u8]) -> Spoke
+        requires { ⌜ self .line .len ≤ 80 ⌝ }
+        ensures { λ r. ⌜ spoke r (now (store .exit)) ≡ storedSaid (storedOf (textOf (self .line))) self (now (store .entry)) ⌝ }
+    {
+        let l = self.line;
+        let d = l.as_stored();
+        let code = d.code;
+        match code {
+            Code::Wrong => self.replies(self.engine, 53),
+            Code::Record(c) => self.record_line(c, d, store),
+            Code::End => self.end_storing(&store[..]),
+        }
+    }
+}

@@ -1,0 +1,9 @@
+pub mod Digits
+pub mod Loop
+pub mod Pulses
+pub mod Turns
+pub mod Outcomes
+pub mod Behind
+pub mod Portions
+pub mod Bytes
+pub mod Only

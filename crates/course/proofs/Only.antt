@@ -1,0 +1,32 @@
+-- No second outcome satisfies the contract of an exported function: of any two results that the contract itself allows for the same
+-- arguments, and of what the lent buffers then hold, each is the other. Assumes nothing.
+use mathlib.Core.Path.{_≡_, sym, ap, _∙_}
+use denote.Ref.{now}
+use Rattle.count.specs.Text.{Written}
+use Rattle.course.specs.Run.{Outcome}
+use Rattle.course.specs.Walk.{Done}
+use Rattle.course.proofs.runs.run.Reads as run
+use Rattle.course.proofs.Walk.new.Reads as new
+use Rattle.course.proofs.Walk.head.Reads as head
+use Rattle.course.proofs.Walk.next.Reads as next
+use Rattle.course.proofs.Walk.go_on.Reads as go-on
+use Rattle.course.proofs.Walk.tail.Reads as tail
+
+pub run-one : (κs : _) (a : _) (r r′ : _) (s s′ : _) → run.Post κs a r s → run.Post κs a r′ s′ → (r ≡ r′) × (now (s .1 .1 .1 .0) ≡ now (s′ .1 .1 .1 .0))
+run-one κs a r r′ s s′ p q = (ap (λ (o : Outcome). o .result) (p ∙ sym q), ap (λ (o : Outcome). o .out) (p ∙ sym q))
+
+pub new-one : (κs : _) (a : _) (r r′ : _) (s s′ : _) → new.Post κs a r s → new.Post κs a r′ s′ → r ≡ r′
+new-one κs a r r′ s s′ p q = p ∙ sym q
+
+pub head-one : (κs : _) (a : _) (r r′ : _) (s s′ : _) → head.Post κs a r s → head.Post κs a r′ s′ → (r ≡ r′) × (now (s .0) ≡ now (s′ .0))
+head-one κs a r r′ s s′ p q = (ap (λ (w : Written). w .len) (p ∙ sym q), ap (λ (w : Written). w .text) (p ∙ sym q))
+
+pub next-one : (κs : _) (a : _) (r r′ : _) (s s′ : _) → next.Post κs a r s → next.Post κs a r′ s′
+    → (r ≡ r′) × (now (s .1 .1 .0) ≡ now (s′ .1 .1 .0)) × (now (s .1 .1 .1 .0) ≡ now (s′ .1 .1 .1 .0))
+next-one κs a r r′ s s′ p q = (ap (λ (d : Done). d .portion) (p ∙ sym q), ap (λ (d : Done). d .store) (p ∙ sym q), ap (λ (d : Done). d .out) (p ∙ sym q))
+
+pub go-on-one : (κs : _) (a : _) (r r′ : _) (s s′ : _) → go-on.Post κs a r s → go-on.Post κs a r′ s′ → (r ≡ r′) × (now (s .1 .1 .0) ≡ now (s′ .1 .1 .0))
+go-on-one κs a r r′ s s′ p q = (ap (λ (d : Done). d .portion) (p ∙ sym q), ap (λ (d : Done). d .out) (p ∙ sym q))
+
+pub tail-one : (κs : _) (a : _) (r r′ : _) (s s′ : _) → tail.Post κs a r s → tail.Post κs a r′ s′ → (r ≡ r′) × (now (s .1 .0) ≡ now (s′ .1 .0))
+tail-one κs a r r′ s s′ p q = (ap (λ (w : Written). w .len) (p ∙ sym q), ap (λ (w : Written). w .text) (p ∙ sym q))

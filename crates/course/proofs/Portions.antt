@@ -1,0 +1,103 @@
+-- The outcomes of a walk's portions, case by case. Assumes nothing.
+use Prim.Native.Nat.{ℕ, _+_, _-_, _/_, _≤_, min}
+use native.Mathlib.Nat.{min-le-left}
+use mathlib.Core.Path.{_≡_, refl, ap, sym, _∙_}
+use mathlib.Core.Bool.{Bool, true, false, not, _&&_}
+use mathlib.Core.List.{List, [], _++_}
+use native.Mathlib.Omega.{arith}
+use lib.Dec.{leb, eqb}
+use lib.ListN.{length, drop}
+use borrow.Author.Tests.{eqb-true, leb-true}
+use Rattle.count.specs.Pick.{pick}
+use Rattle.count.specs.Text.{Written, written, wrote}
+use Rattle.count.specs.Digits.{wrote-long}
+use Rattle.board.specs.declared.Board.{Board}
+use Rattle.board.specs.State.{sound}
+use Rattle.course.specs.declared.Ran.{Ran}
+use Rattle.course.specs.declared.Walk.{Walk}
+use Rattle.course.specs.Text.{limitText, endText}
+use Rattle.course.specs.Run.{Course, course, allowed, Outcome, did, refused, ran, running}
+use Rattle.course.specs.Portions.{course-few}
+use Rattle.course.specs.Walk.{most, ready, Done, done, walk, further, onDone, tailDone}
+use Rattle.course.specs.Work.{Wrote, doneOf, same}
+use Rattle.course.proofs.Outcomes.{unrefused}
+
+-- a text that was written into a part of at least so many bytes
+pub written-of : {room k : ℕ} {t s o : List ℕ} → room ≤ length s → Wrote t s k o → written k o ≡ wrote room t s
+written-of {room} {k} {t} {s} h w = (λ i. written (w .long i) (w .text i)) ∙ sym (wrote-long room t s h)
+
+pub tail-over : {k : ℕ} {o : List ℕ} (w : Walk) (s : List ℕ) → 64 ≤ length s → w .over ≡ true → Wrote (endText (w .board)) s k o → written k o ≡ tailDone w s
+unfolding tailDone
+tail-over w s h e t = written-of h t ∙ sym (ap (λ (b : Bool). wrote 64 (pick b [] limitText ++ endText (w .board)) s) e)
+
+pub tail-on : {k : ℕ} {o : List ℕ} (w : Walk) (s : List ℕ) → 64 ≤ length s → w .over ≡ false → Wrote (limitText ++ endText (w .board)) s k o → written k o ≡ tailDone w s
+unfolding tailDone
+tail-on w s h e t = written-of h t ∙ sym (ap (λ (b : Bool). wrote 64 (pick b [] limitText ++ endText (w .board)) s) e)
+
+-- ---- a walk that is ready
+
+pub pick-yes : {A : Type 0} (x y : A) (b : Bool) → b ≡ true → pick b x y ≡ x
+pick-yes x y b e = rw e
+
+pub pick-no : {A : Type 0} (x y : A) (b : Bool) → b ≡ false → pick b x y ≡ y
+pick-no x y b e = rw e
+
+-- a run makes no more calls than its limit
+few-by : (x y : Bool) (limit : ℕ) (b : Board) (store out : List ℕ)
+    → pick (not x) (refused 102 b out) (pick (not y) (refused 103 b out) (ran (course (allowed limit out) store b) out)) .result .calls ≤ limit
+unfolding allowed
+few-by false y limit b store out = omega arith
+few-by true false limit b store out = omega arith
+few-by true true limit b store out = omega (arith, course-few store (min limit (length out / 12)) b, min-le-left limit (length out / 12))
+
+pub run-few : (limit : ℕ) (b : Board) (store out : List ℕ) {r : Ran} {last : List ℕ} → did r last ≡ running limit b store out → r .calls ≤ limit
+unfolding running
+run-few limit b store out q =
+    let c = ap (λ (x : Outcome). x .result .calls) q in
+    omega (arith, c, few-by (eqb (length store) 16384) (sound b) limit b store out)
+
+and-parts : (a b c : Bool) → a && b && c ≡ true → (a ≡ true) × (b ≡ true) × (c ≡ true)
+and-parts true true true e = (refl, refl, refl)
+and-parts true true false e = (refl, refl, e)
+and-parts true false c e = (refl, e, never e)
+  where
+    never : {A : Type 0} → false ≡ true → A
+    never e = let z : _≡_ {A = ℕ} 0 1 = cc in absurd (omega arith)
+and-parts false b c e = (e, never e, never e)
+  where
+    never : {A : Type 0} → false ≡ true → A
+    never e = let z : _≡_ {A = ℕ} 0 1 = cc in absurd (omega arith)
+
+module _ (w : Walk) (store out : List ℕ) where
+  abbrev onward : Done
+  onward = let c = course (allowed (most - w .calls) out) store (w .board) in done (further c (w .calls)) (c .text) store out
+
+  pub ready-parts : ready w store out ≡ true → (64 ≤ length out) × (length store ≡ 16384) × (sound (w .board) ≡ true)
+  unfolding ready
+  ready-parts e =
+      let p = and-parts (leb 64 (length out)) (eqb (length store) 16384) (sound (w .board)) e in
+      (leb-true 64 (length out) (p .0), eqb-true (length store) 16384 (p .1), p .2)
+
+  -- ---- a run that goes on
+
+  pub on-over : w .over ≡ true → doneOf (same w) store out ≡ onDone w store out
+  unfolding onDone
+  on-over o = sym (pick-no onward (done w [] store out) (not (w .over) && ready w store out) (rw o))
+
+  pub on-unready : w .over ≡ false → ready w store out ≡ false → doneOf (same w) store out ≡ onDone w store out
+  unfolding onDone
+  on-unready o e = sym (pick-no onward (done w [] store out) (not (w .over) && ready w store out) (λ i. not (o i) && e i))
+
+  went-on : w .over ≡ false → ready w store out ≡ true → onDone w store out ≡ onward
+  unfolding onDone
+  went-on o e = pick-yes onward (done w [] store out) (not (w .over) && ready w store out) (λ i. not (o i) && e i)
+
+  pub on-made : w .over ≡ false → ready w store out ≡ true → {r : Ran} {last : List ℕ}
+      → did r last ≡ running (most - w .calls) (w .board) store out
+      → doneOf (record { walk = walk (r .board) (w .calls + r .calls) (r .over); len = r .len }) store last ≡ onDone w store out
+  on-made o e {r} {last} q =
+      let p = ready-parts e in
+      ap made (q ∙ unrefused (most - w .calls) (w .board) store out (p .1) (p .2)) ∙ sym (went-on o e)
+    where
+      made : Outcome → Done
+      made x = doneOf (record { walk = walk (x .result .board) (w .calls + x .result .calls) (x .result .over); len = x .result .len }) store (x .out)

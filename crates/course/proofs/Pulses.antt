@@ -1,0 +1,74 @@
+-- The loop over the pulses of a movement. Assumes nothing.
+use Prim.Native.Nat.{ℕ, zero, suc, _+_, _-_, _*_, _<_, _≤_}
+use mathlib.Core.Path.{_≡_, refl, ap, sym, _∙_}
+use mathlib.Core.Bool.{Bool, true, false}
+use mathlib.Core.List.{List, [], _∷_, _++_}
+use native.Mathlib.Omega.{arith}
+use borrow.Rule.Slice.PartMut.{putMid}
+use lib.ListN.{length, take, drop, length-drop, length-append}
+use Rattle.count.specs.Text.{decimal, digits}
+use Rattle.count.specs.Digits.{decimal-more, decimal-long}
+use Rattle.count.specs.Lists.{rest}
+use Rattle.motion.specs.declared.Counters.{Counters}
+use Rattle.motion.specs.declared.Move.{Move}
+use Rattle.motion.specs.declared.Signs.{Signs}
+use Rattle.motion.specs.declared.Stepped.{Stepped}
+use Rattle.motion.specs.declared.Next.{Next}
+use Rattle.motion.specs.declared.Next.the-variants as next
+use Rattle.motion.specs.Next.{nextOf}
+use Rattle.course.specs.Text.{pulseText}
+use Rattle.course.specs.Work.{Wrote}
+use Rattle.course.specs.Machine.{Way, stays, way, Left}
+use Rattle.course.specs.Glide.{Gone, here, glides, glideOn, glideSaid, gliding}
+use Rattle.course.proofs.Loop.{Part, one-part, Kept, kept-first, kept-last, kept-part}
+
+-- ---- a line of a pulse has at most twelve bytes
+
+digits-five : (v : ℕ) → v ≤ 65535 → length (digits v) ≤ 5
+unfolding digits
+digits-five v h =
+    rw (sym (decimal-more 8 v (omega arith)), sym (decimal-more 7 v (omega arith)), sym (decimal-more 6 v (omega arith)), sym (decimal-more 5 v (omega arith)), sym (decimal-more 4 v (omega arith)))
+    (decimal-long 5 v)
+
+pub pulse-short : (s : Signs) (v : ℕ) → v ≤ 65535 → length (pulseText s v) ≤ 12
+unfolding pulseText
+pulse-short s v h = let l = length-append (digits v) (10 ∷ []) in omega (arith, digits-five v h)
+
+-- the rest of the buffer from a place has its length
+pub behind-long : (at : ℕ) (out : List ℕ) → length (take (length out - at) (drop at out)) ≡ length out - at
+behind-long at out = rw (rest, length-drop)
+
+abbrev pub GKept : ℕ → Move → Counters → List ℕ → ℕ → Move → Counters → List ℕ → ℕ → Type 0
+GKept limit m₀ at₀ out₀ n m at out k = Kept glides glideOn glideSaid limit (here m₀ at₀) out₀ n (here m at) out k
+
+module _ (m : Move) (at : Counters) where
+  pub over : {x : Next} → x ≡ nextOf m at → x ≡ next.Over → glides (here m at) ≡ false
+  unfolding glides
+  over e p = rw (← e, p)
+
+  pub made : {s : Stepped} → nextOf m at ≡ next.Made s → glides (here m at) ≡ true
+  unfolding glides
+  made e = rw e
+
+  part : (k : ℕ) (s : Stepped) → nextOf m at ≡ next.Made s → 0 < k
+      → Part glides glideOn glideSaid k (here m at) (record { state = here (s .rest) (s .at); calls = 1; text = pulseText (s .signs) (s .speed) })
+  part k s e h = rw e at (one-part glides glideOn glideSaid k (here m at) h (made e))
+
+module _ (limit : ℕ) (m₀ : Move) (at₀ : Counters) (out₀ : List ℕ) (n : ℕ) (m : Move) (at : Counters) (out : List ℕ) (k : ℕ) (i : GKept limit m₀ at₀ out₀ n m at out k) where
+  pub last : way glides glideOn glideSaid (limit - n) (here m at) ≡ stays (here m at)
+      → _≡_ {A = Left Gone} (record { state = here m at; calls = n; len = k; out = out }) (gliding limit m₀ at₀ out₀)
+  last p = kept-last glides glideOn glideSaid limit (here m₀ at₀) out₀ n (here m at) out k i p
+
+  -- there is room for another line
+  pub room : n < limit → 12 * limit ≤ length out₀ → 12 ≤ length out - k
+  room h l = omega (arith, i .short, i .long)
+
+  pub turn : {x : Next} (s : Stepped) (ys : List ℕ) (j : ℕ) → x ≡ nextOf m at → x ≡ next.Made s → n < limit → 12 * limit ≤ length out₀ → s .speed ≤ 65535
+      → Wrote (pulseText (s .signs) (s .speed)) (take (length out - k) (drop k out)) j ys
+      → GKept limit m₀ at₀ out₀ (n + 1) (s .rest) (s .at) (putMid k (length out - k) out ys) (k + j)
+  turn s ys j e p h l v w =
+      let r = room h l in
+      let t = pulse-short (s .signs) (s .speed) v in
+      kept-part glides glideOn glideSaid limit (here m₀ at₀) out₀ n (here m at) out k i
+      (record { state = here (s .rest) (s .at); calls = 1; text = pulseText (s .signs) (s .speed) })
+      (part m at (limit - n) s (sym e ∙ p) (omega arith)) (omega arith) ys j w (omega arith) (omega arith)

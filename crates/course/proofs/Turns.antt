@@ -1,0 +1,92 @@
+-- One turn of the run's loop: a clock call, and the pulses that follow it. Assumes nothing.
+use Prim.Native.Nat.{ℕ, zero, suc, _+_, _-_, _*_, _<_, _≤_}
+use mathlib.Core.Path.{_≡_, refl, ap, sym, _∙_}
+use mathlib.Core.Bool.{Bool, true, false}
+use mathlib.Core.List.{List, [], _∷_, _++_}
+use native.Mathlib.Omega.{arith}
+use borrow.Rule.Slice.PartMut.{putMid}
+use lib.ListN.{length, take, drop}
+use Rattle.motion.specs.Next.{nextOf}
+use Rattle.motion.specs.declared.Counters.{Counters}
+use Rattle.motion.specs.declared.Move.{Move}
+use Rattle.record.specs.Places.{fetchOf}
+use Rattle.engine.specs.declared.Engine.{Engine}
+use Rattle.engine.specs.declared.Told.{Told}
+use Rattle.engine.specs.declared.Job.{Job}
+use Rattle.engine.specs.declared.Job.the-variants as job
+use Rattle.engine.specs.State.{glidedBy, glided}
+use Rattle.engine.specs.Tick.{ticked, runsOf}
+use Rattle.course.specs.declared.Went.{Went}
+use Rattle.course.specs.declared.Glided.{Glided}
+use Rattle.course.specs.Text.{answerText}
+use Rattle.course.specs.Work.{Wrote}
+use Rattle.course.specs.Machine.{Way, stays, way, Left, leaves}
+use Rattle.course.specs.Glide as G
+use Rattle.course.specs.Glide.{Gone, here, glides, glideOn, glideSaid}
+use Rattle.course.specs.Going.{tickNext, tickSaid, goWay, inDirect, inMoving, glideJob, wentOf, glide-joins, glide-few}
+use Rattle.course.proofs.Loop.{Part, one-part, Kept, kept-part}
+
+abbrev pub RKept : List ℕ → ℕ → Engine → List ℕ → ℕ → Engine → List ℕ → ℕ → Type 0
+RKept store limit e₀ out₀ n e out at = Kept runsOf (tickNext store) (tickSaid store) limit e₀ out₀ n e out at
+
+abbrev pub from : ℕ → List ℕ → List ℕ
+from at out = take (length out - at) (drop at out)
+
+module _ (store : List ℕ) (limit : ℕ) (e₀ : Engine) (out₀ : List ℕ) (l : 12 * limit ≤ length out₀) where
+  -- a clock call
+  pub turned : (n : ℕ) (e : Engine) (out : List ℕ) (at : ℕ) → RKept store limit e₀ out₀ n e out at
+      → (t : Told) (ys : List ℕ) (m : ℕ) → t ≡ ticked nextOf (fetchOf (e .held) store) e → n < limit → runsOf e ≡ true
+      → Wrote (answerText (t .answer)) (from at out) m ys → m ≤ 12
+      → RKept store limit e₀ out₀ (n + 1) (t .engine) (putMid at (length out - at) out ys) (at + m)
+  turned n e out at k t ys m p h g w f =
+      let j : Part runsOf (tickNext store) (tickSaid store) (limit - n) e (record { state = t .engine; calls = 1; text = answerText (t .answer) }) =
+      rw p (one-part runsOf (tickNext store) (tickSaid store) (limit - n) e (omega arith) g) in
+      kept-part runsOf (tickNext store) (tickSaid store) limit e₀ out₀ n e out at k
+      (record { state = t .engine; calls = 1; text = answerText (t .answer) }) j (omega arith) ys m w
+      (omega (arith, w .long)) (omega (arith, w .long, k .short, k .long))
+
+  -- the pulses behind it
+  pub gone : (n : ℕ) (e : Engine) (out : List ℕ) (at : ℕ) → RKept store limit e₀ out₀ n e out at
+      → (w : Went) (ys : List ℕ) → wentOf w ys ≡ leaves (glideJob (e .run .job) (limit - n) e) (from at out) → w .len ≤ 12 * w .calls
+      → RKept store limit e₀ out₀ (n + w .calls) (w .engine) (putMid at (length out - at) out ys) (at + w .len)
+  gone n e out at k w ys q f =
+      let g : Way Engine = glideJob (e .run .job) (limit - n) e in
+      let es : w .engine ≡ g .state = ap (λ (x : Left Engine). x .state) q in
+      let ec : w .calls ≡ g .calls = ap (λ (x : Left Engine). x .calls) q in
+      let el : w .len ≡ length (g .text) = ap (λ (x : Left Engine). x .len) q in
+      let eo : ys ≡ g .text ++ drop (length (g .text)) (from at out) = ap (λ (x : Left Engine). x .out) q in
+      let c : g .calls ≤ limit - n = glide-few (e .run .job) (limit - n) e in
+      let s : length (g .text) ≤ 12 * g .calls = omega (arith, f, ec, el) in
+      rw (es, ec)
+      (kept-part runsOf (tickNext store) (tickSaid store) limit e₀ out₀ n e out at k g (glide-joins store (limit - n) e (e .run .job) refl) c ys (w .len)
+      (record { long = el; text = eo }) s (omega (arith, s, c, k .short, k .long, k .few)))
+
+-- ---- what the code of `glide_on` has
+
+module _ (e : Engine) (limit : ℕ) (out : List ℕ) where
+  pub stays-left : (j : Job) {w : Went} → e .run .job ≡ j → glideJob j limit e ≡ stays e → w ≡ record { engine = e; calls = 0; len = 0 }
+      → (wentOf w out ≡ leaves (glideJob (e .run .job) limit e) out) × (w .len ≤ 12 * w .calls)
+  stays-left j p h q =
+      (ap (λ (x : Went). wentOf x out) q ∙ sym (ap (λ (i : Job). leaves (glideJob i limit e) out) p ∙ ap (λ (x : Way Engine). leaves x out) h), rw q (omega arith))
+
+  abbrev mapLeft : (Gone → Engine) → Left Gone → Left Engine
+  mapLeft f x = record { state = f (x .state); calls = x .calls; len = x .len; out = x .out }
+
+  module _ {m : Move} {g : Glided} {d : Engine} {last : List ℕ} (q : G.glided g last ≡ G.gliding limit m (e .at) out) where
+    pub direct-left : e .run .job ≡ job.Direct m → d ≡ glided (g .at) (g .rest) e
+        → _≡_ {A = Left Engine} (record { state = d; calls = g .calls; len = g .len; out = last }) (leaves (glideJob (e .run .job) limit e) out)
+    unfolding glideJob glided
+    direct-left p r =
+        (λ i. record { state = r i; calls = g .calls; len = g .len; out = last })
+        ∙ (λ i. record { state = glidedBy (p i) (g .at) (g .rest) e; calls = g .calls; len = g .len; out = last })
+        ∙ ap (λ (x : Left Gone). mapLeft (inDirect e) x) q
+        ∙ sym (ap (λ (j : Job). leaves (glideJob j limit e) out) p)
+
+    pub moving-left : e .run .job ≡ job.Moving m → d ≡ glided (g .at) (g .rest) e
+        → _≡_ {A = Left Engine} (record { state = d; calls = g .calls; len = g .len; out = last }) (leaves (glideJob (e .run .job) limit e) out)
+    unfolding glideJob glided
+    moving-left p r =
+        (λ i. record { state = r i; calls = g .calls; len = g .len; out = last })
+        ∙ (λ i. record { state = glidedBy (p i) (g .at) (g .rest) e; calls = g .calls; len = g .len; out = last })
+        ∙ ap (λ (x : Left Gone). mapLeft (inMoving e) x) q
+        ∙ sym (ap (λ (j : Job). leaves (glideJob j limit e) out) p)

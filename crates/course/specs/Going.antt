@@ -1,0 +1,117 @@
+-- The run of an engine as a machine, and how far a movement's pulses go in it: the rule of the code. `Boards.antt` joins it to the
+-- clock calls that 01 speaks of. Assumes nothing.
+use Prim.Native.Nat.{ℕ, zero, suc, _+_, _-_, _≤_}
+use mathlib.Core.Path.{_≡_, refl, ap, sym, _∙_}
+use mathlib.Core.Bool.{Bool, true, false}
+use mathlib.Core.List.{List, []}
+use native.Mathlib.Omega.{arith}
+use Rattle.motion.specs.declared.Counters.{Counters}
+use Rattle.motion.specs.declared.Move.{Move}
+use Rattle.motion.specs.declared.Next.{Next}
+use Rattle.motion.specs.declared.Next.the-variants as next
+use Rattle.motion.specs.Phase.{movedAll}
+use Rattle.motion.specs.Next.{nextOf}
+use Rattle.record.specs.Places.{fetchOf}
+use Rattle.engine.specs.declared.Engine.{Engine}
+use Rattle.engine.specs.declared.Job.{Job}
+use Rattle.engine.specs.declared.Job.the-variants as job
+use Rattle.engine.specs.State.{withAt, withJob, glided}
+use Rattle.engine.specs.Tick.{ticked, runsOf, directly, movingOn}
+use Rattle.engine.specs.Work.{next-moved}
+use Rattle.course.specs.declared.Went.{Went}
+use Rattle.course.specs.Text.{answerText}
+use Rattle.course.specs.Machine.{Way, stays, then, way, few, inner, then-none, Left, leaves}
+use Rattle.course.specs.Glide.{Gone, here, glides, glideOn, glideSaid, madeBy, goneBy, saidBy}
+
+abbrev pub tickNext : List ℕ → Engine → Engine
+tickNext store e = ticked nextOf (fetchOf (e .held) store) e .engine
+
+abbrev pub tickSaid : List ℕ → Engine → List ℕ
+tickSaid store e = answerText (ticked nextOf (fetchOf (e .held) store) e .answer)
+
+-- clock calls while something runs
+abbrev pub goWay : List ℕ → ℕ → Engine → Way Engine
+goWay store = way runsOf (tickNext store) (tickSaid store)
+
+abbrev pub inDirect : Engine → Gone → Engine
+inDirect e g = withJob (withAt e (g .at)) (job.Direct (g .rest))
+
+abbrev pub inMoving : Engine → Gone → Engine
+inMoving e g = withJob (withAt e (g .at)) (job.Moving (g .rest))
+
+abbrev pub mapWay : {S T : Type 0} → (T → S) → Way T → Way S
+mapWay f w = record { state = f (w .state); calls = w .calls; text = w .text }
+
+-- the pulses of what is under way, if it is a movement
+unfoldable pub glideJob : Job → ℕ → Engine → Way Engine
+glideJob job.Idle k e = stays e
+glideJob job.Storing k e = stays e
+glideJob (job.Direct m) k e = mapWay (inDirect e) (way glides glideOn glideSaid k (here m (e .at)))
+glideJob job.Ready k e = stays e
+glideJob (job.Moving m) k e = mapWay (inMoving e) (way glides glideOn glideSaid k (here m (e .at)))
+glideJob (job.Delay q) k e = stays e
+glideJob (job.Wait c t) k e = stays e
+
+abbrev pub wentOf : Went → List ℕ → Left Engine
+wentOf r out = record { state = r .engine; calls = r .calls; len = r .len; out = out }
+
+-- ---- a pulse of the movement is a clock call of the engine that holds it
+
+abbrev Same : List ℕ → (Gone → Engine) → Gone → Type 0
+Same store put t = (runsOf (put t) ≡ true) × (tickNext store (put t) ≡ put (glideOn t)) × (tickSaid store (put t) ≡ glideSaid t)
+
+module _ (store : List ℕ) (e : Engine) (t : Gone) where
+  direct-by : (x : Next) → nextOf (t .rest) (t .at) ≡ x → madeBy x ≡ true
+      → (directly x (inDirect e t) .engine ≡ inDirect e (goneBy x t)) × (answerText (directly x (inDirect e t) .answer) ≡ saidBy x)
+  direct-by (next.Made s) p q = (ap (λ (c : Counters). inDirect e (here (s .rest) c)) (sym (next-moved (t .rest) (t .at) s refl p)), refl)
+  direct-by next.Over p q = let z : _≡_ {A = ℕ} 0 1 = cc in absurd (omega arith)
+
+  moving-by : (x : Next) → nextOf (t .rest) (t .at) ≡ x → madeBy x ≡ true
+      → (movingOn nextOf (fetchOf (e .held) store) x (inMoving e t) .engine ≡ inMoving e (goneBy x t)) × (answerText (movingOn nextOf (fetchOf (e .held) store) x (inMoving e t) .answer) ≡ saidBy x)
+  moving-by (next.Made s) p q = (ap (λ (c : Counters). inMoving e (here (s .rest) c)) (sym (next-moved (t .rest) (t .at) s refl p)), refl)
+  moving-by next.Over p q = let z : _≡_ {A = ℕ} 0 1 = cc in absurd (omega arith)
+
+  same-direct : glides t ≡ true → Same store (inDirect e) t
+  unfolding glides ticked runsOf
+  same-direct p = let d = direct-by (nextOf (t .rest) (t .at)) refl p in (refl, d .0, d .1)
+
+  same-moving : glides t ≡ true → Same store (inMoving e) t
+  unfolding glides ticked runsOf
+  same-moving p = let d = moving-by (nextOf (t .rest) (t .at)) refl p in (refl, d .0, d .1)
+
+-- ---- so the pulses are a part of the run
+
+abbrev pub Joins : List ℕ → ℕ → Engine → Way Engine → Type 0
+Joins store k e g = goWay store k e ≡ then (g .calls) (g .text) (goWay store (k - g .calls) (g .state))
+
+none-joins : (store : List ℕ) (k : ℕ) (e : Engine) → Joins store k e (stays e)
+none-joins store k e =
+    let p : k - 0 ≡ k = omega arith in
+    rw p (then-none (goWay store k e))
+
+same-job : (e : Engine) (j : Job) → e .run .job ≡ j → withJob (withAt e (e .at)) j ≡ e
+same-job e j p = λ i. withJob (withAt e (e .at)) (sym p i)
+
+pub glide-joins : (store : List ℕ) (k : ℕ) (e : Engine) (j : Job) → e .run .job ≡ j → Joins store k e (glideJob j k e)
+unfolding glideJob
+glide-joins store k e job.Idle p = none-joins store k e
+glide-joins store k e job.Storing p = none-joins store k e
+glide-joins store k e (job.Direct m) p =
+    ap (λ d. goWay store k d) (sym (same-job e (job.Direct m) p))
+    ∙ inner runsOf (tickNext store) (tickSaid store) glides glideOn glideSaid (inDirect e) (λ t. same-direct store e t) k (here m (e .at))
+glide-joins store k e job.Ready p = none-joins store k e
+glide-joins store k e (job.Moving m) p =
+    ap (λ d. goWay store k d) (sym (same-job e (job.Moving m) p))
+    ∙ inner runsOf (tickNext store) (tickSaid store) glides glideOn glideSaid (inMoving e) (λ t. same-moving store e t) k (here m (e .at))
+glide-joins store k e (job.Delay q) p = none-joins store k e
+glide-joins store k e (job.Wait c t) p = none-joins store k e
+
+pub glide-few : (j : Job) (k : ℕ) (e : Engine) → glideJob j k e .calls ≤ k
+unfolding glideJob
+glide-few job.Idle k e = omega arith
+glide-few job.Storing k e = omega arith
+glide-few (job.Direct m) k e = few glides glideOn glideSaid k (here m (e .at))
+glide-few job.Ready k e = omega arith
+glide-few (job.Moving m) k e = few glides glideOn glideSaid k (here m (e .at))
+glide-few (job.Delay q) k e = omega arith
+glide-few (job.Wait c t) k e = omega arith

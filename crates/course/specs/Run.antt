@@ -1,0 +1,67 @@
+-- A run: clock calls one after the other until the board is idle, storing, stopped or waiting, at most so many (01, "walk", sentence 2).
+use Prim.Native.Nat.{ℕ, zero, suc, _+_, _/_, min}
+use mathlib.Core.Bool.{Bool, true, false, not, _&&_}
+use mathlib.Core.List.{List, [], _++_}
+use lib.Dec.{eqb}
+use lib.ListN.{length, drop}
+use Rattle.count.specs.Pick.{pick}
+use Rattle.engine.specs.Tick.{runsOf}
+use Rattle.board.specs.declared.Board.{Board}
+use Rattle.board.specs.declared.Ticked.{Ticked}
+use Rattle.board.specs.State.{sound}
+use Rattle.board.specs.Calls.{clocking}
+use Rattle.course.specs.declared.Ran.{Ran}
+use Rattle.course.specs.Text.{answerText}
+
+-- something runs and does not stand stopped
+unfoldable pub runsNow : Board → Bool
+runsNow b = runsOf (b .engine) && not (b .standing)
+
+-- the board after a run, its clock calls and its text
+pub record Course : Type 0 where
+  pub board : Board
+  pub calls : ℕ
+  pub text : List ℕ
+
+abbrev pub rests : Board → Course
+rests b = record { board = b; calls = 0; text = [] }
+
+-- one clock call with its text, then a run
+abbrev pub then : List ℕ → Course → Course
+then t c = record { board = c .board; calls = 1 + c .calls; text = t ++ c .text }
+
+-- at most k clock calls
+unfoldable pub course : ℕ → List ℕ → Board → Course
+course zero store b = rests b
+course (suc k) store b =
+    (elim (runsNow b) [
+      | true ↦ then (answerText (clocking b store .answer)) (course k store (clocking b store .board))
+      | false ↦ rests b
+    ])
+
+-- ---- the call `run`: the definition's steps up to the limit and to a twelfth of the buffer, since no line is longer than 12 bytes.
+-- Where it stops never depends on the text.
+
+unfoldable pub allowed : ℕ → List ℕ → ℕ
+allowed limit out = min limit (length out / 12)
+
+-- the result and the buffer afterwards
+pub record Outcome : Type 0 where
+  pub result : Ran
+  pub out : List ℕ
+
+abbrev pub did : Ran → List ℕ → Outcome
+did r out = record { result = r; out = out }
+
+abbrev pub refused : ℕ → Board → List ℕ → Outcome
+refused n b out = did (record { board = b; calls = 0; over = not (runsNow b); len = 0; refusal = n }) out
+
+abbrev pub ran : Course → List ℕ → Outcome
+ran c out =
+    did (record { board = c .board; calls = c .calls; over = not (runsNow (c .board)); len = length (c .text); refusal = 0 })
+    (c .text ++ drop (length (c .text)) out)
+
+unfoldable pub running : ℕ → Board → List ℕ → List ℕ → Outcome
+running limit b store out =
+    pick (not (eqb (length store) 16384)) (refused 102 b out)
+    (pick (not (sound b)) (refused 103 b out) (ran (course (allowed limit out) store b) out))

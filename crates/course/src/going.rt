@@ -1,0 +1,93 @@
+// Clock calls one after the other on an engine; the pulses of a movement go round on movement and counters alone.
+ghost use mathlib.Core.Path.{_≡_};
+ghost use Prim.Native.Nat.{_≤_, _*_};
+ghost use lib.ListN.{length};
+ghost use Rattle.course.specs.Machine.{leaves};
+ghost use Rattle.course.specs.Going.{wentOf, glideJob, goWay};
+use super::Went;
+use super::glide::glide;
+use super::text::put_answer;
+use engine::Engine;
+use engine::Job;
+
+fn stay(engine: Engine) -> Went
+    ensures { λ r. ⌜ r ≡ record { engine = engine; calls = 0; len = 0 } ⌝ }
+{
+    Went {
+        engine,
+        calls: 0,
+        len: 0,
+    }
+}
+
+// The pulses of what is under way, if it is a movement.
+fn glide_on(e: Engine, limit: u32, out: &mut [u8]) -> Went
+    requires { ⌜ 12 * limit ≤ length (now out) ⌝ }
+    ensures { λ r. ⌜ (wentOf r (now (out .exit)) ≡ leaves (glideJob (e .run .job) limit e) (now (out .entry))) × (r .len ≤ 12 * r .calls) ⌝ }
+{
+    let run = e.run;
+    let at = e.at;
+    let job = run.job;
+    match job {
+        Job::Idle => stay(e),
+        Job::Storing => stay(e),
+        Job::Direct(m) => {
+            let g = glide(m, at, limit, out);
+            let rest = g.rest;
+            let there = g.at;
+            Went {
+                engine: e.glide(there, rest),
+                calls: g.calls,
+                len: g.len,
+            }
+        }
+        Job::Ready => stay(e),
+        Job::Moving(m) => {
+            let g = glide(m, at, limit, out);
+            let rest = g.rest;
+            let there = g.at;
+            Went {
+                engine: e.glide(there, rest),
+                calls: g.calls,
+                len: g.len,
+            }
+        }
+        Job::Delay(_) => stay(e),
+        Job::Wait(_, _) => stay(e),
+    }
+}
+
+// At most so many clock calls, with twelve bytes of room for each.
+pub(crate) fn go(start: Engine, store: &[u8], limit: u32, out: &mut [u8]) -> Went
+    requires { ⌜ 12 * limit ≤ length (now out) ⌝ }
+    ensures { λ r. ⌜ wentOf r (now (out .exit)) ≡ leaves (goWay (now (store .entry)) limit start) (now (out .entry)) ⌝ }
+{
+    let mut e = start;
+    let mut n: u32 = 0;
+    let mut at = 0;
+    while n < limit {
+        if !e.runs() {
+            return Went {
+                engine: e,
+                calls: n,
+                len: at,
+            };
+        }
+        let t = e.tick(store);
+        let answer = t.answer;
+        let next = t.engine;
+        let k = put_answer(&mut out[at..], answer);
+        let mid = at + k;
+        let done = n + 1;
+        let w = glide_on(next, limit - done, &mut out[mid..]);
+        let last = w.engine;
+        e = last;
+        at = mid + w.len;
+        n = done + w.calls;
+    }
+    Went {
+        engine: e,
+        calls: n,
+        len: at,
+    }
+}

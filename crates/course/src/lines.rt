@@ -1,0 +1,90 @@
+// The lines that `walk` prints besides its answers: the first, a reply, the limit and the end.
+ghost use mathlib.Core.Path.{_≡_};
+ghost use mathlib.Core.List.{[], _∷_, _++_};
+ghost use Prim.Native.Nat.{_+_, _≤_};
+ghost use lib.ListN.{length, take, drop};
+ghost use Rattle.count.specs.Numbers.{value};
+ghost use Rattle.count.specs.Text.{shown};
+ghost use Rattle.course.specs.Text.{headText, limitText, positionsText, replyText};
+ghost use Rattle.course.specs.Work.{Wrote};
+use motion::Counters;
+
+// One byte.
+fn put_one(out: &mut [u8], b: u8) -> usize
+    requires { ⌜ 1 ≤ length (now out) ⌝ }
+    ensures { λ r. ⌜ Wrote (b ∷ []) (now (out .entry)) r (now (out .exit)) × (r ≡ 1) ⌝ }
+{
+    out[0] = b;
+    1
+}
+
+// The first line: five bytes.
+pub(crate) fn put_head(out: &mut [u8]) -> usize
+    requires { ⌜ 64 ≤ length (now out) ⌝ }
+    ensures { λ r. ⌜ Wrote headText (now (out .entry)) r (now (out .exit)) ⌝ }
+{
+    out[0] = 119;
+    out[1] = 97;
+    out[2] = 108;
+    out[3] = 107;
+    out[4] = 10;
+    5
+}
+
+// The limit's line: nine bytes.
+pub(crate) fn put_limit(out: &mut [u8]) -> usize
+    requires { ⌜ 64 ≤ length (now out) ⌝ }
+    ensures { λ r. ⌜ Wrote limitText (now (out .entry)) r (now (out .exit)) × (r ≡ 9) ⌝ }
+{
+    out[0] = 76;
+    out[1] = 32;
+    out[2] = 49;
+    out[3] = 48;
+    out[4] = 48;
+    out[5] = 48;
+    out[6] = 48;
+    out[7] = 48;
+    out[8] = 10;
+    9
+}
+
+// A space and a position: at most twelve bytes.
+fn put_field(out: &mut [u8], c: u32) -> usize
+    requires { ⌜ 12 ≤ length (now out) ⌝ }
+    ensures { λ r. ⌜ Wrote (32 ∷ shown (value c)) (now (out .entry)) r (now (out .exit)) × (r ≤ 12) ⌝ }
+{
+    let k = count::put_count(&mut out[1..], c);
+    out[0] = 32;
+    k + 1
+}
+
+// `E` and the three positions: at most thirty-eight bytes.
+pub(crate) fn put_end(out: &mut [u8], at: Counters) -> usize
+    requires { ⌜ 38 ≤ length (now out) ⌝ }
+    ensures { λ r. ⌜ Wrote (positionsText at) (now (out .entry)) r (now (out .exit)) × (r ≤ 38) ⌝ }
+{
+    let e = put_one(&mut *out, 69);
+    let x = put_field(&mut out[e..], at.x);
+    let p = e + x;
+    let y = put_field(&mut out[p..], at.y);
+    let q = p + y;
+    let z = put_field(&mut out[q..], at.z);
+    let r = q + z;
+    let f = put_one(&mut out[r..], 10);
+    r + f
+}
+
+// `R` before a reply of so many bytes that stands at byte 2, and a line feed behind it; no reply prints nothing.
+pub(crate) fn put_reply(out: &mut [u8], n: usize) -> usize
+    requires { ⌜ n + 3 ≤ length (now out) ⌝ }
+    ensures { λ r. ⌜ Wrote (replyText (take n (drop 2 (now (out .entry))))) (now (out .entry)) r (now (out .exit)) ⌝ }
+{
+    if n == 0 {
+        return 0;
+    }
+    out[0] = 82;
+    out[1] = 32;
+    let e = n + 2;
+    out[e] = 10;
+    n + 3
+}

@@ -1,0 +1,107 @@
+-- `engine::Engine::perform` meets its contract. Assumes nothing.
+use borrow.Author.Tests.{ne-eqb}
+use native.Mathlib.Omega.{arith}
+use Rattle.engine.specs.Tick.{performed}
+use borrow.Author.Needs.{needs}
+use Rattle.engine.proofs.Engine.perform.Statement.{statement}
+use Rattle.engine.proofs.Engine.perform.Tie as tie
+
+array-read-w : tie.Need-array-read-w
+array-read-w c = search needs
+
+travel-requires : tie.Need-travel-requires
+travel-requires c κs = search needs
+
+travel-requires-2 : tie.Need-travel-requires-2
+travel-requires-2 c κs = search needs
+
+origin-at-requires : tie.Need-origin-at-requires
+origin-at-requires c κs = search needs
+
+on-to-requires : tie.Need-on-to-requires
+on-to-requires c κs = rw (c .origin-at .ensures) (c .before .before .before .pre .0)
+
+tell-requires : tie.Need-tell-requires
+tell-requires c κs = search needs
+
+set-three-requires : tie.Need-set-three-requires
+set-three-requires c κs = search needs
+
+on-to-requires-2 : tie.Need-on-to-requires-2
+on-to-requires-2 c κs = rw (c .set-three .ensures) (c .before .before .before .pre .0)
+
+tell-requires-2 : tie.Need-tell-requires-2
+tell-requires-2 c κs = search needs
+
+cast-delay : tie.Need-cast-delay
+cast-delay c = omega (arith, c .before .before .pre .1 .pauses (c .match .keys5))
+
+delay-requires : tie.Need-delay-requires
+delay-requires c κs = search needs
+
+on-to-requires-3 : tie.Need-on-to-requires-3
+on-to-requires-3 c κs = search needs
+
+cast-t24 : tie.Need-cast-t24
+cast-t24 c = omega (arith, c .before .before .before .pre .1 .sent (c .before .match .keys6))
+
+tell-requires-3 : tie.Need-tell-requires-3
+tell-requires-3 c κs = search needs
+
+lead-requires : tie.Need-lead-requires
+lead-requires c κs = search needs
+
+returns : tie.Need-returns
+unfolding performed
+returns c = simp (c .before .match .keys1, c .travel .ensures)
+
+returns-2 : tie.Need-returns-2
+unfolding performed
+returns-2 c = simp (c .before .match .keys2, c .travel2 .ensures)
+
+returns-3 : tie.Need-returns-3
+unfolding performed
+returns-3 c = simp (c .before .before .before .match .keys3, c .before .before .origin-at .ensures, c .before .on-to .ensures, c .tell .ensures)
+
+returns-4 : tie.Need-returns-4
+unfolding performed
+returns-4 c = simp (c .before .before .before .match .keys4, c .before .before .set-three .ensures, c .before .on-to2 .ensures, c .tell2 .ensures)
+
+returns-5 : tie.Need-returns-5
+unfolding performed
+returns-5 c = simp (c .before .match .keys5, c .delay .ensures)
+
+returns-6 : tie.Need-returns-6
+unfolding performed
+returns-6 c = simp (c .before .before .match .keys6, c .before .on-to3 .ensures, c .tell3 .ensures)
+
+returns-7 : tie.Need-returns-7
+unfolding performed
+returns-7 c = simp (ne-eqb _ _ (c .before .match .rest .1), ne-eqb _ _ (c .before .match .rest .0 .1), ne-eqb _ _ (c .before .match .rest .0 .0 .1), ne-eqb _ _ (c .before .match .rest .0 .0 .0 .1), ne-eqb _ _ (c .before .match .rest .0 .0 .0 .0 .1), ne-eqb _ _ (c .before .match .rest .0 .0 .0 .0 .0 .1)) (c .lead .ensures)
+
+pub perform-spec : {M : Type 1} → statement M
+perform-spec =
+    tie.close
+    (tie.spec
+    array-read-w
+    travel-requires
+    travel-requires-2
+    origin-at-requires
+    on-to-requires
+    tell-requires
+    set-three-requires
+    on-to-requires-2
+    tell-requires-2
+    cast-delay
+    delay-requires
+    on-to-requires-3
+    cast-t24
+    tell-requires-3
+    lead-requires
+    returns
+    returns-2
+    returns-3
+    returns-4
+    returns-5
+    returns-6
+    returns-7)

@@ -1,0 +1,170 @@
+-- The engine's state and what lines and control codes do to it (01, "Lines", table of lines; "Running a program", last paragraph).
+use Prim.Native.Nat.{ℕ, _/_, _%_}
+use mathlib.Core.Bool.{Bool, false}
+use mathlib.Core.List.{List, [], _∷_}
+use lib.Dec.{eqb}
+use lib.IntN.{pos}
+use Rattle.count.specs.Pick.{pick}
+use Rattle.count.specs.Paper.{Paper, says}
+use Rattle.count.specs.Numbers.{half}
+use Rattle.motion.specs.declared.Counters.{Counters}
+use Rattle.motion.specs.declared.Move.{Move}
+use Rattle.motion.specs.declared.Planned.{Planned}
+use Rattle.motion.specs.declared.Planned.the-variants as planned
+use Rattle.motion.specs.Phase.{signValue}
+use Rattle.motion.specs.Plan.{asked, planOf}
+use Rattle.motion.specs.Next.{leftOf}
+use Rattle.record.specs.declared.Held.{Held}
+use Rattle.program.specs.declared.Loops.{Loops}
+use Rattle.program.specs.Onward.{noLoops}
+use Rattle.engine.specs.declared.Answer.{Answer}
+use Rattle.engine.specs.declared.Answer.the-variants as answer
+use Rattle.engine.specs.declared.Job.{Job}
+use Rattle.engine.specs.declared.Job.the-variants as job
+use Rattle.engine.specs.declared.Run.{Run}
+use Rattle.engine.specs.declared.Engine.{Engine}
+use Rattle.engine.specs.declared.Begun.{Begun}
+
+-- ---- the answer on paper: 1 a pulse with its signs and speed, 2 a pause, 3 a byte to send, 4 a record done, 5 nothing
+
+abbrev pub paper : Answer → Paper
+paper (answer.Pulse s v) = says 1 (signValue (s .x) ∷ signValue (s .y) ∷ signValue (s .z) ∷ pos v ∷ [])
+paper answer.Pause = says 2 []
+paper (answer.Send b) = says 3 (pos b ∷ [])
+paper answer.Done = says 4 []
+paper answer.Nothing = says 5 []
+
+-- ---- one field made anew, the others kept
+
+abbrev pub withAt : Engine → Counters → Engine
+withAt e c = record { axes = e .axes; at = c; origin = e .origin; three = e .three; output = e .output; held = e .held; run = e .run }
+
+abbrev pub withOrigin : Engine → Counters → Engine
+withOrigin e c = record { axes = e .axes; at = e .at; origin = c; three = e .three; output = e .output; held = e .held; run = e .run }
+
+abbrev pub withThree : Engine → Bool → Engine
+withThree e b = record { axes = e .axes; at = e .at; origin = e .origin; three = b; output = e .output; held = e .held; run = e .run }
+
+abbrev pub withOutput : Engine → ℕ → Engine
+withOutput e v = record { axes = e .axes; at = e .at; origin = e .origin; three = e .three; output = v; held = e .held; run = e .run }
+
+abbrev pub withHeld : Engine → Held → Engine
+withHeld e h = record { axes = e .axes; at = e .at; origin = e .origin; three = e .three; output = e .output; held = h; run = e .run }
+
+abbrev pub withRun : Engine → Run → Engine
+withRun e r = record { axes = e .axes; at = e .at; origin = e .origin; three = e .three; output = e .output; held = e .held; run = r }
+
+abbrev pub running : Job → ℕ → Loops → Run
+running j place loops = record { job = j; place = place; loops = loops }
+
+abbrev pub withJob : Engine → Job → Engine
+withJob e j = withRun e (running j (e .run .place) (e .run .loops))
+
+-- ---- axes
+
+-- the counters of three axes at 0
+abbrev pub zeroes : Counters
+zeroes = record { x = half; y = half; z = half }
+
+-- x, y and z are 1, 2 and 4 of an axes number
+abbrev pub names : ℕ → ℕ → Bool
+names axes part = eqb (axes / part % 2) 1
+
+-- the counters of the axes named taken from one, the others from another
+unfoldable pub mixed : ℕ → Counters → Counters → Counters
+mixed axes c d = record { x = pick (names axes 1) (c .x) (d .x); y = pick (names axes 2) (c .y) (d .y); z = pick (names axes 4) (c .z) (d .z) }
+
+-- setting axes: positions and origins 0, 2.5D on
+abbrev pub axesOf : ℕ → Engine → Engine
+axesOf axes e = record { axes = axes; at = zeroes; origin = zeroes; three = false; output = e .output; held = e .held; run = e .run }
+
+-- n: origin := position; N: position and origin := 0
+abbrev pub originOf : ℕ → Engine → Engine
+originOf axes e = withOrigin e (mixed axes (e .at) (e .origin))
+
+abbrev pub zeroOf : ℕ → Engine → Engine
+zeroOf axes e = withOrigin (withAt e (mixed axes zeroes (e .at))) (mixed axes zeroes (e .origin))
+
+-- ---- the run and the store's part in use
+
+-- nothing runs: place 0, no loop open
+abbrev pub idle : Run
+idle = running job.Idle 0 noLoops
+
+abbrev pub ceased : Engine → Engine
+ceased e = withRun e idle
+
+-- a start is at place 0 with no loop open
+abbrev pub started : Engine → Engine
+started e = withRun e (running job.Ready 0 noLoops)
+
+-- a movement further on: the counters, and what is left of the movement that is under way
+abbrev pub glidedBy : Job → Counters → Move → Engine → Engine
+glidedBy (job.Direct m) at rest e = withJob (withAt e at) (job.Direct rest)
+glidedBy (job.Moving m) at rest e = withJob (withAt e at) (job.Moving rest)
+glidedBy job.Idle at rest e = e
+glidedBy job.Storing at rest e = e
+glidedBy job.Ready at rest e = e
+glidedBy (job.Delay q) at rest e = e
+glidedBy (job.Wait c t) at rest e = e
+
+unfoldable pub glided : Counters → Move → Engine → Engine
+glided at rest e = glidedBy (e .run .job) at rest e
+
+-- emptying the store sets its used length, records and axes to 0 and leaves its bytes
+abbrev pub nothingHeld : Held
+nothingHeld = record { used = 0; records = 0; axes = 0 }
+
+abbrev pub emptied : Engine → Engine
+emptied e = withHeld e nothingHeld
+
+-- a fresh board's engine: a reset one with an emptied store
+abbrev pub fresh : Engine
+fresh = record { axes = 0; at = zeroes; origin = zeroes; three = false; output = 0; held = nothingHeld; run = idle }
+
+-- storing begins with an emptied store, under the axes set
+abbrev pub storingOf : Engine → Engine
+storingOf e = withRun (withHeld e (record { used = 0; records = 0; axes = e .axes })) (running job.Storing 0 noLoops)
+
+-- reset: axes, positions, origins, outputs and run cleared, 2.5D; the store is kept, but one being written is emptied
+abbrev pub keptBy : Job → Held → Held
+keptBy job.Storing h = nothingHeld
+keptBy job.Idle h = h
+keptBy (job.Direct m) h = h
+keptBy job.Ready h = h
+keptBy (job.Moving m) h = h
+keptBy (job.Delay q) h = h
+keptBy (job.Wait c t) h = h
+
+unfoldable pub resetOf : Engine → Engine
+resetOf e = record { axes = 0; at = zeroes; origin = zeroes; three = false; output = 0; held = keptBy (e .run .job) (e .held); run = idle }
+
+-- ---- a byte at a wait: equal to the character it jumps to the target, any other goes on to the next record
+
+abbrev pub heardBy : Job → ℕ → Engine → Engine
+heardBy (job.Wait c t) b e = pick (eqb b c) (withRun e (running job.Ready t (e .run .loops))) (withJob e job.Ready)
+heardBy job.Idle b e = e
+heardBy job.Storing b e = e
+heardBy (job.Direct m) b e = e
+heardBy job.Ready b e = e
+heardBy (job.Moving m) b e = e
+heardBy (job.Delay q) b e = e
+
+unfoldable pub heard : ℕ → Engine → Engine
+heard b e = heardBy (e .run .job) b e
+
+-- ---- a direct movement: reply 9; reply 0 if it has no pulse; else it runs and replies nothing yet
+
+abbrev pub begun : ℕ → Engine → Begun
+begun reply e = record { engine = e; reply = reply }
+
+-- a movement without a pulse left
+abbrev pub noPulse : Move → Bool
+noPulse m = eqb (leftOf m) 0
+
+abbrev pub begunBy : Planned → Engine → Begun
+begunBy (planned.Going m) e = pick (noPulse m) (begun 48 e) (begun 0 (withJob e (job.Direct m)))
+begunBy planned.Outside e = begun 57 e
+
+unfoldable pub beginOf : Bool → List ℕ → Engine → Begun
+beginOf absolute words e = begunBy (planOf (asked (e .axes) (e .three) (e .at) (e .origin) absolute words)) e

@@ -1,0 +1,61 @@
+// What runs: the state of axes, store and run, and one clock call on it. It knows no line, no stop and no standing.
+mod records;
+mod sound;
+mod state;
+mod tick;
+
+use motion::Counters;
+use motion::Move;
+use motion::Signs;
+use program::Loops;
+use record::Held;
+
+// What a clock call answers.
+pub enum Answer {
+    Pulse(Signs, u16),
+    Pause,
+    Send(u8),
+    Done,
+    Nothing,
+}
+
+// What is under way: nothing; storing; a direct movement; a program between records, in a movement, in a delay with so many pauses after
+// the next one, or waiting for a character with its target.
+pub enum Job {
+    Idle,
+    Storing,
+    Direct(Move),
+    Ready,
+    Moving(Move),
+    Delay(u16),
+    Wait(u8, u16),
+}
+
+// A run: the job, the next record's place and the open loops.
+pub struct Run {
+    pub job: Job,
+    pub place: u16,
+    pub loops: Loops,
+}
+
+pub struct Engine {
+    pub axes: u8,
+    pub at: Counters,
+    pub origin: Counters,
+    pub three: bool,
+    pub output: u8,
+    pub held: Held,
+    pub run: Run,
+}
+
+// The engine after a clock call, and the answer.
+pub struct Told {
+    pub engine: Engine,
+    pub answer: Answer,
+}
+
+// The engine after a direct movement's line, and its reply: 9, 0 for one without a pulse, or none (0) for one that runs.
+pub struct Begun {
+    pub engine: Engine,
+    pub reply: u8,
+}

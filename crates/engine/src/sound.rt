@@ -1,0 +1,51 @@
+// What 103 asks of an engine.
+ghost use mathlib.Core.Path.{_≡_};
+ghost use Rattle.motion.specs.Sound.{counted};
+ghost use Rattle.engine.specs.Sound.{axesKnown, jobSound, soundOf};
+use super::Engine;
+use super::Job;
+use motion::Counters;
+
+fn is_counted(c: Counters) -> bool
+    ensures { λ r. ⌜ r ≡ counted c ⌝ }
+{
+    count::in_range(c.x) & count::in_range(c.y) & count::in_range(c.z)
+}
+
+// Axes or store axes: 0, 1, 3 or 7.
+fn is_known(axes: u8) -> bool
+    ensures { λ r. ⌜ r ≡ axesKnown axes ⌝ }
+{
+    (axes == 0) | (axes == 1) | (axes == 3) | (axes == 7)
+}
+
+// Whether a movement under way is one that 103 lets pass.
+fn is_sound(job: Job, at: Counters) -> bool
+    ensures { λ r. ⌜ r ≡ jobSound job at ⌝ }
+{
+    match job {
+        Job::Idle => true,
+        Job::Storing => true,
+        Job::Direct(m) => m.sound(at),
+        Job::Ready => true,
+        Job::Moving(m) => m.sound(at),
+        Job::Delay(_) => true,
+        Job::Wait(_, _) => true,
+    }
+}
+
+impl Engine {
+    pub fn sound(self) -> bool
+        ensures { λ r. ⌜ r ≡ soundOf self ⌝ }
+    {
+        let at = self.at;
+        let held = self.held;
+        let run = self.run;
+        let job = run.job;
+        let loops = run.loops;
+        let points = is_counted(at) & is_counted(self.origin);
+        let axes = is_known(self.axes) & is_known(held.axes);
+        let used = (held.used <= 16384) & (held.records <= 1000);
+        points & axes & used & (loops.depth <= 7) & is_sound(job, at)
+    }
+}

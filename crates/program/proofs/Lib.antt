@@ -1,0 +1,5 @@
+pub mod Walks
+pub mod Steps
+pub mod Gather
+pub mod Only
+pub mod Examples

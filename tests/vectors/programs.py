@@ -1,0 +1,345 @@
+#!/usr/bin/env python3
+"""Programs for the check at `9` and for runs (01, "Running a program", paragraph 2), worked out apart from the code.
+
+    python3 tests/vectors/programs.py            writes crates/program_checks/stdin and crates/program_checks/stdout
+    python3 tests/vectors/programs.py --check    compares them with what it would write
+
+A program of stdin is a line `used records axes bytes`, in hexadecimal digits, and a line of the store's bytes. A line of stdout is the
+verdict: 0, a letter and a place, or G where the store is not readable. A readable store's line goes on with a colon and the places
+of the first 40 records that a run makes, then E at the end place, or G where the run ends with G. Of the waits of a run the first
+hears another character, the second its own, and so on.
+
+Every rule is taken from 01's sentences by brute force: a range is the set of its places, and every pair of ranges and every place is
+looked at.
+"""
+import os
+import sys
+
+ROOT = os.path.dirname(os.path.dirname(os.path.dirname(os.path.abspath(__file__))))
+FOLDER = os.path.join(ROOT, "crates", "program_checks")
+
+# ---- records: (code, numbers)
+
+NEEDS = {1: 2, 3: 4, 7: 8}
+
+
+def within(low, number, high):
+    return low <= number <= high
+
+
+def right(axes, code, numbers):
+    """A record is right in code, count, ranges and speeds, for the store's axes."""
+    if code in "0m":
+        if axes not in NEEDS or len(numbers) != NEEDS[axes]:
+            return False
+        distances, speeds = numbers[0::2], numbers[1::2]
+        if not all(within(-8388608, d, 8388607) for d in distances):
+            return False
+        if code == "m" and axes == 7 and distances[3] != 0:
+            return False
+        return all(within(30, v, 10000) for v in speeds)
+    if code == "n":
+        return len(numbers) == 1 and within(1, numbers[0], 7) and numbers[0] & ~axes == 0
+    if code == "z":
+        return len(numbers) == 1 and within(0, numbers[0], 1)
+    if code == "5":
+        return len(numbers) == 1 and within(0, numbers[0], 65535)
+    if code == "1":
+        return len(numbers) == 1 and within(33, numbers[0], 126)
+    if code == "2":
+        return len(numbers) == 2 and within(33, numbers[0], 126) and within(-32768, numbers[1], 32767)
+    if code == "3":
+        if len(numbers) != 2:
+            return False
+        number, offset = numbers
+        if number == 0:
+            return within(-32768, offset, 32767)
+        return within(1, number, 32767) and within(-32768, offset, -1)
+    return False
+
+
+def encoded(records):
+    out = b""
+    for code, numbers in records:
+        out += bytes([0xD7, 0x2B, ord(code), len(numbers)])
+        for number in numbers:
+            out += (number % 2**32).to_bytes(4, "little")
+    return out
+
+
+def decoded(axes, count, data):
+    """The records of the part in use, or None if it is not exactly that many, each right."""
+    records, at = [], 0
+    for _ in range(count):
+        if data[at : at + 2] != b"\xd7\x2b" or len(data) < at + 4:
+            return None
+        code, size = chr(data[at + 2]), data[at + 3]
+        body = data[at + 4 : at + 4 + 4 * size]
+        if len(body) != 4 * size:
+            return None
+        numbers = [int.from_bytes(body[k : k + 4], "little", signed=True) for k in range(0, 4 * size, 4)]
+        if not right(axes, code, numbers):
+            return None
+        records.append((code, numbers))
+        at += 4 + 4 * size
+    return records if at == len(data) else None
+
+
+# ---- the check at `9`
+
+
+def verdict(records):
+    """0, or the letter and the place of the first fault."""
+    end = len(records)
+    ranges = {}
+    for i, (code, numbers) in enumerate(records):
+        if code == "3" and numbers[0] != 0:
+            ranges[i] = frozenset(range(i + numbers[1], i + 1))
+
+    def target(p):
+        code, numbers = records[p]
+        if code == "2" or (code == "3" and numbers[0] == 0):
+            return p + numbers[1]
+        return None
+
+    def holders(p):
+        return {i for i, held in ranges.items() if p in held}
+
+    for p in range(end):
+        to = target(p)
+        if to is not None and not within(0, to, end):
+            return "a %d" % p
+        if p in ranges and min(ranges[p]) < 0:
+            return "b %d" % p
+        if p in ranges:
+            for i in ranges:
+                mine, other = ranges[p], ranges[i]
+                if i < p and mine & other and not mine <= other and not other <= mine:
+                    return "c %d" % p
+        if len(holders(p)) > 7:
+            return "d %d" % p
+        if to is not None and holders(p) != holders(to):
+            return "e %d" % p
+    return "0"
+
+
+# ---- a run
+
+
+def trace(records, most=40):
+    end, place, open_loops, heard, out = len(records), 0, [], False, []
+    for _ in range(most):
+        if place == end:
+            out.append("E")
+            break
+        out.append(str(place))
+        code, numbers = records[place]
+        if code not in "23":
+            place += 1
+            continue
+        to = place + numbers[1]
+        if not within(0, to, end):
+            out.append("G")
+            break
+        if code == "2":
+            place, heard = (to if heard else place + 1), not heard
+        elif numbers[0] == 0:
+            place = to
+        elif open_loops and open_loops[-1][0] == place:
+            if open_loops[-1][1] == 0:
+                open_loops.pop()
+                place += 1
+            else:
+                open_loops[-1][1] -= 1
+                place = to
+        elif len(open_loops) == 7:
+            out.append("G")
+            break
+        else:
+            open_loops.append([place, numbers[0] - 1])
+            place = to
+    return " ".join(out)
+
+
+# ---- the programs
+
+CASES = []
+
+
+def case(records, axes=7, used=None, count=None, spoil=None, pad=b""):
+    """A store of these records; `spoil` sets bytes, and `used` and `count` may lie."""
+    data = bytearray(encoded(records))
+    for at, byte in (spoil or {}).items():
+        data[at] = byte
+    used = len(data) if used is None else used
+    count = len(records) if count is None else count
+    data += pad
+    found = decoded(axes, count, bytes(data[:used]))
+    line = "G"
+    if found is not None:
+        line = (verdict(found) if count <= 1000 else "G") + ": " + trace(found)
+    CASES.append(("%04x %04x %02x %04x" % (used, count, axes, len(data)), bytes(data).hex(), line))
+
+
+def loop(number, offset):
+    return ("3", [number, offset])
+
+
+def jump(offset):
+    return ("3", [0, offset])
+
+
+def wait(offset, character=65):
+    return ("2", [character, offset])
+
+
+X = ("z", [1])
+SEND = ("1", [65])
+DELAY = ("5", [3])
+MOVE1 = ("0", [10, 600])
+MOVE3 = ("m", [10, 600, -5, 900])
+MOVE7 = ("0", [1, 600, 2, 600, 3, 600, 4, 600])
+
+
+def faults_at_their_edges():
+    # a: targets at place 0, at the end place and one past each
+    for make in (jump, wait):
+        case([make(0)])
+        case([make(1)])
+        case([make(2)])
+        case([make(-1)])
+        case([X, make(-1)])
+        case([X, make(-2)])
+        case([X, make(1)])
+        case([X, make(2)])
+        case([make(2), X])
+        case([make(3), X])
+        case([X, X, make(-32768)])
+        case([X, X, make(32767)])
+    # b: a range starts at 0 and one below
+    case([X, loop(2, -1)])
+    case([loop(2, -1)])
+    case([X, loop(2, -2)])
+    case([X, X, X, loop(1, -3)])
+    case([X, X, X, loop(1, -4)])
+    case([X, loop(32767, -32768)])
+    # c: ranges that touch, overlap, nest, with equal starts
+    case([X, loop(25, -1), loop(2, -1)])
+    case([X, loop(25, -1), X, loop(2, -1)])
+    case([X, X, loop(2, -1), loop(2, -2)])
+    case([X, X, loop(2, -1), loop(2, -3)])
+    case([X, loop(1, -1), loop(1, -2)])
+    case([X, loop(1, -1), loop(1, -2), loop(1, -3)])
+    case([X, X, X, loop(1, -2), loop(1, -2)])
+    case([X, X, X, loop(1, -3), loop(1, -2)])
+    case([X, X, loop(1, -2), X, loop(1, -3)])
+    case([X, X, loop(1, -1), X, loop(1, -3)])
+    # d: six, seven, eight and nine ranges over one place
+    for depth in (6, 7, 8, 9):
+        case([X] + [loop(1, -k) for k in range(1, depth + 1)])
+    case([X] * 7 + [loop(1, -2 * k) for k in range(1, 8)])
+    case([X] * 8 + [loop(1, -2 * k) for k in range(1, 9)])
+    # e: into, out of, within, to the start, to the loop's own record, to the end
+    for make in (jump, wait):
+        case([make(1), X, loop(1, -1)])
+        case([make(2), X, loop(1, -1)])
+        case([make(3), X, loop(1, -1)])
+        case([X, make(1), loop(1, -2)])
+        case([X, make(2), loop(1, -2)])
+        case([X, make(-1), loop(1, -2)])
+        case([X, make(-1), loop(1, -1)])
+        case([X, X, make(1), loop(1, -2), X])
+        case([X, X, make(2), loop(1, -2), X])
+        case([X, X, loop(1, -1), make(-1)])
+        case([X, X, loop(1, -1), make(-2)])
+        case([X, make(2), loop(1, -1), loop(1, -3)])
+        case([make(1), make(2), loop(1, -1), loop(1, -3)])
+        case([X, X, make(0), loop(3, -1)])
+    # several faults: the smallest place, and at one place the earlier letter
+    case([jump(9), loop(1, -9)])
+    case([loop(1, -9), jump(9)])
+    case([X, loop(1, -1), loop(1, -1), jump(9)])
+    case([X, jump(5), loop(1, -2)])
+    case([X] + [loop(1, -k) for k in range(1, 9)] + [jump(9)])
+    case([jump(1)] + [loop(1, -k) for k in range(1, 9)])
+
+
+def runs():
+    case([])
+    case([X, loop(25, -1)])
+    case([X, loop(1, -1), SEND])
+    # a loop entered twice by falling through: the inner one runs anew in each pass of the outer
+    case([X, loop(2, -1), X, loop(1, -3)])
+    case([X, loop(1, -1), loop(2, -2)])
+    case([X, X, loop(1, -1), loop(1, -2), loop(1, -4)])
+    case([X, loop(1, -1), loop(1, -2), loop(1, -3), loop(1, -4), loop(1, -5), loop(1, -6), loop(1, -7)])
+    case([jump(5), X, X, X, X, SEND])
+    case([wait(2), SEND, wait(-2), SEND, wait(-4)])
+    case([X, wait(-1), loop(3, -2), SEND])
+    case([jump(2), jump(0), jump(-1)])
+    case([DELAY, MOVE7, SEND, loop(3, -3)])
+    # an eighth loop opens in a run of a program that the check refuses
+    case([X] + [loop(1, -k) for k in range(1, 10)])
+
+
+def stores():
+    base = [X, loop(2, -1), jump(1), SEND]
+    for at, byte in ((0, 0xD6), (1, 0x2C), (2, 57), (3, 2), (3, 0), (8, 0xD6), (10, 52), (11, 3), (12, 0), (19, 0x7F)):
+        case(base, spoil={at: byte})
+    whole = len(encoded(base))
+    case(base, used=whole - 1)
+    case(base, used=whole + 1, pad=b"\0")
+    case(base, used=whole, pad=b"\xd7\x2b")
+    case(base, count=3)
+    case(base, count=5)
+    case(base, count=0)
+    case([], used=1, pad=b"\0")
+    for number, offset in ((32767, -1), (32768, -1), (1, 0), (1, -32768), (1, -32769), (-1, -1), (0, 32767), (0, 32768), (0, -32769)):
+        case([X, loop(number, offset)])
+    for character, offset in ((33, 0), (32, 0), (126, 0), (127, 0), (65, 32768), (65, -32769)):
+        case([wait(offset, character)])
+    for axes in (0, 1, 2, 3, 7, 8):
+        case([MOVE1], axes=axes)
+        case([MOVE3], axes=axes)
+        case([X, jump(-1)], axes=axes)
+    case([("n", [4])], axes=3)
+    case([("n", [3])], axes=3)
+    # numbers that hold the bytes of a mark
+    case([("5", [0x2BD7]), loop(1, -1), ("5", [0xD7]), jump(0x2B - 0x2B)])
+
+
+def full():
+    # 1,000 records: 124 times seven nested loops with a record in front, then jumps to the end
+    block = [X] + [loop(1, -k) for k in range(1, 8)]
+    tail = [jump(1000 - p) for p in range(992, 1000)]
+    case(block * 124 + tail)
+    case(block * 124 + tail[:-1] + [jump(2)])
+    case([jump(1)] * 1000)
+    case([jump(1)] * 1001)
+
+
+def main():
+    faults_at_their_edges()
+    runs()
+    stores()
+    full()
+    made = {
+        "stdin": "".join("%s\n%s\n" % (head, data) for head, data, _ in CASES),
+        "stdout": "".join("%s\n" % line for _, _, line in CASES),
+    }
+    bad = False
+    for name, text in made.items():
+        path = os.path.join(FOLDER, name)
+        if sys.argv[1:] == ["--check"]:
+            same = os.path.exists(path) and open(path, encoding="ascii", newline="").read() == text
+            bad = bad or not same
+            print("%s: %s" % (name, "as committed" if same else "DIFFERS"))
+        else:
+            with open(path, "w", encoding="ascii", newline="") as out:
+                out.write(text)
+    print("%d programs" % len(CASES))
+    sys.exit(1 if bad else 0)
+
+
+if __name__ == "__main__":
+    main()

@@ -1,0 +1,542 @@
+#!/usr/bin/env python3
+"""Writes crates/engine_ticks/stdin and stdout: steps on an engine, and every answer of its clock calls by 01's sentences.
+
+An independent model: signed numbers, quotients, lists of pulses made beforehand, a stack of open loops; it knows neither counts nor
+words nor the code's jobs. Run in the root of the repository: `python3 tests/vectors/ticks.py` writes both files, `--check` compares.
+"""
+import sys
+
+LOW, HIGH = -8388608, 8388607
+CODES = {ord(c): c for c in "0mnz3512"}
+
+
+# ---- records
+
+def pairs(axes):
+    return {1: 1, 3: 2, 7: 4}.get(axes, 0)
+
+
+def right(axes, code, numbers):
+    """Whether a record is right under the axes: code, count, ranges and speeds."""
+    c = CODES.get(code)
+    if c is None:
+        return False
+    if c in "0m":
+        n = pairs(axes)
+        if n == 0 or len(numbers) != 2 * n:
+            return False
+        ways, speeds = numbers[0::2], numbers[1::2]
+        if c == "m" and n == 4 and ways[3] != 0:
+            return False
+        return all(LOW <= d <= HIGH for d in ways) and all(30 <= v <= 10000 for v in speeds)
+    if len(numbers) != (2 if c in "32" else 1):
+        return False
+    a = numbers[0]
+    if c == "n":
+        return 1 <= a <= min(7, axes)
+    if c == "z":
+        return a in (0, 1)
+    if c == "5":
+        return 0 <= a <= 65535
+    if c == "1":
+        return 33 <= a <= 126
+    offset = numbers[1]
+    if c == "2":
+        return 33 <= a <= 126 and -32768 <= offset <= 32767
+    if a == 0:
+        return -32768 <= offset <= 32767
+    return 1 <= a <= 32767 and -32768 <= offset <= -1
+
+
+def encoded(code, numbers):
+    out = [0xD7, 0x2B, code, len(numbers)]
+    for n in numbers:
+        out += [(n >> (8 * i)) & 255 for i in range(4)]
+    return out
+
+
+# ---- movement
+
+def pulses(axes, three, absolute, at, origin, numbers):
+    """Every pulse of a movement as (signs, speed), or None where a resting point lies outside 24 bits."""
+    numbers = list(numbers) + [0] * (8 - len(numbers))
+    ways, speeds = numbers[0::2], numbers[1::2]
+    used = {1: 1, 3: 2, 7: 3}[axes]
+    goal = list(at)
+    for i in range(used):
+        goal[i] = (origin[i] if absolute else at[i]) + ways[i]
+    distance = [g - p for g, p in zip(goal, at)]
+    z2 = ways[3] if axes == 7 and not three and not absolute else 0
+    if any(not LOW <= p <= HIGH for p in goal + [goal[2] + z2]):
+        return None
+    if three:
+        phases = [(distance, speeds[0])]
+    else:
+        first = speeds[1] if abs(distance[1]) > abs(distance[0]) else speeds[0]
+        phases = [([distance[0], distance[1], 0], first), ([0, 0, distance[2]], speeds[2]), ([0, 0, z2], speeds[3])]
+    out = []
+    for ds, v in phases:
+        n = max(abs(d) for d in ds)
+        for k in range(1, n + 1):
+            made = [[(2 * j * abs(d) + n) // (2 * n) for j in (k - 1, k)] for d in ds]
+            out.append(([(b - a) * (1 if d > 0 else -1) for (a, b), d in zip(made, ds)], v))
+    return out
+
+
+# ---- the engine
+
+class Engine:
+    def __init__(self, axes, store):
+        self.store = store
+        self.axes, self.at, self.origin, self.three = axes, [0, 0, 0], [0, 0, 0], False
+        self.used, self.records, self.held = 0, 0, 0
+        self.stop()
+
+    def stop(self):
+        self.mode, self.left, self.pauses, self.place, self.loops, self.wait = "idle", [], 0, 0, [], None
+
+    def runs(self):
+        return self.mode in ("direct", "program") and self.wait is None
+
+    def sound(self):
+        return self.used <= 16384 and self.records <= 1000 and len(self.loops) <= 7 and self.axes in (0, 1, 3, 7) and self.held in (0, 1, 3, 7)
+
+    def fetch(self):
+        """The record at the place, from the front, every record passed right; None where it can't be reached and read."""
+        part, at = self.store[:min(self.used, len(self.store))], 0
+        for i in range(self.place + 1):
+            head = part[at:at + 4]
+            if len(head) < 4 or head[:2] != [0xD7, 0x2B] or head[3] > 8 or at + 4 + 4 * head[3] > len(part):
+                return None
+            numbers = []
+            for j in range(head[3]):
+                n = int.from_bytes(bytes(part[at + 4 + 4 * j:at + 8 + 4 * j]), "little")
+                numbers.append(n - (1 << 32) if n >> 31 else n)
+            if not right(self.held, head[2], numbers):
+                return None
+            at += 4 + 4 * head[3]
+        return CODES[head[2]], numbers
+
+    def ends(self, byte):
+        self.stop()
+        if byte == ord("G"):
+            self.used = self.records = self.held = 0
+        return f"S {byte}"
+
+    def pulse(self):
+        signs, speed = self.left.pop(0)
+        self.at = [p + s for p, s in zip(self.at, signs)]
+        return "P " + "".join("-.+"[s + 1] for s in signs) + f" {speed}"
+
+    def call(self):
+        if not self.runs():
+            return "N"
+        if self.left:
+            return self.pulse()
+        if self.mode == "direct":
+            return self.ends(ord("0"))
+        if self.pauses:
+            self.pauses -= 1
+            return "W"
+        if self.place > self.records:
+            return self.ends(ord("G"))
+        if self.place == self.records:
+            return self.ends(ord("0"))
+        found = self.fetch()
+        return self.ends(ord("G")) if found is None else self.record(*found)
+
+    def record(self, code, numbers):
+        own = self.place
+        a = numbers[0]
+        if code in "32":
+            return self.turn(code, own, a, own + numbers[1])
+        if code in "0m":
+            left = pulses(self.held, self.three, code == "m", self.at, self.origin, numbers)
+            if left is None:
+                return self.ends(ord("9"))
+            self.place += 1
+            self.left = left
+            return self.pulse() if left else "D"
+        self.place += 1
+        if code == "n":
+            self.origin = [p if a >> i & 1 else o for i, (p, o) in enumerate(zip(self.at, self.origin))]
+        if code == "z":
+            self.three = a == 1
+        if code == "5" and a > 0:
+            self.pauses = a - 1
+            return "W"
+        return f"S {a}" if code == "1" else "D"
+
+    def turn(self, code, own, number, target):
+        if not 0 <= target <= self.records:
+            return self.ends(ord("G"))
+        if code == "2":
+            self.place, self.wait = own + 1, (number, target)
+        elif number == 0:
+            self.place = target
+        elif self.loops and self.loops[-1][0] == own:
+            self.loops[-1][1] -= 1
+            if self.loops[-1][1] < 0:
+                self.loops.pop()
+                self.place = own + 1
+            else:
+                self.place = target
+        elif len(self.loops) >= 7:
+            return self.ends(ord("G"))
+        else:
+            self.loops.append([own, number - 1])
+            self.place = target
+        return "D"
+
+    def hear(self, byte):
+        if self.wait:
+            character, target = self.wait
+            self.place = target if byte == character else self.place
+            self.wait = None
+
+    def begin(self, absolute, numbers):
+        left = pulses(self.axes, self.three, absolute, self.at, self.origin, numbers)
+        if left is None:
+            return 57
+        if not left:
+            return 48
+        self.mode, self.left = "direct", left
+        return 0
+
+    def shown(self):
+        held = [self.used, self.records, self.held]
+        return "E " + " ".join(str(n) for n in self.at + self.origin + [int(self.three)] + held + [int(self.runs()), int(self.sound())])
+
+
+# ---- steps: each is a line of eleven numbers, and what it prints
+
+class Script:
+    def __init__(self):
+        self.store, self.lines, self.out = [0] * 16384, [], []
+        self.fresh(0)
+
+    def step(self, kind, *numbers):
+        self.lines.append(" ".join(str(n) for n in (kind, *numbers, *[0] * (10 - len(numbers)))))
+
+    def fresh(self, axes):
+        self.e = Engine(axes, self.store)
+        self.step(0, axes)
+
+    def keep(self, code, *numbers):
+        """A record stored as it stands, right or not."""
+        c, e = ord(code), self.e
+        b = encoded(c, numbers)
+        fits = e.records + 1 <= 1000 and e.used + len(b) <= 16384
+        if fits:
+            self.store[e.used:e.used + len(b)] = b
+            e.used, e.records = e.used + len(b), e.records + 1
+        self.step(2, c, len(numbers), *numbers)
+        self.out.append(f"K {int(fits)}")
+
+    def program(self, *records):
+        e = self.e
+        self.step(1)
+        e.stop()
+        e.mode, e.used, e.records, e.held = "storing", 0, 0, e.axes
+        for r in records:
+            self.keep(*r)
+        self.calls(1)
+        self.step(3)
+        e.stop()
+
+    def start(self):
+        self.step(4)
+        self.e.stop()
+        self.e.mode = "program"
+
+    def calls(self, n):
+        self.step(5, n)
+        self.out += [self.e.call() for _ in range(n)]
+
+    def hear(self, byte):
+        self.step(6, byte)
+        self.e.hear(byte)
+
+    def begin(self, absolute, *numbers):
+        self.step(7, absolute, 0, *numbers)
+        self.out.append(f"B {self.e.begin(absolute == 1, numbers)}")
+
+    def poke(self, at, byte):
+        self.step(8, at, byte)
+        self.store[at] = byte
+
+    def hold(self, used, records, axes):
+        self.step(9, used, records, axes)
+        self.e.used, self.e.records, self.e.held = used, records, axes
+
+    def stand(self, place, depth):
+        """The next place and the number of open loops altered; what is above the loops open is 0."""
+        self.step(10, place, depth)
+        e = self.e
+        e.place, e.loops = place, (e.loops + [[0, 0] for _ in range(depth)])[:depth]
+
+    def three(self, on):
+        self.step(11, on)
+        self.e.three = on == 1
+
+    def zero(self, axes):
+        self.step(12, axes)
+        e = self.e
+        e.at = [0 if axes >> i & 1 else p for i, p in enumerate(e.at)]
+        e.origin = [0 if axes >> i & 1 else p for i, p in enumerate(e.origin)]
+
+    def mark(self, axes):
+        self.step(13, axes)
+        e = self.e
+        e.origin = [p if axes >> i & 1 else o for i, (p, o) in enumerate(zip(e.at, e.origin))]
+
+    def reset(self):
+        self.step(14)
+        e = self.e
+        if e.mode == "storing":
+            e.used = e.records = e.held = 0
+        e.stop()
+        e.axes, e.at, e.origin, e.three = 0, [0, 0, 0], [0, 0, 0], False
+
+    def empty(self):
+        self.step(15)
+        self.e.used = self.e.records = self.e.held = 0
+
+    def cease(self):
+        self.step(3)
+        self.e.stop()
+
+    def show(self):
+        self.step(17)
+        self.out.append(self.e.shown())
+
+
+def directs(s):
+    s.fresh(3)
+    for numbers in ((3, 600, 1, 900), (4, 600, -2, 900), (0, 600, 0, 900), (-5, 600, 6, 31)):
+        s.begin(0, *numbers)
+        s.calls(8)
+        s.show()
+    s.mark(2)
+    s.begin(1, 2, 600, -1, 900)
+    s.calls(2)
+    s.cease()
+    s.calls(1)
+    s.show()
+    s.zero(1)
+    s.begin(0, HIGH, 600, 0, 600)
+    s.calls(2)
+    s.cease()
+    s.begin(0, HIGH, 600, 0, 600)
+    s.show()
+    s.fresh(7)
+    s.begin(0, 1, 600, 2, 700, -2, 800, 1, 900)
+    s.calls(7)
+    s.begin(1, 1, 600, 2, 700, 3, 800, 0, 900)
+    s.calls(6)
+    s.three(1)
+    s.begin(0, 1, 600, 2, 700, -3, 800, 5, 900)
+    s.calls(5)
+    s.show()
+    s.begin(0, 1, 600, 2, 700, -3, 800, 5, 900)
+    s.calls(3)
+    s.show()
+    s.reset()
+    s.show()
+
+
+def programs(s):
+    s.fresh(1)
+    s.program()
+    s.start()
+    s.calls(2)
+    s.show()
+    s.program(("0", 2, 600), ("5", 3), ("1", 65), ("5", 0), ("5", 1), ("0", 0, 600), ("n", 1), ("m", -1, 700), ("z", 1), ("1", 71))
+    s.start()
+    s.calls(17)
+    s.show()
+    s.start()
+    s.calls(3)
+    s.hear(65)
+    s.calls(1)
+    s.reset()
+    s.show()
+    # loops: 26 times; one inside another, entered anew each time; a jump
+    s.fresh(1)
+    s.program(("1", 33), ("3", 25, -1))
+    s.start()
+    s.calls(54)
+    s.program(("1", 33), ("1", 34), ("3", 2, -1), ("3", 1, -3))
+    s.start()
+    s.calls(18)
+    s.show()
+    s.program(("3", 0, 2), ("1", 33), ("1", 34), ("3", 0, 1))
+    s.start()
+    s.calls(5)
+    s.program(("3", 0, 2), ("1", 33))
+    s.start()
+    s.calls(3)
+    s.program(("3", 0, 5), ("1", 33), ("1", 34), ("1", 35), ("1", 36), ("1", 37))
+    s.start()
+    s.calls(4)
+    # waits
+    s.program(("2", 65, 2), ("1", 66), ("1", 67), ("2", 68, -2), ("1", 69))
+    s.start()
+    s.hear(65)
+    s.calls(3)
+    s.show()
+    s.hear(65)
+    s.hear(66)
+    s.calls(4)
+    s.hear(68)
+    s.calls(3)
+    s.hear(13)
+    s.calls(3)
+    s.show()
+    # 9 keeps the store, and the program starts again
+    s.program(("0", HIGH, 600), ("1", 33))
+    s.begin(0, 1, 600)
+    s.calls(2)
+    s.start()
+    s.calls(2)
+    s.show()
+    s.zero(1)
+    s.start()
+    s.calls(2)
+    s.cease()
+    s.show()
+    # the store's axes and its 3D, not the line's
+    s.fresh(7)
+    s.program(("0", 1, 600, -2, 700, 2, 800, 1, 900), ("z", 1), ("0", 1, 600, -2, 700, 2, 800, 1, 900), ("z", 0), ("m", 0, 600, 0, 700, 0, 800, 0, 900), ("n", 6))
+    s.start()
+    s.calls(16)
+    s.show()
+    s.fresh(3)
+    s.hold(60, 2, 7)
+    s.start()
+    s.calls(7)
+    s.show()
+
+
+def altered(s):
+    """What a host altered: mark, code, count, number, the part in use, place, targets, an eighth loop."""
+    good = (("1", 33), ("0", 1, 600), ("1", 34))
+    for at, byte in ((0, 0xD6), (1, 0x2A), (8, 0xD6), (9, 0), (10, 51), (11, 3), (11, 9), (12, 1), (15, 1), (16, 29), (20, 0), (23, 9), (24, 127)):
+        s.fresh(1)
+        s.program(*good)
+        s.poke(at, byte)
+        s.start()
+        s.calls(4)
+        s.show()
+    for used, records, axes in ((27, 3, 1), (8, 3, 1), (0, 3, 1), (28, 4, 1), (28, 2, 1), (28, 3, 3), (28, 3, 0), (28, 3, 7), (16385, 3, 1), (28, 1001, 1), (28, 3, 2), (65535, 65535, 1)):
+        s.fresh(1)
+        s.program(*good)
+        s.hold(used, records, axes)
+        s.start()
+        s.show()
+        s.calls(5)
+        s.show()
+    for place, depth in ((3, 0), (4, 0), (65535, 0), (2, 0), (2, 7), (1, 8), (1, 255)):
+        s.fresh(1)
+        s.program(*good)
+        s.start()
+        s.stand(place, depth)
+        s.show()
+        s.calls(3)
+        s.show()
+    for r in (("3", 0, 3), ("3", 0, 2), ("3", 0, -1), ("3", 0, -2), ("3", 1, -2), ("3", 2, -1), ("2", 65, 3), ("2", 65, -2), ("2", 65, 1), ("3", 32767, -32768), ("3", 1, 0), ("2", 32, 0)):
+        s.fresh(1)
+        s.program(("1", 33), r)
+        s.start()
+        s.calls(7)
+        s.hear(65)
+        s.calls(2)
+        s.show()
+    s.fresh(1)
+    s.program(("1", 33), *(("3", 1, -1 - k) for k in range(8)))
+    s.start()
+    s.calls(280)
+    s.show()
+    s.program(("1", 33), ("3", 1, -1))
+    s.start()
+    s.stand(0, 7)
+    s.calls(3)
+    s.show()
+    s.program(("1", 33), ("3", 1, -1))
+    s.empty()
+    s.start()
+    s.calls(2)
+    s.step(1)
+    s.e.stop()
+    s.e.mode, s.e.used, s.e.records, s.e.held = "storing", 0, 0, s.e.axes
+    s.keep("1", 33)
+    s.calls(1)
+    s.reset()
+    s.show()
+
+
+class Dice:
+    """A fixed row of numbers."""
+
+    def __init__(self, seed):
+        self.x = seed
+
+    def roll(self, n):
+        self.x = (self.x * 6364136223846793005 + 1442695040888963407) % (1 << 64)
+        return (self.x >> 33) % n
+
+
+def some_record(d, axes, i, n):
+    kind = d.roll(9)
+    if kind < 2:
+        ways = [0 if kind == 1 and j == 3 else d.roll(9) - 4 for j in range(pairs(axes))]
+        return ("0m"[kind], *(x for w in ways for x in (w, 30 + d.roll(900))))
+    if kind == 2:
+        return ("5", d.roll(4))
+    if kind == 3:
+        return ("1", 33 + d.roll(94))
+    if kind == 4:
+        return ("z", d.roll(2))
+    if kind == 5:
+        return ("n", 1 + d.roll(axes))
+    if kind == 6:
+        return ("3", 1 + d.roll(3), -1 - d.roll(max(1, i + (d.roll(6) == 0))))
+    if kind == 7:
+        return ("3", 0, d.roll(n + 1 + (d.roll(5) == 0)) - i)
+    return ("2", 65 + d.roll(2), d.roll(n + 1) - i)
+
+
+def mixed(s):
+    d = Dice(20050505)
+    for axes in (1, 3, 7) * 14:
+        s.fresh(axes)
+        n = 1 + d.roll(7)
+        s.program(*(some_record(d, axes, i, n) for i in range(n)))
+        s.start()
+        for _ in range(3):
+            s.calls(12 + d.roll(20))
+            s.hear(65 + d.roll(2))
+        s.show()
+
+
+def files():
+    s = Script()
+    for part in (directs, programs, altered, mixed):
+        part(s)
+    folder = "crates/engine_ticks/"
+    text = f"{len(s.lines)}\n" + "\n".join(s.lines) + "\n"
+    if len(text) > 65536:
+        sys.exit("more than the program reads")
+    return {folder + "stdin": text, folder + "stdout": "\n".join(s.out) + "\n"}
+
+
+def main():
+    for path, text in files().items():
+        if sys.argv[1:] == ["--check"]:
+            if open(path).read() != text:
+                sys.exit(f"{path} differs")
+        else:
+            open(path, "w").write(text)
+
+
+main()

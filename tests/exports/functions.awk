@@ -1,4 +1,5 @@
-# For each `pub fn` of a Rattle source file: crate, path below proofs/, how many `requires` and how many `ensures` it has.
+# For each `pub fn` of a Rattle source file: crate, path below proofs/ (a method's is its type's, whatever the module), how many
+# `requires` and how many `ensures` it has.
 BEGIN { prefix = module == "" ? "" : module "." }
 /^impl / { type = $2; sub(/[<{].*/, "", type) }
 /^}/ { type = "" }
@@ -12,6 +13,6 @@ BEGIN { prefix = module == "" ? "" : module "." }
 reading && /^ *requires/ { asks++ }
 reading && /^ *ensures/ { says++ }
 reading && (/^ *\{$/ || /^ *\{ .*\}$/ || /\) (-> .* )?\{/ ) {
-    print crate, prefix (type == "" ? "" : type ".") name, asks, says
+    print crate, (type == "" ? prefix : type ".") name, asks, says
     reading = 0
 }

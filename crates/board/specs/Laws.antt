@@ -114,7 +114,7 @@ module _ (byte : ℕ) (ports : List ℕ) (b : Board) (store : List ℕ) (h : sou
   pub reply-short : length (hearing byte ports b store .reply) ≤ 19
   reply-short = hearing-fair byte b store h ports .short
 
-  -- with buffers of the right lengths a byte is not refused, the next call finds a sound board, and the buffers keep their lengths
+  -- with buffers of the right lengths a byte is not refused
   pub never-refused : (reply : List ℕ) → 32 ≤ length reply → length store ≡ 16384 → receiving byte ports b reply store ≡ answered (hearing byte ports b store) reply
   unfolding receiving
   never-refused reply l m = rw (le-ltb (length reply) 32 l, eq-eqb (length store) 16384 m, h)

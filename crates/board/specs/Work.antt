@@ -1,5 +1,5 @@
 -- How the code goes: what a byte comes to before its reply is written, the first fault of a line in the code's order, and its effect.
--- The laws that join these to the definitions of `Direct`, `Storing` and `Receive` stand in `Joins`. Assumes nothing.
+-- The laws that join these to the definitions of `Direct`, `Storing`, `Receive` and `Calls` stand in `Obeys`, `Stores`, `Hears` and `Puts`.
 use Prim.Native.Nat.{ℕ, _%_}
 use mathlib.Core.Bool.{Bool, true, false, not, _&&_, _||_}
 use mathlib.Core.List.{List, [], _∷_, _++_}

@@ -1,0 +1,290 @@
+-- The demands as predicates over any machine (00, demands 1 and 2). The theorems in the files Keeps.. say that ours has them.
+use Prim.Native.Nat.{ℕ, zero, suc, _+_, _≤_, _<_}
+use mathlib.Core.Path.{_≡_}
+use mathlib.Core.Bool.{Bool, true, false, not, _&&_, _||_}
+use mathlib.Core.List.{List, [], _∷_}
+use lib.Dec.{eqb}
+use lib.IntN.{ℤ, pos, _+ℤ_}
+use lib.ListN.{length, getD, take, drop}
+use Rattle.count.specs.Pick.{pick}
+use Rattle.count.specs.Numbers.{value}
+use Rattle.count.specs.Paper.{Paper, says}
+use Rattle.motion.specs.declared.Counters.{Counters}
+use Rattle.line.specs.declared.Direct.{Direct}
+use Rattle.line.specs.Lines.{letterPaper, directOf}
+use Rattle.record.specs.declared.Held.{Held}
+use Rattle.record.specs.declared.Record.{Record}
+use Rattle.record.specs.Places.{recordsOf, inUse}
+use Rattle.record.specs.Places.Records.{are}
+use Rattle.record.specs.Listing.{listText}
+use Rattle.record.specs.Below.{Below}
+use Rattle.program.specs.Program.{accepted}
+use Rattle.engine.specs.declared.Job.{Job}
+use Rattle.engine.specs.declared.Job.the-variants as job
+use Rattle.engine.specs.State.{names, ceased, emptied}
+use Rattle.board.specs.declared.Board.{Board}
+use Rattle.board.specs.State.{board, noLine, textOf, lineDone}
+use Rattle.board.specs.Receive.{isStoring}
+use Rattle.course.specs.Run.{runsNow}
+use Rattle.promise.specs.Machine.{Machine, Lent, lent, Heard, Event, byte, clock, next, afterAll}
+
+-- ---- what a host reads
+
+-- the bytes of a reply stand in front of the reply buffer
+abbrev pub replied : Heard → List ℕ
+replied h = take (h .len) (h .after .reply)
+
+abbrev pub isIdle : Job → Bool
+isIdle job.Idle = true
+isIdle job.Storing = false
+isIdle (job.Direct m) = false
+isIdle job.Ready = false
+isIdle (job.Moving m) = false
+isIdle (job.Delay q) = false
+isIdle (job.Wait c t) = false
+
+abbrev pub isWaiting : Job → Bool
+isWaiting (job.Wait c t) = true
+isWaiting job.Idle = false
+isWaiting job.Storing = false
+isWaiting (job.Direct m) = false
+isWaiting job.Ready = false
+isWaiting (job.Moving m) = false
+isWaiting (job.Delay q) = false
+
+-- idle, storing and waiting, where nothing stands stopped
+abbrev pub idles : Board → Bool
+idles b = isIdle (b .engine .run .job) && not (b .standing)
+
+abbrev pub stores : Board → Bool
+stores b = isStoring (b .engine .run .job) && not (b .standing)
+
+abbrev pub waits : Board → Bool
+waits b = isWaiting (b .engine .run .job) && not (b .standing)
+
+-- ---- demand 1: a refused line (00, demand 1, sentences 2 and 3)
+
+abbrev pub isNine : List ℕ → Bool
+isNine [] = false
+isNine (c ∷ []) = eqb c 57
+isNine (c ∷ d ∷ s) = false
+
+-- the end line: `9` alone, on a board that stores
+unfoldable pub endLine : Board → Bool
+endLine b = (not (b .line .over) && stores b) && isNine (textOf (b .line))
+
+-- an empty line, the run cleared (idle, place 0, no loop open), and used length, records and axes of the store 0; all else as before
+abbrev pub unstored : Board → Board
+unstored b = board (ceased (emptied (b .engine))) (b .standing) noLine
+
+-- a refused line: the reply is one byte, both buffers are else as given, and the board is the very board before with an empty line;
+-- G at the end line also leaves the store empty
+pub record Untouched (b b′ : Board) (l l′ : Lent) (c : ℕ) (t : List ℕ) : Type 0 where
+  pub alone : t ≡ []
+  pub reply : l′ .reply ≡ c ∷ drop 1 (l .reply)
+  pub store : l′ .store ≡ l .store
+  pub letter : endLine b ≡ true → c ≡ 71
+  pub board : b′ ≡ pick (endLine b) (unstored b) (lineDone b)
+
+-- no reply at a return
+pub data Silent (b b′ : Board) : Type 0 where
+  -- a movement or a run has begun
+  begun : idles b ≡ true → runsNow b′ ≡ true → Silent b b′
+  -- what stood stands no more
+  onward : b .standing ≡ true → b′ ≡ board (b .engine) false noLine → Silent b b′
+  -- it was dropped
+  dropped : runsNow b ≡ true → b′ ≡ b → Silent b b′
+  -- a wait took it
+  taken : waits b ≡ true → runsNow b′ ≡ true → b′ .line ≡ b .line → Silent b b′
+
+module _ (m : Machine) where
+  -- what a byte comes to, and the board afterwards
+  abbrev pub hears : ℕ → List ℕ → Lent → m .State → Heard
+  hears v ports l s = (m .hear v ports l s) .1
+
+  abbrev pub boardThen : ℕ → List ℕ → Lent → m .State → Board
+  boardThen v ports l s = m .board ((m .hear v ports l s) .0)
+
+  -- a line is refused if the reply to its return begins with another byte than 0
+  abbrev pub RefusedLine : Type 0
+  RefusedLine =
+      (ports : List ℕ) (l : Lent) (s : m .State) (c : ℕ) (t : List ℕ)
+      → hears 13 ports l s .refusal ≡ 0 → replied (hears 13 ports l s) ≡ c ∷ t → (c ≡ 48 → ⊥)
+      → Untouched (m .board s) (boardThen 13 ports l s) l (hears 13 ports l s .after) c t
+
+  -- a reply that begins with 0 has 1, 3 or 19 bytes
+  abbrev pub AcceptedLine : Type 0
+  AcceptedLine =
+      (v : ℕ) (ports : List ℕ) (l : Lent) (s : m .State) (t : List ℕ)
+      → hears v ports l s .refusal ≡ 0 → replied (hears v ports l s) ≡ 48 ∷ t
+      → eqb (hears v ports l s .len) 1 || eqb (hears v ports l s .len) 3 || eqb (hears v ports l s .len) 19 ≡ true
+
+  abbrev pub SilentReturn : Type 0
+  SilentReturn =
+      (ports : List ℕ) (l : Lent) (s : m .State)
+      → hears 13 ports l s .refusal ≡ 0 → hears 13 ports l s .len ≡ 0 → Silent (m .board s) (boardThen 13 ports l s)
+
+  -- a refused call leaves state and buffers as given, with no reply or the answer nothing
+  abbrev pub RefusedCall : Type 0
+  RefusedCall =
+      ((v : ℕ) (ports : List ℕ) (l : Lent) (s : m .State) → (hears v ports l s .refusal ≡ 0 → ⊥)
+      → ((m .hear v ports l s) .0 ≡ s) × (hears v ports l s .after ≡ l) × (hears v ports l s .len ≡ 0))
+      × ((store : List ℕ) (s : m .State) → ((m .tick store s) .1 .refusal ≡ 0 → ⊥)
+      → ((m .tick store s) .0 ≡ s) × ((m .tick store s) .1 .answer ≡ says 5 []))
+
+  -- ---- demand 2: clock calls when idle, storing, stopped or waiting (01, "Running a program", paragraph 1, last sentence)
+
+  abbrev pub Quiet : Type 0
+  Quiet =
+      (store : List ℕ) (s : m .State) → m .board s .standing || idles (m .board s) || stores (m .board s) || waits (m .board s) ≡ true
+      → ((m .tick store s) .0 ≡ s) × ((m .tick store s) .1 .answer ≡ says 5 [])
+
+-- ---- demand 2: a position is the sum of that axis's pulses since it was last set to zero
+
+pub data Axis : Type 0 where
+  X : Axis
+  Y : Axis
+  Z : Axis
+
+abbrev pub counterOf : Axis → Counters → ℕ
+counterOf X c = c .x
+counterOf Y c = c .y
+counterOf Z c = c .z
+
+-- a position in ℤ
+abbrev pub position : Axis → Board → ℤ
+position a b = value (counterOf a (b .engine .at))
+
+-- an axis is 1, 2 or 4 of an axes number, and the first, second or third value of a pulse
+abbrev pub part : Axis → ℕ
+part X = 1
+part Y = 2
+part Z = 4
+
+abbrev pub place : Axis → ℕ
+place X = 0
+place Y = 1
+place Z = 2
+
+-- what an answer adds: a pulse (number 1) its sign on the axis, any other answer nothing
+unfoldable pub adds : Axis → Paper → ℤ
+adds a p = pick (eqb (p .number) 1) (getD (p .values) (place a) (pos 0)) (pos 0)
+
+-- the axes line, or N with that axis in its number
+unfoldable pub zeroLine : Axis → Direct → Bool
+zeroLine a d = eqb (letterPaper (d .letter) .number) 48 || (eqb (letterPaper (d .letter) .number) 78 && names (getD (d .words) 0 0) (part a))
+
+-- a byte sets an axis to zero: a call that is not refused, and reset; or the return of such a line on a board that is idle, answered 0
+unfoldable pub zeroes : Axis → ℕ → Board → Heard → Bool
+zeroes a v b h =
+    eqb (h .refusal) 0
+    && (eqb v 254 || (eqb v 13 && idles b && not (b .line .over) && eqb (getD (replied h) 0 0) 48 && zeroLine a (directOf (textOf (b .line)))))
+
+module _ (m : Machine) where
+  -- the sum so far with one event more
+  abbrev pub sumAfter : Axis → Event → m .State → ℤ → ℤ
+  sumAfter a (byte v ports l) s t = pick (zeroes a v (m .board s) ((m .hear v ports l s) .1)) (pos 0) t
+  sumAfter a (clock store) s t = t +ℤ adds a ((m .tick store s) .1 .answer)
+
+  unfoldable pub pulseSum : Axis → List Event → m .State → ℤ → ℤ
+  pulseSum a [] s t = t
+  pulseSum a (e ∷ es) s t = pulseSum a es (next m e s) (sumAfter a e s t)
+
+  -- from the first state on, after any events
+  abbrev pub SumOfPulses : Type 0
+  SumOfPulses = (a : Axis) (es : List Event) → position a (m .board (afterAll m es (m .first))) ≡ pulseSum a es (m .first) (pos 0)
+
+  -- ---- the run's number of clock calls (01, "How tight the statements are", last fake)
+
+  -- so many clock calls one after the other
+  unfoldable pub ticks : ℕ → List ℕ → m .State → m .State
+  ticks zero store s = s
+  ticks (suc k) store s = ticks k store ((m .tick store s) .0)
+
+  -- the calls that a run says it used are the clock calls it made: at most the limit, each on a board that runs, and fewer only if the
+  -- board runs no more
+  pub record CountedRun (limit : ℕ) (store : List ℕ) (s s′ : m .State) (calls : ℕ) : Type 0 where
+    pub made : s′ ≡ ticks calls store s
+    pub most : calls ≤ limit
+    pub each : (j : ℕ) → j < calls → runsNow (m .board (ticks j store s)) ≡ true
+    pub over : calls < limit → runsNow (m .board s′) ≡ false
+
+  abbrev pub Counted : Type 0
+  Counted = (limit : ℕ) (store : List ℕ) (s : m .State) → CountedRun limit store s ((m .go limit store s) .0) ((m .go limit store s) .1)
+
+-- ---- no dead end: from the first state on, with buffers of the right lengths, no call is refused
+
+-- a reply buffer of at least 32 bytes and a store of 16,384
+abbrev pub RightLent : Event → Type 0
+RightLent (byte v ports l) = (32 ≤ length (l .reply)) × (length (l .store) ≡ 16384)
+RightLent (clock store) = length store ≡ 16384
+
+module _ (m : Machine) where
+  abbrev pub refusalOf : Event → m .State → ℕ
+  refusalOf (byte v ports l) s = (m .hear v ports l s) .1 .refusal
+  refusalOf (clock store) s = (m .tick store s) .1 .refusal
+
+  abbrev pub NoDeadEnd : Type 0
+  NoDeadEnd = (es : List Event) (e : Event) → RightLent e → refusalOf e (afterAll m es (m .first)) ≡ 0
+
+-- ---- demand 2: an accepted program listed as lines, and sent for storing, is accepted and stores the same bytes
+
+-- a host that sends bytes: with the i-th its ports and its reply buffer, and so many clock calls before it
+pub record Host : Type 0 where
+  pub ports : ℕ → List ℕ
+  pub reply : ℕ → List ℕ
+  pub calls : ℕ → ℕ
+  pub room : (i : ℕ) → 32 ≤ length (reply i)
+
+-- the axes line, the line `i`, and the listing
+abbrev pub storingText : ℕ → List Record → List ℕ
+storingText axes l = 64 ∷ 48 ∷ (48 + axes) ∷ 13 ∷ 64 ∷ 48 ∷ 105 ∷ 13 ∷ listText l
+
+-- each return is answered 0, and no other byte is answered
+abbrev pub zeroAtReturns : List ℕ → List (List ℕ)
+zeroAtReturns [] = []
+zeroAtReturns (v ∷ t) = pick (eqb v 13) (48 ∷ []) [] ∷ zeroAtReturns t
+
+module _ (m : Machine) where
+  -- the state and the store after sending bytes, and the reply to each byte
+  pub record Sent : Type 0 where
+    pub state : m .State
+    pub store : List ℕ
+    pub replies : List (List ℕ)
+
+  abbrev pub after : List ℕ → Sent → Sent
+  after r x = record { state = x .state; store = x .store; replies = r ∷ x .replies }
+
+  -- bytes from the i-th on, the store handed on from byte to byte
+  unfoldable pub sent : Host → ℕ → List ℕ → m .State → List ℕ → Sent
+  sent h i [] s store = record { state = s; store = store; replies = [] }
+  sent h i (v ∷ l) s store =
+      let r = m .hear v (h .ports i) (lent (h .reply i) store) (ticks m (h .calls i) store s) in
+      after (replied (r .1)) (sent h (suc i) l (r .0) (r .1 .after .store))
+
+  -- every line is accepted, and the store's part in use is the same: its bytes, used length, records and axes
+  pub record Restored (h : Held) (store t : List ℕ) (x : Sent) : Type 0 where
+    pub replies : x .replies ≡ zeroAtReturns t
+    pub held : m .board (x .state) .engine .held ≡ h
+    pub bytes : inUse h (x .store) ≡ inUse h store
+    pub idle : idles (m .board (x .state)) ≡ true
+
+  -- of a store of 16,384 bytes whose part in use no call refuses; sent to the first state with any other store of that length
+  abbrev pub RoundTrip : Type 0
+  RoundTrip =
+      (h : Held) (store : List ℕ) (l : List Record) (other : List ℕ) (host : Host)
+      → length store ≡ 16384 → Below 256 store → h .used ≤ 16384 → h .records ≤ 1000 → accepted h store ≡ true → recordsOf h store ≡ are l
+      → length other ≡ 16384 → Below 256 other
+      → Restored h store (storingText (h .axes) l) (sent host 0 (storingText (h .axes) l) (m .first) other)
+
+-- ---- all of these but `NoDeadEnd`
+
+pub record Keeps (m : Machine) : Type 0 where
+  pub refused-line : RefusedLine m
+  pub accepted-line : AcceptedLine m
+  pub silent-return : SilentReturn m
+  pub refused-call : RefusedCall m
+  pub quiet : Quiet m
+  pub sum-of-pulses : SumOfPulses m
+  pub counted : Counted m
+  pub round-trip : RoundTrip m

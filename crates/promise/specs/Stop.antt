@@ -1,0 +1,255 @@
+-- Demand 3 as predicates over any machine: a stopped run goes on as if it had never been stopped (00, demand 3; 01, "Running a program",
+-- last paragraph).
+use Prim.Native.Nat.{ℕ, _≤_, _<_}
+use mathlib.Core.Bool.{Bool, true, false, not, _&&_, _||_}
+use mathlib.Core.List.{List, [], _∷_, _++_, map}
+use mathlib.Core.Path.{_≡_}
+use lib.Dec.{eqb, ltb}
+use lib.IntN.{ℤ}
+use lib.ListN.{length, take, drop}
+use Rattle.count.specs.Pick.{pick}
+use Rattle.count.specs.Paper.{Paper, says}
+use Rattle.engine.specs.declared.Engine.{Engine}
+use Rattle.engine.specs.declared.Job.{Job}
+use Rattle.engine.specs.declared.Job.the-variants as job
+use Rattle.board.specs.declared.Board.{Board}
+use Rattle.line.specs.declared.Letter.the-variants as letter
+use Rattle.line.specs.Lines.{directOf}
+use Rattle.board.specs.State.{board, noLine, textOf, sound}
+use Rattle.board.specs.Direct.{replyOf}
+use Rattle.promise.specs.Machine.{Machine, Heard, lent}
+use Rattle.promise.specs.Guard.{Each, reached, shown, Along, keptOf}
+
+-- ---- schedules: received bytes with their ports and clock calls. Each is lent a reply buffer and the one store, as the call before it
+-- left it.
+
+pub data Step : Type 0 where
+  receive : ℕ → List ℕ → List ℕ → Step
+  call : Step
+
+-- a byte other than break and reset, with a reply buffer of at least 32 bytes
+abbrev pub Mild : Step → Type 0
+Mild (receive v ports reply) = (v < 254) × (32 ≤ length reply)
+Mild call = Unit
+
+abbrev pub Mildly : List Step → Type 0
+Mildly es = Each Mild es
+
+-- a step that is no stop
+abbrev pub Unstopped : Step → Type 0
+Unstopped (receive v ports reply) = v < 253
+Unstopped call = Unit
+
+-- ---- what counts, by the board at that moment
+
+abbrev pub waitsBy : Job → Bool
+waitsBy (job.Wait c t) = true
+waitsBy job.Idle = false
+waitsBy job.Storing = false
+waitsBy (job.Direct m) = false
+waitsBy job.Ready = false
+waitsBy (job.Moving m) = false
+waitsBy (job.Delay q) = false
+
+-- idle or storing: nothing runs and nothing waits
+abbrev pub restsBy : Job → Bool
+restsBy job.Idle = true
+restsBy job.Storing = true
+restsBy (job.Direct m) = false
+restsBy job.Ready = false
+restsBy (job.Moving m) = false
+restsBy (job.Delay q) = false
+restsBy (job.Wait c t) = false
+
+abbrev pub waits : Board → Bool
+waits b = waitsBy (b .engine .run .job)
+
+abbrev pub rests : Board → Bool
+rests b = restsBy (b .engine .run .job)
+
+-- a clock call counts if the board then runs: it does not stand, wait, and is not idle or storing
+abbrev pub counts : Board → Bool
+counts b = not (b .standing) && not (waits b || rests b)
+
+-- a byte from 0 to 252 is taken if the board then waits, or nothing runs, and nothing stands
+abbrev pub takes : Board → Bool
+takes b = not (b .standing) && (waits b || rests b)
+
+-- in a delay: between its first and its last pause
+abbrev pub delaysBy : Job → Bool
+delaysBy (job.Delay q) = true
+delaysBy job.Idle = false
+delaysBy job.Storing = false
+delaysBy (job.Direct m) = false
+delaysBy job.Ready = false
+delaysBy (job.Moving m) = false
+delaysBy (job.Wait c t) = false
+
+-- a stop holds a running movement or program, but not in a delay
+abbrev pub stoppable : Board → Bool
+stoppable b = counts b && not (delaysBy (b .engine .run .job))
+
+-- the run is over, or waits for a character: no clock call counts, and nothing stands
+abbrev pub over : Board → Bool
+over b = not (b .standing) && (waits b || rests b)
+
+-- ---- the answers of clock calls on paper: the answer nothing, 5, is left out; a pulse without its speed; the speeds of the pulses
+
+abbrev pub spoken : Paper → List Paper
+spoken a = pick (eqb (a .number) 5) [] (a ∷ [])
+
+abbrev pub unsped : Paper → Paper
+unsped a = pick (eqb (a .number) 1) (says 1 (take 3 (a .values))) a
+
+abbrev pub speedOf : Paper → List ℤ
+speedOf a = pick (eqb (a .number) 1) (drop 3 (a .values)) []
+
+abbrev pub speedsOf : List Paper → List ℤ
+speedsOf [] = []
+speedsOf (a ∷ l) = speedOf a ++ speedsOf l
+
+-- what a run leaves beside the store: positions, origins, output, 3D, axes, the store's part in use, job, place, loops
+abbrev pub final : Board → Engine
+final b = b .engine
+
+module _ (m : Machine) where
+  -- a machine and the bytes of the one store
+  abbrev pub Place : Type 0
+  Place = m .State × List ℕ
+
+  abbrev pub boardAt : Place → Board
+  boardAt p = m .board (p .0)
+
+  abbrev pub ahead : Place → Step → Place
+  ahead p (receive v ports reply) = ((m .hear v ports (lent reply (p .1)) (p .0)) .0, (m .hear v ports (lent reply (p .1)) (p .0)) .1 .after .store)
+  ahead p call = ((m .tick (p .1) (p .0)) .0, p .1)
+
+  abbrev pub answerOf : Place → Step → List Paper
+  answerOf p (receive v ports reply) = []
+  answerOf p call = spoken ((m .tick (p .1) (p .0)) .1 .answer)
+
+  abbrev pub countOf : Place → Step → List Step
+  countOf p (receive v ports reply) = []
+  countOf p call = pick (counts (boardAt p)) (call ∷ []) []
+
+  abbrev pub byteOf : Place → Step → List ℕ
+  byteOf p (receive v ports reply) = pick (ltb v 253 && takes (boardAt p)) (v ∷ []) []
+  byteOf p call = []
+
+  -- a schedule's last place, its clock answers other than nothing, its clock calls that count, and the bytes taken
+  abbrev pub last : Place → List Step → Place
+  last p es = reached ahead p es
+
+  abbrev pub answers : Place → List Step → List Paper
+  answers p es = shown ahead answerOf p es
+
+  abbrev pub counted : Place → List Step → ℕ
+  counted p es = length (shown ahead countOf p es)
+
+  abbrev pub taken : Place → List Step → List ℕ
+  taken p es = shown ahead byteOf p es
+
+  -- a direct movement or a started program is under way on a sound board, nothing stands, no line is begun; any store
+  pub record Begun (p : Place) : Type 0 where
+    pub sound : sound (boardAt p) ≡ true
+    pub runs : rests (boardAt p) ≡ false
+    pub standing : boardAt p .standing ≡ false
+    pub line : boardAt p .line ≡ noLine
+    pub store : length (p .1) ≡ 16384
+
+  -- ---- the same run: the clock answers other than nothing, with the axes of the pulses; the speeds of the pulses; the engine
+  -- (positions, origins, output, 3D, axes, the store's part in use, job, place, loops); the bytes of the store
+  pub record Same (p : Place) (es fs : List Step) : Type 0 where
+    pub axes : map unsped (answers p es) ≡ map unsped (answers p fs)
+    pub speeds : speedsOf (answers p es) ≡ speedsOf (answers p fs)
+    pub engine : final (boardAt (last p es)) ≡ final (boardAt (last p fs))
+    pub store : last p es .1 ≡ last p fs .1
+
+  -- DEMAND 3. Two schedules with as many clock calls that count and the same bytes taken are the same run, wherever they are stopped,
+  -- whatever is sent while it stands, and however often.
+  abbrev pub StopChangesNothing : Type 0
+  StopChangesNothing =
+      (p : Place) (es fs : List Step) → Begun p → Mildly es → Mildly fs →
+      counted p es ≡ counted p fs → taken p es ≡ taken p fs → Same p es fs
+
+  -- for a run that ends: both schedules are followed until it is over (or waits), however many clock calls that takes
+  abbrev pub SameWhenOver : Type 0
+  SameWhenOver =
+      (p : Place) (es fs : List Step) → Begun p → Mildly es → Mildly fs →
+      over (boardAt (last p es)) ≡ true → over (boardAt (last p fs)) ≡ true → taken p es ≡ taken p fs → Same p es fs
+
+  -- for a run without end: the longer schedule's answers begin with the shorter one's
+  pub record Begins (p : Place) (es fs : List Step) : Type 0 where
+    pub moreAxes : List Paper
+    pub moreSpeeds : List ℤ
+    pub axes : map unsped (answers p fs) ≡ map unsped (answers p es) ++ moreAxes
+    pub speeds : speedsOf (answers p fs) ≡ speedsOf (answers p es) ++ moreSpeeds
+
+  abbrev pub SameAsFarAsFollowed : Type 0
+  SameAsFarAsFollowed =
+      (p : Place) (es fs : List Step) (later : List ℕ) → Begun p → Mildly es → Mildly fs →
+      counted p es ≤ counted p fs → taken p fs ≡ taken p es ++ later → Begins p es fs
+
+  -- ---- the same schedule never stopped: its stops, all that comes while it stands, and the bytes that are dropped left out
+  abbrev pub stays : Place → Step → Bool
+  stays p (receive v ports reply) = ltb v 253 && takes (boardAt p)
+  stays p call = not (boardAt p .standing)
+
+  abbrev pub unstopped : Place → List Step → List Step
+  unstopped p es = keptOf ahead stays (λ e. e) p es
+
+  -- it is a schedule without a stop, has as many clock calls that count and the same bytes taken, and never stands
+  pub record NeverStopped (p : Place) (es fs : List Step) : Type 0 where
+    pub mild : Mildly fs
+    pub unstopped : Each Unstopped fs
+    pub counted : counted p fs ≡ counted p es
+    pub taken : taken p fs ≡ taken p es
+    pub stands : Along ahead (λ q e. boardAt q .standing ≡ false) p fs
+    pub last : boardAt (last p fs) .standing ≡ false
+
+  abbrev pub StopsCanBeLeftOut : Type 0
+  StopsCanBeLeftOut = (p : Place) (es : List Step) → Begun p → Mildly es → NeverStopped p es (unstopped p es)
+
+  -- ---- demand 3 is not empty. A stop, at every moment that 01 allows, stands and sends F; at every other it does nothing.
+  pub record Called (p : Place) : Type 0 where
+    pub sound : sound (boardAt p) ≡ true
+    pub store : length (p .1) ≡ 16384
+
+  abbrev pub heardAt : ℕ → List ℕ → List ℕ → Place → m .State × Heard
+  heardAt v ports reply p = m .hear v ports (lent reply (p .1)) (p .0)
+
+  pub record Comes (got : m .State × Heard) (to : Board) (said lent store : List ℕ) : Type 0 where
+    pub board : m .board (got .0) ≡ to
+    pub len : got .1 .len ≡ length said
+    pub refusal : got .1 .refusal ≡ 0
+    pub reply : got .1 .after .reply ≡ said ++ drop (length said) lent
+    pub bytes : got .1 .after .store ≡ store
+
+  abbrev pub StopHolds : Type 0
+  StopHolds =
+      (p : Place) (ports reply : List ℕ) → Called p → 32 ≤ length reply → stoppable (boardAt p) ≡ true →
+      Comes (heardAt 253 ports reply p) (board (boardAt p .engine) true (boardAt p .line)) (70 ∷ []) reply (p .1)
+
+  abbrev pub StopElseDoesNothing : Type 0
+  StopElseDoesNothing =
+      (p : Place) (ports reply : List ℕ) → Called p → 32 ≤ length reply → stoppable (boardAt p) ≡ false →
+      Comes (heardAt 253 ports reply p) (boardAt p) [] reply (p .1)
+
+  -- an accepted S goes on with the very engine that stood, and sends nothing
+  abbrev pub StartGoesOn : Type 0
+  StartGoesOn =
+      (p : Place) (ports reply : List ℕ) → Called p → 32 ≤ length reply → boardAt p .standing ≡ true → boardAt p .line .over ≡ false →
+      directOf (textOf (boardAt p .line)) .letter ≡ letter.Start →
+      replyOf (boardAt p .engine) true (directOf (textOf (boardAt p .line))) ≡ 48 →
+      Comes (heardAt 13 ports reply p) (board (boardAt p .engine) false noLine) [] reply (p .1)
+
+  -- a stop and the line `@0S`, wherever a stop is allowed and axes are set, leave everything as it was
+  abbrev pub startLine : List ℕ → List ℕ → List Step
+  startLine ports reply = receive 64 ports reply ∷ receive 48 ports reply ∷ receive 83 ports reply ∷ receive 13 ports reply ∷ []
+
+  abbrev pub StopAndStart : Type 0
+  StopAndStart =
+      (p : Place) (ports reply : List ℕ) → Begun p → 32 ≤ length reply → stoppable (boardAt p) ≡ true → eqb (boardAt p .engine .axes) 0 ≡ false →
+      (boardAt (ahead p (receive 253 ports reply)) .standing ≡ true)
+      × (boardAt (last p (receive 253 ports reply ∷ startLine ports reply)) ≡ boardAt p)
+      × (last p (receive 253 ports reply ∷ startLine ports reply) .1 ≡ p .1)

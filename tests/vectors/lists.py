@@ -1,0 +1,214 @@
+#!/usr/bin/env python3
+"""Writes crates/record_lists/stdin and stdout: stores, and their listings by 01, "Store", worked out apart from the code.
+
+    python3 tests/vectors/lists.py            writes both files
+    python3 tests/vectors/lists.py --check    compares them with what it would write
+
+A store of stdin is a line `axes kinds` and a line for each kind of record: how often it is stored, its code, its count of numbers and
+eight words. Its answer is the listing and a line feed, then `same` where the records, read from the bytes and stored again, give the
+same bytes; or `refused` and the refusal where the store is not readable.
+
+Numbers are Python's own, the store is a byte string, and a record is read from its front by 01's sentence about bytes.
+"""
+import os
+import sys
+
+ROOT = os.path.dirname(os.path.dirname(os.path.dirname(os.path.abspath(__file__))))
+FOLDER = os.path.join(ROOT, "crates", "record_lists")
+LOW, HIGH = -8388608, 8388607
+
+# Numbers whose four bytes hold the mark 0xD7 0x2B: at their start, in their middle, and with a code byte behind the mark.
+MARK = 0x2BD7
+MARK_INSIDE = 0x2BD700
+MARK_AND_FIVE = 0x352BD7
+MARK_BELOW_ZERO = 0x802BD7 - 0x1000000
+
+
+def times(often, code, *numbers, spare=()):
+    return often, code, numbers, tuple(spare)
+
+
+def one(code, *numbers, spare=()):
+    return times(1, code, *numbers, spare=spare)
+
+
+STORES = [
+    # no record: only the end line
+    (7, []),
+    # every code with its lowest and its highest numbers, three axes
+    (7, [
+        one("0", 0, 30, 0, 30, 0, 30, 0, 30),
+        one("0", LOW, 30, LOW, 30, LOW, 30, LOW, 30),
+        one("0", HIGH, 10000, HIGH, 10000, HIGH, 10000, HIGH, 10000),
+        one("0", -1, 31, 1, 99, -10, 100, 10, 9999),
+        one("m", LOW, 10000, HIGH, 30, LOW, 10000, 0, 30),
+        one("m", HIGH, 1000, -999999, 1001, 1000000, 999, 0, 10000),
+        one("n", 1),
+        one("n", 7),
+        one("z", 0),
+        one("z", 1),
+        one("3", 0, -32768),
+        one("3", 0, 32767),
+        one("3", 0, 0),
+        one("3", 1, -1),
+        one("3", 32767, -32768),
+        one("5", 0),
+        one("5", 65535),
+        one("1", 33),
+        one("1", 126),
+        one("2", 33, -32768),
+        one("2", 126, 32767),
+        one("2", 57, 0),
+    ]),
+    # one axis and two: movements of two and four numbers
+    (1, [one("0", LOW, 30), one("0", HIGH, 10000), one("m", -1, 600), one("m", 0, 600), one("n", 1)]),
+    (3, [one("0", 3, 600, 1, 900), one("m", LOW, 30, HIGH, 10000), one("n", 1), one("n", 2), one("n", 3)]),
+    # numbers that hold the mark's bytes, also with a code behind them
+    (7, [
+        one("5", MARK),
+        one("3", 0, MARK),
+        one("3", MARK, -MARK),
+        one("2", 43, MARK),
+        one("0", MARK, 30, MARK_INSIDE, 30, MARK_AND_FIVE, 30, MARK_BELOW_ZERO, 30),
+        one("m", MARK_BELOW_ZERO, 30, MARK_AND_FIVE, 30, MARK_INSIDE, 30, 0, 30),
+        one("5", MARK),
+    ]),
+    # every length of number, and zeros that are not needless
+    (1, [one("0", sign * (10 ** k - less), 10 ** (k % 3 + 2) - less) for k in range(1, 7) for less in (1, 0) for sign in (1, -1)]),
+    # characters that the listing itself uses, as numbers
+    (7, [one("1", 44), one("1", 45), one("1", 48), one("1", 57), one("2", 57, -1), one("5", 9), one("5", 13)]),
+    # words past the count are no numbers of the record
+    (7, [one("5", 7, spare=(8, 9)), one("3", 25, -1, spare=(1, 2, 3))]),
+    # the store just full: at 1,000 records, at 16,384 bytes; what has no room is left out
+    (7, [times(999, "5", 9), one("z", 1), one("n", 7)]),
+    (7, [times(454, "0", LOW, 10000, LOW, 10000, LOW, 10000, LOW, 10000), times(4, "5", 0), one("5", 65535), one("z", 1)]),
+    # not readable: one number, count, code or axis that is wrong
+    (7, [one("5", 65536)]),
+    (7, [one("5", -1)]),
+    (7, [one("z", 1), one("z", 2)]),
+    (7, [one("n", 0)]),
+    (7, [one("n", 8)]),
+    (3, [one("n", 4)]),
+    (7, [one("3", 1, 0)]),
+    (7, [one("3", 0, 32768)]),
+    (7, [one("3", 0, -32769)]),
+    (7, [one("3", 32768, -1)]),
+    (7, [one("3", -1, -1)]),
+    (7, [one("1", 32)]),
+    (7, [one("1", 127)]),
+    (7, [one("2", 127, 0)]),
+    (7, [one("2", 126, 32768)]),
+    (1, [one("0", HIGH + 1, 30)]),
+    (1, [one("0", LOW - 1, 30)]),
+    (1, [one("0", 0, 29)]),
+    (1, [one("0", 0, 10001)]),
+    (7, [one("m", 0, 30, 0, 30, 0, 30, 1, 30)]),
+    (7, [one("0", 0, 30)]),
+    (1, [one("0", 0, 30, 0, 30)]),
+    (7, [one("5", 0, 0)]),
+    (7, [one("3", 0)]),
+    (7, [one("9", 0)]),
+    (7, [one("M", 0, 30, 0, 30, 0, 30, 0, 30)]),
+    (0, [one("0", 0, 30)]),
+    (2, [one("0", 0, 30)]),
+]
+
+
+def right(axes, code, numbers):
+    """Whether a record is right in code and, for the store's axes, count, ranges and speeds."""
+    if code in ("0", "m"):
+        if len(numbers) != {1: 2, 3: 4, 7: 8}.get(axes):
+            return False
+        distances, speeds = numbers[0::2], numbers[1::2]
+        return (
+            all(LOW <= d <= HIGH for d in distances)
+            and all(30 <= v <= 10000 for v in speeds)
+            and not (code == "m" and axes == 7 and distances[3] != 0)
+        )
+    if code not in {"n": 1, "z": 1, "5": 1, "1": 1, "3": 2, "2": 2} or len(numbers) != (2 if code in "32" else 1):
+        return False
+    first, last = numbers[0], numbers[-1]
+    return {
+        "n": 1 <= first <= 7 and first & ~axes == 0,
+        "z": first in (0, 1),
+        "5": 0 <= first <= 65535,
+        "1": 33 <= first <= 126,
+        "2": 33 <= first <= 126 and -32768 <= last <= 32767,
+        "3": -32768 <= last <= (32767 if first == 0 else -1) and 0 <= first <= 32767,
+    }[code]
+
+
+def encoded(code, numbers):
+    """Mark, code byte, count of numbers, each number as four bytes, lowest first, two's complement."""
+    return b"\xd7\x2b" + code.encode() + bytes([len(numbers)]) + b"".join(n.to_bytes(4, "little", signed=True) for n in numbers)
+
+
+def decoded(store):
+    """The records of a store, end to end from its front."""
+    records = []
+    while store:
+        assert store[:2] == b"\xd7\x2b"
+        end = 4 + 4 * store[3]
+        numbers = [int.from_bytes(store[i:i + 4], "little", signed=True) for i in range(4, end, 4)]
+        records.append((chr(store[2]), tuple(numbers)))
+        store = store[end:]
+    return records
+
+
+def stored(records):
+    """The bytes of the records for which there is room: at most 1,000 records and 16,384 bytes."""
+    store, count = b"", 0
+    for code, numbers in records:
+        more = encoded(code, numbers)
+        if count < 1000 and len(store) + len(more) <= 16384:
+            store, count = store + more, count + 1
+    return store
+
+
+def line(code, numbers):
+    """Code and numbers with commas, no space, no needless zeros, a carriage return."""
+    text = ""
+    for i, n in enumerate(numbers):
+        size, digits = abs(n), ""
+        while size or not digits:
+            size, digit = divmod(size, 10)
+            digits = "0123456789"[digit] + digits
+        text += ("," if i else "") + ("-" if n < 0 else "") + digits
+    return code + text + "\r"
+
+
+def answer(axes, kinds):
+    store = stored([(code, numbers) for often, code, numbers, _ in kinds for _ in range(often)])
+    records = decoded(store)
+    if not all(right(axes, code, numbers) for code, numbers in records):
+        return f"refused {ord('G')}\n"
+    same = stored(records) == store
+    return "".join(line(code, numbers) for code, numbers in records) + "9\r\n" + ("same\n" if same else "differs\n")
+
+
+def given(axes, kinds):
+    lines = [f"{axes} {len(kinds)}"]
+    for often, code, numbers, spare in kinds:
+        words = (*numbers, *spare) + (0,) * (8 - len(numbers) - len(spare))
+        lines.append(" ".join(str(n) for n in (often, ord(code), len(numbers), *words)))
+    return "\n".join(lines) + "\n"
+
+
+def files():
+    yield "stdin", f"{len(STORES)}\n" + "".join(given(*s) for s in STORES)
+    yield "stdout", "".join(answer(*s) for s in STORES)
+
+
+def main():
+    for name, text in files():
+        path = os.path.join(FOLDER, name)
+        if sys.argv[1:] == ["--check"]:
+            with open(path, newline="") as file:
+                if file.read() != text:
+                    sys.exit(f"{name} of record_lists differs")
+        else:
+            with open(path, "w", newline="") as file:
+                file.write(text)
+
+
+main()

@@ -20,14 +20,12 @@ use Rattle.board.specs.Direct.{first, replyOf, directSaid}
 use Rattle.board.specs.Receive.{earOf, hearing, gathering, returned}
 use Rattle.board.specs.Calls.{receiving, clocking, fresh}
 use Rattle.course.specs.Run.{course}
+use Rattle.course.specs.Walk.{noStore}
 use Rattle.promise.specs.Machine.{Machine, Lent, Heard, Clocked, lent, clockedBy, ours}
 use Rattle.promise.specs.Follows.{Follows}
 
-abbrev store0 : List ℕ
-store0 = replicate 16384 0
-
 abbrev lent0 : Lent
-lent0 = lent (replicate 32 0) store0
+lent0 = lent (replicate 32 0) noStore
 
 abbrev one : ℕ → Lent → Heard
 one c l = record { len = 1; refusal = 0; after = lent (c ∷ drop 1 (l .reply)) (l .store) }
@@ -48,7 +46,7 @@ refuses = record {
 abbrev asked : Board
 asked = board (fresh .engine) false (record { bytes = 64 ∷ 48 ∷ 107 ∷ replicate 77 0; len = 3; over = false })
 
-says-0 : getD (receiving 13 [] asked (replicate 32 0) store0 .reply) 0 0 ≡ 48
+says-0 : getD (receiving 13 [] asked (replicate 32 0) noStore .reply) 0 0 ≡ 48
 unfolding receiving sound soundOf counted hearing earOf gathering returned directSaid replyOf first directOf afterAddress letterOf behind
 says-0 = refl
 
@@ -70,7 +68,7 @@ agrees = record {
 }
 
 -- an empty line is refused 5
-says-5 : getD (receiving 13 [] fresh (replicate 32 0) store0 .reply) 0 0 ≡ 53
+says-5 : getD (receiving 13 [] fresh (replicate 32 0) noStore .reply) 0 0 ≡ 53
 unfolding receiving sound soundOf counted hearing earOf gathering returned directSaid replyOf first directOf
 says-5 = refl
 
@@ -95,13 +93,13 @@ sleeps = record {
 abbrev delayed : Board
 delayed = board (withJob (fresh .engine) (job.Delay 1)) false noLine
 
-pauses : clockedBy (clocking delayed store0) .answer .number ≡ 2
+pauses : clockedBy (clocking delayed noStore) .answer .number ≡ 2
 unfolding clocking sound soundOf counted ticked
 pauses = refl
 
 pub sleeps-fails : Follows sleeps → ⊥
 sleeps-fails f =
-    let p : _≡_ {A = ℕ} 5 2 = ap (λ (c : Clocked). c .answer .number) (f .ticks store0 delayed) ∙ pauses in
+    let p : _≡_ {A = ℕ} 5 2 = ap (λ (c : Clocked). c .answer .number) (f .ticks noStore delayed) ∙ pauses in
     absurd (omega arith)
 
 -- ---- a board that invents its number of clock calls: one more than it made

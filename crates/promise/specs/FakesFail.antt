@@ -27,6 +27,7 @@ use Rattle.board.specs.State.{board, noLine, gathered, sound}
 use Rattle.board.specs.Direct.{first, replyOf, directSaid}
 use Rattle.board.specs.Receive.{earOf, hearing, gathering, returned, stopped}
 use Rattle.board.specs.Calls.{receiving, clocking, fresh}
+use Rattle.course.specs.Walk.{noStore}
 use Rattle.promise.specs.Machine.{Machine, Clocked, ours}
 use Rattle.promise.specs.Guard.{reached, shown}
 use Rattle.promise.specs.Stop.{Step, receive, call, Mildly, stoppable, speedsOf, unsped, final, Place, boardAt, last, answers, counted as countOf, taken, Begun, Same, StopChangesNothing}
@@ -52,9 +53,6 @@ abbrev pub begun : Board
 begun =
     board (record { axes = 1; at = zeroes; origin = zeroes; three = false; output = 0; held = nothingHeld; run = running (job.Direct move) 0 noLoops }) false noLine
 
-abbrev pub store0 : List ℕ
-store0 = replicate 16384 0
-
 abbrev pub reply0 : List ℕ
 reply0 = replicate 32 0
 
@@ -64,14 +62,14 @@ stop = receive 253 [] reply0
 room : 32 ≤ length reply0
 room = leb-true 32 (length reply0) refl
 
-number : ℤ → ℕ
+unfoldable pub number : ℤ → ℕ
 number (pos n) = n
 number (negsuc n) = n
 
 -- ---- the fourth fake fails demand 3 in the middle of a run, by its positions: a stop alone changes what it shows
 
 abbrev place4 : Place claims
-place4 = ((begun, false), store0)
+place4 = ((begun, false), noStore)
 
 sound4 : sound begun ≡ true
 unfolding sound soundOf counted inRange underWay pulses steps countAfter fromOf toOf
@@ -129,7 +127,7 @@ abbrev pub turns : Machine
 turns = spoils turned
 
 abbrev slow : Place slows
-slow = ((begun, false), store0)
+slow = ((begun, false), noStore)
 
 abbrev stopped-once : List Step
 stopped-once = stop ∷ receive 64 [] reply0 ∷ receive 48 [] reply0 ∷ receive 83 [] reply0 ∷ receive 13 [] reply0 ∷ call ∷ []
@@ -163,7 +161,7 @@ slows-fails f =
     absurd (omega arith)
 
 abbrev turn : Place turns
-turn = ((begun, false), store0)
+turn = ((begun, false), noStore)
 
 abbrev signs : List Paper → List ℕ
 signs [] = []
@@ -204,7 +202,7 @@ loses = record {
 }
 
 abbrev lost : Place loses
-lost = (begun, store0)
+lost = (begun, noStore)
 
 abbrev thrice : List Step
 thrice = call ∷ call ∷ call ∷ []
@@ -244,6 +242,6 @@ loses-fails f =
 abbrev stood : List Step
 stood = stop ∷ call ∷ call ∷ []
 
-pub standing-does-not-count : (countOf ours (begun, store0) stood ≡ 0) × (answers ours (begun, store0) stood ≡ []) × (countOf ours (begun, store0) thrice ≡ 3)
+pub standing-does-not-count : (countOf ours (begun, noStore) stood ≡ 0) × (answers ours (begun, noStore) stood ≡ []) × (countOf ours (begun, noStore) thrice ≡ 3)
 unfolding reached shown clocking receiving hearing stopped sound soundOf counted inRange underWay pulses steps countAfter fromOf toOf ticked pulseOf nextBy skipped signAt speedAt
 standing-does-not-count = (refl, refl, refl)

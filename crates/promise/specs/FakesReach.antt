@@ -17,16 +17,17 @@ use Rattle.board.specs.State.{gathered, sound}
 use Rattle.board.specs.Direct.{first, replyOf, directSaid}
 use Rattle.board.specs.Receive.{earOf, hearing, gathering, returned}
 use Rattle.board.specs.Calls.{receiving, fresh}
+use Rattle.course.specs.Walk.{noStore}
 use Rattle.promise.specs.Machine.{ours}
 use Rattle.promise.specs.Guard.{reached}
 use Rattle.promise.specs.Stop.{Step, receive, last}
 use Rattle.promise.specs.StopSteps.{At}
-use Rattle.promise.specs.FakesFail.{begun, store0, reply0}
+use Rattle.promise.specs.FakesFail.{begun, reply0}
 
 abbrev pub typed : List ℕ → List Step
 typed [] = []
 typed (v ∷ l) = receive v [] reply0 ∷ typed l
 
-pub begun-is-reached : _≡_ {A = At} (last ours (fresh, store0) (typed (64 ∷ 48 ∷ 49 ∷ 13 ∷ 64 ∷ 48 ∷ 65 ∷ 51 ∷ 44 ∷ 54 ∷ 48 ∷ 48 ∷ 13 ∷ []))) (begun, store0)
+pub begun-is-reached : _≡_ {A = At} (last ours (fresh, noStore) (typed (64 ∷ 48 ∷ 49 ∷ 13 ∷ 64 ∷ 48 ∷ 65 ∷ 51 ∷ 44 ∷ 54 ∷ 48 ∷ 48 ∷ 13 ∷ []))) (begun, noStore)
 unfolding reached receiving sound soundOf counted hearing earOf gathering gathered returned directSaid replyOf first directOf afterAddress letterOf behind digitsBehind digitsOf numberOf parted itemsOf numbersOf within in24 signed word placed added inSpeed rightCount rightZ2 rightDistances rightSpeeds pulses goal goalX goalY goalZ1 goalZ2 firstSpeed laterSpeed route goingTo planOf fromOf toOf leftOf afterOf countRight axesRight rangesRight speedsRight beginOf
 begun-is-reached = refl

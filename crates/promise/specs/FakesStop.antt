@@ -19,7 +19,8 @@ use Rattle.board.specs.Calls.{fresh}
 use Rattle.promise.specs.Machine.{Machine, ours}
 use Rattle.promise.specs.Guard as G
 use Rattle.promise.specs.Guard.{shown, keptOf}
-use Rattle.promise.specs.Stop.{Step, receive, call, waitsBy, restsBy, counts, takes, over, stoppable, unsped, speedsOf, final, Place, ahead, answerOf, countOf, byteOf, last, answers, counted, taken, SameWhenOver, SameAsFarAsFollowed}
+use Rattle.promise.specs.Demands.{isWaiting}
+use Rattle.promise.specs.Stop.{Step, receive, call, restsBy, counts, takes, over, stoppable, unsped, speedsOf, final, Place, ahead, answerOf, countOf, byteOf, last, answers, counted, taken, SameWhenOver, SameAsFarAsFollowed}
 use Rattle.promise.specs.StopSteps.{At}
 use Rattle.promise.specs.StopLaws.{Alike, fits, same-over, same-begin, begins-of}
 
@@ -119,7 +120,7 @@ module _ (p : Place claims) (es : List Step) where
       ∙ ap (λ (l : List Step). shown (ahead ours) (countOf ours) (core p) l) (all p es))
 
 -- when the run is over it shows our board
-over-shows : (flag : Bool) (b : Board) (s : Bool) (j : Job) → b .engine .run .job ≡ j → not s && (waitsBy j || restsBy j) ≡ true →
+over-shows : (flag : Bool) (b : Board) (s : Bool) (j : Job) → b .engine .run .job ≡ j → not s && (isWaiting j || restsBy j) ≡ true →
     final (pick flag (claim b) b) ≡ final b
 over-shows false b s j q h = refl
 over-shows true b true j q h = absurd (true≢false (sym h))

@@ -18,6 +18,7 @@ use Rattle.line.specs.Lines.{directOf}
 use Rattle.board.specs.State.{board, noLine, textOf, sound}
 use Rattle.board.specs.Direct.{replyOf}
 use Rattle.promise.specs.Machine.{Machine, Heard, lent}
+use Rattle.promise.specs.Demands.{isWaiting}
 use Rattle.promise.specs.Guard.{Each, reached, shown, Along, keptOf}
 
 -- ---- schedules: received bytes with their ports and clock calls. Each is lent a reply buffer and the one store, as the call before it
@@ -42,15 +43,6 @@ Unstopped call = Unit
 
 -- ---- what counts, by the board at that moment
 
-abbrev pub waitsBy : Job → Bool
-waitsBy (job.Wait c t) = true
-waitsBy job.Idle = false
-waitsBy job.Storing = false
-waitsBy (job.Direct m) = false
-waitsBy job.Ready = false
-waitsBy (job.Moving m) = false
-waitsBy (job.Delay q) = false
-
 -- idle or storing: nothing runs and nothing waits
 abbrev pub restsBy : Job → Bool
 restsBy job.Idle = true
@@ -62,7 +54,7 @@ restsBy (job.Delay q) = false
 restsBy (job.Wait c t) = false
 
 abbrev pub waits : Board → Bool
-waits b = waitsBy (b .engine .run .job)
+waits b = isWaiting (b .engine .run .job)
 
 abbrev pub rests : Board → Bool
 rests b = restsBy (b .engine .run .job)

@@ -24,7 +24,8 @@ use Rattle.board.specs.Receive.{holdsBy, earOf, isStoring, stopped, hearing, re
 use Rattle.board.specs.Calls.{Outcome, answered, receiving}
 use Rattle.promise.specs.Machine.{ours}
 use Rattle.promise.specs.Guard.{reached}
-use Rattle.promise.specs.Stop.{receive, waitsBy, restsBy, delaysBy, stoppable, ahead, last, Called, Comes, heardAt, StopHolds, StopElseDoesNothing, StartGoesOn, startLine, StopAndStart}
+use Rattle.promise.specs.Demands.{isWaiting}
+use Rattle.promise.specs.Stop.{receive, restsBy, delaysBy, stoppable, ahead, last, Called, Comes, heardAt, StopHolds, StopElseDoesNothing, StartGoesOn, startLine, StopAndStart}
 use Rattle.promise.specs.StopBoard.{left}
 use Rattle.promise.specs.StopSteps.{At}
 
@@ -48,7 +49,7 @@ comes v ports reply (b, store) q r c h =
 
 -- ---- where a stop holds
 
-holds-by : (s : Bool) (j : Job) → not s && not (waitsBy j || restsBy j) && not (delaysBy j) ≡ holdsBy j && not s
+holds-by : (s : Bool) (j : Job) → not s && not (isWaiting j || restsBy j) && not (delaysBy j) ≡ holdsBy j && not s
 holds-by true job.Idle = refl
 holds-by true job.Storing = refl
 holds-by true (job.Direct m) = refl

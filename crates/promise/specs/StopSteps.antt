@@ -24,7 +24,8 @@ use Rattle.board.specs.State.{board, noLine, sound, said}
 use Rattle.board.specs.Receive.{earBy, earOf, holdsBy, stopped, ordinary, hearing, gathering}
 use Rattle.board.specs.Calls.{Outcome, refused, answered, receiving, clocked, wentOn, clocking}
 use Rattle.promise.specs.Machine.{ours}
-use Rattle.promise.specs.Stop.{Step, receive, call, waitsBy, restsBy, counts, takes, spoken, ahead, answerOf}
+use Rattle.promise.specs.Demands.{isWaiting}
+use Rattle.promise.specs.Stop.{Step, receive, call, restsBy, counts, takes, spoken, ahead, answerOf}
 use Rattle.promise.specs.StopBoard.{twinBoard, Clear, Fit, clear-of, left, held-byte}
 use Rattle.promise.specs.StopQuiet.{twin-of, quiet-byte}
 
@@ -159,7 +160,7 @@ module _ (e : Engine) (l : Line) (store : List ℕ) where
         (h .deaf ∙ (λ i. (sym (twin-of (gathering v ports (board e false l) store .board) (h .standing)) i, gathering v ports (board e false l) store .store)), h .fit, h .standing)
 
     ordinary-at : (j : Job) → e .run .job ≡ j → Fit (board e false l) → Clear j l →
-        Result (waitsBy j || restsBy j) (at false) (left (ordinary (earBy j) v [] (board e false l) store))
+        Result (isWaiting j || restsBy j) (at false) (left (ordinary (earBy j) v [] (board e false l) store))
         (left (ordinary (earBy j) v ports (board e false l) store))
     ordinary-at job.Idle q f c = ordinary-quiet f (λ k. subst (λ (i : Job). Clear i k) (sym q) tt)
     ordinary-at job.Storing q f c = ordinary-quiet f (λ k. subst (λ (i : Job). Clear i k) (sym q) tt)
@@ -181,7 +182,7 @@ module _ (e : Engine) (l : Line) (store : List ℕ) where
   goes t f c = (refl, record { short = f .short; clear = clear-of (t .engine .run .job) c }, refl)
 
   tick-at : (j : Job) → Fit (board e false l) → Clear j l →
-      Result (not (waitsBy j || restsBy j)) (at false)
+      Result (not (isWaiting j || restsBy j)) (at false)
       (board (tickedBy pulseOf (fetchOf (e .held) store) j e .engine) false l, store)
       (board (tickedBy pulseOf (fetchOf (e .held) store) j e .engine) false l, store)
   tick-at job.Idle f c = (refl, f)
@@ -197,7 +198,7 @@ module _ (e : Engine) (l : Line) (store : List ℕ) where
   one-tick true f = (refl, f)
   one-tick false f = tick-at (e .run .job) f (f .clear)
 
-  quiet-answer : (j : Job) → not (waitsBy j || restsBy j) ≡ false → spoken (paper (tickedBy pulseOf (fetchOf (e .held) store) j e .answer)) ≡ []
+  quiet-answer : (j : Job) → not (isWaiting j || restsBy j) ≡ false → spoken (paper (tickedBy pulseOf (fetchOf (e .held) store) j e .answer)) ≡ []
   quiet-answer job.Idle h = refl
   quiet-answer job.Storing h = refl
   quiet-answer (job.Direct m) h = absurd (true≢false h)

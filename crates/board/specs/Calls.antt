@@ -16,7 +16,7 @@ use Rattle.record.specs.Listing.{Telling, telling, listOf}
 use Rattle.engine.specs.declared.Answer.{Answer}
 use Rattle.engine.specs.declared.Answer.the-variants as answer
 use Rattle.engine.specs.declared.Told.{Told}
-use Rattle.engine.specs.State.{idle, zeroes, nothingHeld}
+use Rattle.engine.specs.State as state
 use Rattle.engine.specs.Tick.{ticked}
 use Rattle.board.specs.declared.Board.{Board}
 use Rattle.board.specs.declared.Received.{Received}
@@ -74,7 +74,7 @@ listing b store text =
 -- ---- a fresh board, and positions and origins as numbers
 
 abbrev pub fresh : Board
-fresh = board (record { axes = 0; at = zeroes; origin = zeroes; three = false; output = 0; held = nothingHeld; run = idle }) false noLine
+fresh = board state.fresh false noLine
 
 -- 0 where a count is not of 24 bits, which no sound board has
 abbrev pub numberOf : ℕ → ℤ

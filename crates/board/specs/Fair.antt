@@ -9,6 +9,7 @@ use borrow.Author.Tests.{ltb-true, eqb-true, le-leb}
 use lib.Dec.{ltb, eqb}
 use lib.ListN.{length, getD, length-append}
 use Rattle.count.specs.Pick.{pick}
+use Rattle.count.specs.Truth.{never}
 use Rattle.motion.specs.declared.Counters.{Counters}
 use Rattle.record.specs.declared.Held.{Held}
 use Rattle.record.specs.declared.Record.{Record}
@@ -42,7 +43,6 @@ use Rattle.board.specs.Storing.{recordOf, recordReply, storedBy, storedS
 use Rattle.board.specs.Receive.{isStoring, holdsBy, endsBy, earOf, returned, gathering, ordinary, stopped, broken, resetSaid, hearing}
 use Rattle.board.specs.Work.{bytesOf, spokeOf, spoke, silentWith, repliedWith, begunWith, startedBy, affected, obeyed, numbersFault, lineFault, gathersBy, waitsBy}
 use Rattle.board.specs.Puts.{length-report, length-two}
-use Rattle.board.specs.Stores.{never}
 use Rattle.board.specs.Obeys.{no-fault, no-standing, axes-fit, obey-so}
 use Rattle.board.specs.Hears.{ear-so, sound-engine, sound-line}
 

@@ -7,8 +7,8 @@ use borrow.Author.Tests.{eq-eqb, ne-eqb, le-ltb, leb-true}
 use lib.Dec.{leb}
 use lib.ListN.{length, drop}
 use Rattle.count.specs.Pick.{pick}
+use Rattle.count.specs.Truth.{and-left, and-right}
 use Rattle.motion.specs.Next.{nextOf, pulseOf}
-use Rattle.motion.specs.Passed.{and-left, and-right}
 use Rattle.record.specs.Places.{fetchOf}
 use Rattle.record.specs.Listing.{Telling, listOf}
 use Rattle.line.specs.declared.Direct.{Direct}

@@ -13,10 +13,10 @@ use Rattle.count.specs.Pick.{pick}
 use Rattle.count.specs.Numbers.{within, signed}
 use Rattle.count.specs.Ranges.{inPort, inByte, inZero, nth}
 use Rattle.count.specs.Laws.{within-up, within-zero}
+use Rattle.count.specs.Truth.{and-left, and-right}
 use Rattle.motion.specs.declared.Planned.{Planned}
 use Rattle.motion.specs.declared.Planned.the-variants as planned
 use Rattle.motion.specs.Plan.{asked, planOf}
-use Rattle.motion.specs.Passed.{and-left, and-right}
 use Rattle.record.specs.Fault.{isCode, countRight, axesRight, rangesRight, speedsRight, faultOf}
 use Rattle.line.specs.declared.Letter.{Letter}
 use Rattle.line.specs.declared.Letter.the-variants as letter

@@ -9,6 +9,7 @@ use lib.Dec.{eqb}
 use lib.ListN.{length}
 use Rattle.count.specs.Pick.{pick}
 use Rattle.count.specs.Ranges.{rightCount}
+use Rattle.count.specs.Truth.{never}
 use Rattle.record.specs.declared.Held.{Held}
 use Rattle.record.specs.declared.Kept.{Kept}
 use Rattle.record.specs.declared.Record.{Record}
@@ -26,9 +27,6 @@ use Rattle.board.specs.State.{lineDone, Said, said}
 use Rattle.board.specs.Direct.{first}
 use Rattle.board.specs.Storing.{recordOf, recordReply, recordSaid, endSaid, storedSaid}
 use Rattle.board.specs.Work.{spoke, repliedWith, keptSaid}
-
-pub never : {A : Type 0} → false ≡ true → A
-never p = let z : _≡_ {A = ℕ} 0 1 = cc in absurd (omega arith)
 
 -- ---- 7, 3, 1 and D as rows, and what comes behind them
 

@@ -1,14 +1,15 @@
 -- Laws of a number's digits, and of a text at the front of a part. Assumes nothing.
-use Prim.Native.Nat.{ℕ, zero, suc, _+_, _-_, _/_, _%_, _<_, _≤_, _^_}
+use Prim.Native.Nat.{ℕ, zero, suc, _+_, _/_, _%_, _<_, _≤_, _^_}
 use mathlib.Core.Path.{_≡_, refl, ap, sym, _∙_}
 use mathlib.Core.List.{List, [], _∷_, _++_}
 use mathlib.Core.Bool.{Bool, true, false}
 use native.Mathlib.Omega.{arith}
 use borrow.Author.Tests.{lt-ltb, le-ltb, ltb-false}
 use lib.Dec.{ltb}
+use lib.IntN.{ℤ, pos, negsuc}
 use lib.ListN.{length, drop, length-append}
 use Rattle.count.specs.Pick.{pick}
-use Rattle.count.specs.Text.{written, wrote, hexDigit, hexes, decimal, digits}
+use Rattle.count.specs.Text.{written, wrote, hexDigit, hexes, decimal, digits, shown}
 
 -- ---- more room than is needed changes nothing
 
@@ -53,6 +54,12 @@ digits-long n h = rw (sym (decimal-more 8 n h)) (decimal-long 9 n)
 pub digits-most : (n : ℕ) → length (digits n) ≤ 10
 unfolding digits
 digits-most n = decimal-long 10 n
+
+-- a number with its minus has at most eleven bytes
+pub shown-most : (z : ℤ) → length (shown z) ≤ 11
+unfolding shown
+shown-most (pos n) = omega (arith, digits-most n)
+shown-most (negsuc n) = omega (arith, digits-most (suc n))
 
 -- ---- hexadecimal digits by their powers of 16
 

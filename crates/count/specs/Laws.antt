@@ -1,7 +1,7 @@
 -- The laws of counts and words that every crate cites. Assumes nothing.
 use mathlib.Core.Path.{_≡_, refl, sym, ap, _∙_}
-use mathlib.Core.Bool.{Bool, true, false, cond, _&&_, _||_}
-use Prim.Native.Nat.{ℕ, zero, suc, _+_, _-_, _%_, _≤_, _<_}
+use mathlib.Core.Bool.{Bool, true, false, _&&_, _||_}
+use Prim.Native.Nat.{ℕ, zero, suc, _+_, _-_, _≤_, _<_}
 use native.Mathlib.Nat.{mod-eq-of-lt}
 use native.Mathlib.Omega.{arith}
 use lib.Dec.{ltb, leb}
@@ -9,9 +9,9 @@ use lib.IntN.{ℤ, pos, negsuc, subℕ, _+ℤ_}
 use lib.Signed.{mag, leZ}
 use borrow.Author.Tests.{lt-ltb, le-ltb, le-leb, lt-leb, ltb-true, ltb-false, leb-true, leb-false}
 use Rattle.count.specs.Pick.{pick}
-use Rattle.count.specs.declared.Placed.{Placed}
 use Rattle.count.specs.declared.Placed.the-variants.{At, Outside}
 use Rattle.count.specs.Numbers.{within, half, full, value, count, in24, signed, word, withSign, placed, added}
+use Rattle.count.specs.Truth.{and-true, and-false}
 
 -- ---- tests
 
@@ -28,14 +28,6 @@ same-test a b c d to from = by (leb a b) (leb c d) refl refl
 or-false : (b : Bool) → b ≡ b || false
 or-false true = refl
 or-false false = refl
-
-and-true : (b : Bool) → b && true ≡ b
-and-true true = refl
-and-true false = refl
-
-and-false : (b : Bool) → false ≡ b && false
-and-false true = refl
-and-false false = refl
 
 -- ---- words
 
@@ -57,7 +49,7 @@ within-up lo hi w h = by (ltb w 2147483648) refl
     by true e = rw (signed-low w (ltb-true w 2147483648 e))
     by false e =
         let g = ltb-false w 2147483648 e in
-        rw (signed-high w g, lt-leb w hi (omega arith)) (and-false (leb lo w))
+        rw (signed-high w g, lt-leb w hi (omega arith)) (sym (and-false (leb lo w)))
 
 -- a range from 0
 pub within-zero : (hi w : ℕ) → hi < 2147483648 → within (pos 0) (pos hi) (signed w) ≡ leb w hi

@@ -1,4 +1,5 @@
 pub mod Pick
+pub mod Truth
 pub mod Paper
 pub mod Numbers
 pub mod Ranges

@@ -5,11 +5,10 @@ use mathlib.Core.List.{List, [], _∷_, _++_, append-assoc}
 use native.Mathlib.Numerals.{add-one}
 use native.Mathlib.Omega.{arith}
 use borrow.Rule.Slice.PartMut.{putMid}
-use lib.IntN.{ℤ, pos, negsuc}
 use lib.ListN.{length, take, drop, set, length-append}
 use lib.Seq.{take-at, drop-at, drop-drop}
-use Rattle.count.specs.Text.{Written, written, wrote, digits, shown}
-use Rattle.count.specs.Digits.{digits-most, wrote-long}
+use Rattle.count.specs.Text.{Written, written, wrote}
+use Rattle.count.specs.Digits.{wrote-long}
 use Rattle.count.specs.Lists.{rest, to-end, set-front, drop-one}
 use Rattle.course.specs.Work.{Wrote}
 
@@ -40,9 +39,3 @@ byte-before s b {t} {l} {k} h q =
     dropped : (s : List ℕ) → length (drop 1 s) ≡ length s - 1
     dropped [] = refl
     dropped (x ∷ s) = omega arith
-
--- a position has at most eleven bytes
-pub shown-most : (z : ℤ) → length (shown z) ≤ 11
-unfolding shown
-shown-most (pos n) = omega (arith, digits-most n)
-shown-most (negsuc n) = omega (arith, digits-most (suc n))

@@ -1,22 +1,23 @@
 -- The outcomes of a walk's portions, case by case. Assumes nothing.
 use Prim.Native.Nat.{ℕ, _+_, _-_, _/_, _≤_, min}
 use native.Mathlib.Nat.{min-le-left}
-use mathlib.Core.Path.{_≡_, refl, ap, sym, _∙_}
+use mathlib.Core.Path.{_≡_, ap, sym, _∙_}
 use mathlib.Core.Bool.{Bool, true, false, not, _&&_}
 use mathlib.Core.List.{List, [], _++_}
 use native.Mathlib.Omega.{arith}
 use lib.Dec.{leb, eqb}
-use lib.ListN.{length, drop}
+use lib.ListN.{length}
 use borrow.Author.Tests.{eqb-true, leb-true}
 use Rattle.count.specs.Pick.{pick}
-use Rattle.count.specs.Text.{Written, written, wrote}
+use Rattle.count.specs.Text.{written, wrote}
 use Rattle.count.specs.Digits.{wrote-long}
+use Rattle.count.specs.Truth.{and-parts}
 use Rattle.board.specs.declared.Board.{Board}
 use Rattle.board.specs.State.{sound}
 use Rattle.course.specs.declared.Ran.{Ran}
 use Rattle.course.specs.declared.Walk.{Walk}
 use Rattle.course.specs.Text.{limitText, endText}
-use Rattle.course.specs.Run.{Course, course, allowed, Outcome, did, refused, ran, running}
+use Rattle.course.specs.Run.{course, allowed, Outcome, did, refused, ran, running}
 use Rattle.course.specs.Portions.{course-few}
 use Rattle.course.specs.Walk.{most, ready, Done, done, walk, further, onDone, tailDone}
 use Rattle.course.specs.Work.{Wrote, doneOf, same}
@@ -56,18 +57,6 @@ run-few limit b store out q =
     let c = ap (λ (x : Outcome). x .result .calls) q in
     omega (arith, c, few-by (eqb (length store) 16384) (sound b) limit b store out)
 
-and-parts : (a b c : Bool) → a && b && c ≡ true → (a ≡ true) × (b ≡ true) × (c ≡ true)
-and-parts true true true e = (refl, refl, refl)
-and-parts true true false e = (refl, refl, e)
-and-parts true false c e = (refl, e, never e)
-  where
-    never : {A : Type 0} → false ≡ true → A
-    never e = let z : _≡_ {A = ℕ} 0 1 = cc in absurd (omega arith)
-and-parts false b c e = (e, never e, never e)
-  where
-    never : {A : Type 0} → false ≡ true → A
-    never e = let z : _≡_ {A = ℕ} 0 1 = cc in absurd (omega arith)
-
 module _ (w : Walk) (store out : List ℕ) where
   abbrev onward : Done
   onward = let c = course (allowed (most - w .calls) out) store (w .board) in done (further c (w .calls)) (c .text) store out
@@ -75,8 +64,9 @@ module _ (w : Walk) (store out : List ℕ) where
   pub ready-parts : ready w store out ≡ true → (64 ≤ length out) × (length store ≡ 16384) × (sound (w .board) ≡ true)
   unfolding ready
   ready-parts e =
-      let p = and-parts (leb 64 (length out)) (eqb (length store) 16384) (sound (w .board)) e in
-      (leb-true 64 (length out) (p .0), eqb-true (length store) 16384 (p .1), p .2)
+      let p = and-parts (leb 64 (length out) && eqb (length store) 16384) (sound (w .board)) e in
+      let q = and-parts (leb 64 (length out)) (eqb (length store) 16384) (p .0) in
+      (leb-true 64 (length out) (q .0), eqb-true (length store) 16384 (q .1), p .1)
 
   -- ---- a run that goes on
 

@@ -1,13 +1,13 @@
 -- The engine's run is the run of clock calls that 01 speaks of, on a sound board that does not stand. Assumes nothing.
-use Prim.Native.Nat.{ℕ, zero, suc, _+_, _-_, _≤_}
+use Prim.Native.Nat.{ℕ, zero, suc}
 use mathlib.Core.Path.{_≡_, refl, ap, sym, _∙_}
-use mathlib.Core.Bool.{Bool, true, false, not, _&&_}
-use mathlib.Core.List.{List, []}
-use native.Mathlib.Omega.{arith}
-use lib.Dec.{eqb, leb}
+use mathlib.Core.Bool.{Bool, true, false}
+use mathlib.Core.List.{List}
+use lib.Dec.{leb}
 use lib.ListN.{length}
 use borrow.Author.Tests.{eq-eqb}
 use Rattle.count.specs.Pick.{pick}
+use Rattle.count.specs.Truth.{and-right, and-true, and-false}
 use Rattle.motion.specs.Next.{nextOf, pulseOf}
 use Rattle.record.specs.Places.{fetchOf}
 use Rattle.engine.specs.declared.Engine.{Engine}
@@ -21,10 +21,11 @@ use Rattle.board.specs.declared.Board.{Board}
 use Rattle.board.specs.declared.Ticked.{Ticked}
 use Rattle.board.specs.State.{board, sound}
 use Rattle.board.specs.Calls.{clocked, wentOn, clocking}
+use Rattle.board.specs.Hears.{sound-engine}
 use Rattle.course.specs.Text.{answerText}
 use Rattle.course.specs.Run.{runsNow, Course, rests, then, course}
 use Rattle.course.specs.Portions.{course-on, course-off, course-none}
-use Rattle.course.specs.Machine.{Way, stays, way, way-on, way-off, way-none}
+use Rattle.course.specs.Machine.{Way, way-on, way-off, way-none}
 use Rattle.course.specs.Going.{tickNext, tickSaid, goWay}
 
 -- the board with another engine
@@ -34,18 +35,6 @@ withEngine b e = board e (b .standing) (b .line)
 -- a run of the engine as one of the board
 abbrev pub onBoard : Board → Way Engine → Course
 onBoard b w = record { board = withEngine b (w .state); calls = w .calls; text = w .text }
-
-and-left : (a b : Bool) → a && b ≡ true → a ≡ true
-and-left true b e = refl
-and-left false b e = e
-
-and-right : (a b : Bool) → a && b ≡ true → b ≡ true
-and-right true b e = e
-and-right false b e = let z : _≡_ {A = ℕ} 0 1 = cc in absurd (omega arith)
-
-engine-sound : (b : Board) → sound b ≡ true → soundOf (b .engine) ≡ true
-unfolding sound
-engine-sound b s = and-left (soundOf (b .engine)) (leb (b .line .len) 80) s
 
 module _ (store : List ℕ) (l : length store ≡ 16384) where
   -- a clock call that is not refused
@@ -59,22 +48,18 @@ module _ (store : List ℕ) (l : length store ≡ 16384) where
   clock-is b s n =
       unrefused b s
       ∙ ap (λ (x : Bool). pick x (clocked 0 b answer.Nothing) (wentOn b (ticked pulseOf (fetchOf (b .engine .held) store) (b .engine)))) n
-      ∙ ap (λ (t : Told). wentOn b t) (sym (rules-agree (fetchOf (b .engine .held) store) (b .engine) (engine-sound b s)))
+      ∙ ap (λ (t : Told). wentOn b t) (sym (rules-agree (fetchOf (b .engine .held) store) (b .engine) (sound-engine b s)))
 
   -- and its board is sound and does not stand
   pub next-sound : (b : Board) → sound b ≡ true → sound (withEngine b (tickNext store (b .engine))) ≡ true
   unfolding sound
   next-sound b s =
-      let k = tick-keeps (fetchOf (b .engine .held) store) (b .engine) (and-left (soundOf (b .engine)) (leb (b .line .len) 80) s) in
+      let k = tick-keeps (fetchOf (b .engine .held) store) (b .engine) (sound-engine b s) in
       rw (k, and-right (soundOf (b .engine)) (leb (b .line .len) 80) s)
 
   runs-same : (b : Board) → b .standing ≡ false → runsNow b ≡ runsOf (b .engine)
   unfolding runsNow
   runs-same b n = rw n (and-true (runsOf (b .engine)))
-    where
-      and-true : (x : Bool) → x && true ≡ x
-      and-true true = refl
-      and-true false = refl
 
   go-by : (k : ℕ) (b : Board) (x : Bool) → runsOf (b .engine) ≡ x → sound b ≡ true → b .standing ≡ false
       → course k store (withEngine b (tickNext store (b .engine))) ≡ onBoard (withEngine b (tickNext store (b .engine))) (goWay store k (tickNext store (b .engine)))
@@ -99,7 +84,3 @@ module _ (store : List ℕ) (l : length store ≡ 16384) where
 pub stands : (store : List ℕ) (k : ℕ) (b : Board) → b .standing ≡ true → course k store b ≡ rests b
 unfolding runsNow
 stands store k b n = course-off store k b (rw n (and-false (runsOf (b .engine))))
-  where
-    and-false : (x : Bool) → x && false ≡ false
-    and-false true = refl
-    and-false false = refl

@@ -4,8 +4,8 @@ use mathlib.Core.Path.{_≡_}
 use mathlib.Core.Bool.{true, _&&_}
 use lib.Dec.{leb}
 use borrow.Author.Tests.{le-leb, leb-true}
+use Rattle.count.specs.Truth.{and-left, and-right, both}
 use Rattle.motion.specs.Sound.{counted}
-use Rattle.motion.specs.Passed.{and-left, and-right, both}
 use Rattle.engine.specs.declared.Engine.{Engine}
 use Rattle.engine.specs.Sound.{axesKnown, jobSound, soundOf}
 

@@ -1,55 +1,32 @@
 -- On a readable store the store's fetch is the list's: an accepted program's run on its store is the list machine's run. Assumes nothing.
-use Prim.Native.Nat.{ℕ, zero, suc}
+use Prim.Native.Nat.{ℕ}
 use mathlib.Core.Path.{_≡_, refl, ap, _∙_, fun-ext}
 use mathlib.Core.Bool.{Bool, true, false}
-use mathlib.Core.List.{List, [], _∷_}
+use mathlib.Core.List.{List}
 use native.Mathlib.Omega.{arith}
 use lib.Dec.{ltb, eqb}
-use lib.ListN.{length, drop}
+use lib.ListN.{length}
 use borrow.Author.Tests.{ltb-true, ltb-false, eqb-true, eqb-false}
 use Rattle.count.specs.Pick.{pick}
 use Rattle.record.specs.declared.Held.{Held}
 use Rattle.record.specs.declared.Record.{Record}
-use Rattle.record.specs.Bytes.{Fetch, front, lengthOf}
 use Rattle.record.specs.Bytes.Fetch.{Got, End, Wrong}
-use Rattle.record.specs.Places.{Records, onto, then, recordsFrom, recordsOf, fetchOf}
-use Rattle.record.specs.Places.Records.{are, none-are}
+use Rattle.record.specs.Places.{recordsOf, fetchOf}
+use Rattle.record.specs.Places.Records.{are}
 use Rattle.record.specs.Stored.{element, fetch-element, fetch-end, fetch-wrong}
+use Rattle.program.specs.Accepting.{records-count}
 use Rattle.engine.specs.declared.Engine.{Engine}
 use Rattle.engine.specs.Tick.{Rule, Fetching, ticked, listFetch}
-
--- ---- as many records as the store counts
-
-onto-count : (r : Record) (x : Records) (k : ℕ) (l : List Record) → ((m : List Record) → x ≡ are m → length m ≡ k) → onto r x ≡ are l → length l ≡ suc k
-onto-count r (are m) k l ih p =
-    let q : l ≡ r ∷ m = cc in
-    ap length q ∙ ap suc (ih m refl)
-onto-count r none-are k l ih p = let z : _≡_ {A = ℕ} 0 1 = cc in absurd (omega arith)
-
-then-count : (x : Fetch) (f : Record → Records) (k : ℕ) (l : List Record) → ((r : Record) (m : List Record) → f r ≡ are m → length m ≡ k) → then x f ≡ are l → length l ≡ suc k
-then-count (Got r) f k l ih p = onto-count r (f r) k l (ih r) p
-then-count End f k l ih p = let z : _≡_ {A = ℕ} 0 1 = cc in absurd (omega arith)
-then-count Wrong f k l ih p = let z : _≡_ {A = ℕ} 0 1 = cc in absurd (omega arith)
-
-count-from : (axes k : ℕ) (s : List ℕ) (l : List Record) → recordsFrom axes k s ≡ are l → length l ≡ k
-unfolding recordsFrom
-count-from axes zero [] l p = let q : l ≡ [] = cc in ap length q
-count-from axes zero (x ∷ s) l p = let z : _≡_ {A = ℕ} 0 1 = cc in absurd (omega arith)
-count-from axes (suc k) s l p = then-count (front axes s) _ k l (λ r m. count-from axes k (drop (lengthOf r) s) m) p
-
-pub count-list : (h : Held) (s : List ℕ) (l : List Record) → recordsOf h s ≡ are l → length l ≡ h .records
-unfolding recordsOf
-count-list h s l p = count-from (h .axes) (h .records) _ l p
 
 -- ---- the fetches
 
 module _ (h : Held) (s : List ℕ) (l : List Record) (e : recordsOf h s ≡ are l) where
   fetch-by : (p : ℕ) (t u : Bool) → ltb p (length l) ≡ t → eqb p (length l) ≡ u → fetchOf h s p ≡ pick t (Got (element l p)) (pick u End Wrong)
-  fetch-by p true u q v = fetch-element h s p l e (omega (arith, ltb-true p (length l) q, count-list h s l e))
-  fetch-by p false true q v = fetch-end h s p (omega (arith, eqb-true p (length l) v, count-list h s l e))
+  fetch-by p true u q v = fetch-element h s p l e (omega (arith, ltb-true p (length l) q, records-count h s l e))
+  fetch-by p false true q v = fetch-end h s p (omega (arith, eqb-true p (length l) v, records-count h s l e))
   fetch-by p false false q v =
       let n = eqb-false p (length l) v in
-      fetch-wrong h s p (omega (arith, ltb-false p (length l) q, count-list h s l e))
+      fetch-wrong h s p (omega (arith, ltb-false p (length l) q, records-count h s l e))
 
   -- ON A READABLE STORE BOTH FETCHES AGREE
   pub fetches-agree : (p : ℕ) → fetchOf h s p ≡ listFetch l p

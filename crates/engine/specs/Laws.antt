@@ -1,11 +1,10 @@
 -- The laws of one clock call: both rules agree on a sound engine; idle, storing and waiting it answers nothing and changes nothing;
 -- the counters move by the answer alone; an origin changes only by a record `n`; the store's part in use only by G. Assumes nothing.
-use Prim.Native.Nat.{ℕ}
-use mathlib.Core.Path.{_≡_, refl, ap, _∙_}
+use mathlib.Core.Path.{_≡_, refl, sym, ap, _∙_}
 use mathlib.Core.Bool.{Bool, true, false}
 use mathlib.Core.Logic.{_⊎_, inl, inr}
-use native.Mathlib.Omega.{arith}
 use Rattle.count.specs.Pick.{pick}
+use Rattle.count.specs.Truth.{never}
 use Rattle.motion.specs.declared.Counters.{Counters}
 use Rattle.motion.specs.declared.Move.{Move}
 use Rattle.motion.specs.declared.Next.{Next}
@@ -75,16 +74,13 @@ rules-agree f e h = let s = facts e h in job-same e (s .at) f (e .run .job) (s .
 
 -- ---- nothing to do
 
-never : {A : Type 0} → true ≡ false → A
-never p = let z : _≡_ {A = ℕ} 0 1 = cc in absurd (omega arith)
-
 quiet-by : (r : Rule) (f : Fetching) (j : Job) (e : Engine) → runsBy j ≡ false → tickedBy r f j e ≡ told e answer.Nothing
 quiet-by r f job.Idle e h = refl
 quiet-by r f job.Storing e h = refl
-quiet-by r f (job.Direct m) e h = never h
-quiet-by r f job.Ready e h = never h
-quiet-by r f (job.Moving m) e h = never h
-quiet-by r f (job.Delay q) e h = never h
+quiet-by r f (job.Direct m) e h = never (sym h)
+quiet-by r f job.Ready e h = never (sym h)
+quiet-by r f (job.Moving m) e h = never (sym h)
+quiet-by r f (job.Delay q) e h = never (sym h)
 quiet-by r f (job.Wait k t) e h = refl
 
 -- IDLE, STORING AND WAITING A CALL ANSWERS NOTHING AND CHANGES NOTHING

@@ -8,10 +8,10 @@ use native.Mathlib.Omega.{arith}
 use lib.Dec.{eqb}
 use lib.ListN.{length}
 use Rattle.count.specs.Pick.{pick}
+use Rattle.count.specs.Truth.{and-right}
 use Rattle.motion.specs.declared.Move.{Move}
 use Rattle.motion.specs.declared.Next.{Next}
 use Rattle.motion.specs.declared.Next.the-variants as next
-use Rattle.motion.specs.Passed.{and-right}
 use Rattle.record.specs.declared.Held.{Held}
 use Rattle.record.specs.declared.Record.{Record}
 use Rattle.record.specs.Bytes.{Fetch}
@@ -29,7 +29,8 @@ use Rattle.engine.specs.declared.Told.{Told}
 use Rattle.engine.specs.State.{withRun, withJob, running, started, heardBy, heard}
 use Rattle.engine.specs.Tick.{Rule, Fetching, told, finished, fetched, movingOn, tickedBy, ticked, runsBy, runsOf, listFetch}
 use Rattle.engine.specs.Work.{stood}
-use Rattle.engine.specs.Fetches.{count-list, same-fetch}
+use Rattle.program.specs.Accepting.{records-count}
+use Rattle.engine.specs.Fetches.{same-fetch}
 use Rattle.engine.specs.Accepted.{JobFair, OnList, NoG, Fair, call-fair, list-end}
 
 -- ---- calls and bytes
@@ -152,7 +153,7 @@ accepted-list h s e =
       l,
       x .1,
       record {
-        right = λ i p. stood h s i (fetch-element h s i l (x .1) (omega (arith, count-list h s l (x .1)))) .right;
+        right = λ i p. stood h s i (fetch-element h s i l (x .1) (omega (arith, records-count h s l (x .1)))) .right;
         passing = x .2;
       },
     )
@@ -163,4 +164,4 @@ pub never-G-stored : (h : Held) (s : List ℕ) → accepted h s ≡ true → (ru
 never-G-stored h s p rule xs e q =
     let x = accepted-list h s p in
     subst (λ (f : Fetching). NeverG rule f xs (started e)) (sym (same-fetch h s (x .0) (x .1)))
-    (never-G (h .axes) (x .0) (x .2) rule xs e (ap (λ (d : Held). d .records) q ∙ sym (count-list h s (x .0) (x .1))))
+    (never-G (h .axes) (x .0) (x .2) rule xs e (ap (λ (d : Held). d .records) q ∙ sym (records-count h s (x .0) (x .1))))

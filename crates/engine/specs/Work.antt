@@ -12,6 +12,7 @@ use Rattle.count.specs.Pick.{pick}
 use Rattle.count.specs.Numbers.{signed}
 use Rattle.count.specs.Ranges.{nth, inDelay, inCharacter, inOffset}
 use Rattle.count.specs.Laws.{within-up, within-zero}
+use Rattle.count.specs.Truth.{and-left, and-right}
 use Rattle.motion.specs.declared.Counters.{Counters}
 use Rattle.motion.specs.declared.Move.{Move}
 use Rattle.motion.specs.declared.Stepped.{Stepped}
@@ -25,16 +26,16 @@ use Rattle.record.specs.declared.Found.the-variants as found
 use Rattle.record.specs.declared.Fetched.{Fetched}
 use Rattle.record.specs.declared.Spot.{Spot}
 use Rattle.record.specs.declared.Spot.the-variants as spot
-use Rattle.record.specs.Fault.{isCode, countRight, axesRight, rangesRight, speedsRight, faultOf}
+use Rattle.record.specs.Fault.{rangesRight}
 use Rattle.record.specs.Bytes.{Fetch, isRight}
 use Rattle.record.specs.Bytes.Fetch.{Got, End, Wrong}
 use Rattle.record.specs.Places.{answered, spotFrom, spotOf, recordFrom, recordAt, fetchOf, inUse}
 use Rattle.record.specs.Walk.{front-stands}
-use Rattle.motion.specs.Passed.{and-left, and-right}
 use lib.IntN.{ℤ}
 use Rattle.program.specs.declared.Loops.{Loops}
 use Rattle.program.specs.declared.Way.{Way}
 use Rattle.program.specs.declared.Going.the-variants as going
+use Rattle.program.specs.Right.{ranges-right}
 use Rattle.program.specs.Onward.{lastOf, went, to, wrong, inside, targetOf, again, opens, looped, aimed, onwardOf}
 use Rattle.engine.specs.declared.Answer.the-variants as answer
 use Rattle.engine.specs.declared.Job.the-variants as job
@@ -114,19 +115,6 @@ module _ (h : Held) (s : List ℕ) (place : ℕ) {r : Record} where
   }
 
 -- ---- the first word of a right record
-
-ranges-by : (a b c d e : Bool) → _≡_ {A = ℕ} (pick a (pick b (pick c (pick d (pick e 48 68) 49) 51) 55) 53) 48 → d ≡ true
-ranges-by true true true true e p = refl
-ranges-by true true true false e p = absurd (omega arith)
-ranges-by true true false d e p = absurd (omega arith)
-ranges-by true false c d e p = absurd (omega arith)
-ranges-by false b c d e p = absurd (omega arith)
-
-pub ranges-right : (axes : ℕ) (r : Record) → isRight axes r ≡ true → rangesRight axes (r .code) (r .words) ≡ true
-unfolding faultOf
-ranges-right axes r e =
-    ranges-by (isCode (r .code)) (countRight axes (r .code) (r .count)) (axesRight axes (r .code) (r .words)) (rangesRight axes (r .code) (r .words))
-    (speedsRight axes (r .code) (r .words)) (eqb-true (faultOf axes (r .code) (r .count) (r .words)) 48 e)
 
 character-small : (w : ℕ) → inCharacter (signed w) ≡ true → w < 256
 unfolding inCharacter

@@ -12,58 +12,10 @@ use program::Loops;
 use record::Held;
 use record::Record;
 
-// A number of the text as a word of 32 bits, and where the text goes on.
-struct Number {
-    word: u32,
-    at: usize,
-}
-
 // The numbers of one step, and where the text goes on.
 struct Step {
     words: [u32; 11],
     at: usize,
-}
-
-fn is_digit(b: u8) -> bool {
-    (48 <= b) & (b <= 57)
-}
-
-// A size with one digit more, to nine digits; any other byte leaves it.
-fn with_digit(size: u32, b: u8) -> u32 {
-    if size < 100000000 {
-        if 48 <= b {
-            if b <= 57 {
-                return size * 10 + ((b - 48) as u32);
-            }
-        }
-    }
-    size
-}
-
-// The next number from a place of the text on.
-fn next_number(text: &[u8], from: usize) -> Number {
-    let mut at = from;
-    let mut size: u32 = 0;
-    let mut minus = false;
-    let mut begun = false;
-    while at < text.len() {
-        let b = text[at];
-        at = at + 1;
-        let digit = is_digit(b);
-        if begun & !digit {
-            return Number {
-                word: count::word_of(minus, size),
-                at,
-            };
-        }
-        minus = minus | (b == 45);
-        begun = begun | digit;
-        size = with_digit(size, b);
-    }
-    Number {
-        word: count::word_of(minus, size),
-        at,
-    }
 }
 
 fn next_step(text: &[u8], from: usize) -> Step {
@@ -71,7 +23,7 @@ fn next_step(text: &[u8], from: usize) -> Step {
     let mut at = from;
     let mut k = 0;
     while k < 11 {
-        let t = next_number(text, at);
+        let t = reader::next_number(text, at);
         words[k] = t.word;
         at = t.at;
         k = k + 1;
@@ -299,7 +251,7 @@ fn write(e: Engine, store: &mut [u8], w: [u32; 11]) -> Engine {
 fn run_all(text: &[u8]) {
     let mut store: [u8; 16384] = [0; 16384];
     let mut e = Engine::fresh();
-    let first = next_number(text, 0);
+    let first = reader::next_number(text, 0);
     let mut left = first.word;
     let mut at = first.at;
     while 0 < left {

@@ -9,11 +9,11 @@ use Rattle.count.specs.Pick.{pick}
 use Rattle.count.specs.Ranges.{rightSpeeds}
 use Rattle.count.specs.declared.Placed.{Placed}
 use Rattle.count.specs.declared.Placed.the-variants as placed
+use Rattle.count.specs.Truth.{and-right}
 use Rattle.motion.specs.declared.Move.{Move}
 use Rattle.motion.specs.declared.Planned.the-variants.{Going, Outside}
 use Rattle.motion.specs.Plan.{Asked, goalX, goalY, goalZ1, goalZ2, movesZ2, onFrom, firstSpeed, laterSpeed, route, goingTo}
 use Rattle.motion.specs.Sound.{speedRight}
-use Rattle.motion.specs.Passed.{and-right}
 use Rattle.motion.specs.Plans.{first-right, second-right, third-right}
 
 -- a movement from its resting points and speeds

@@ -1,12 +1,12 @@
 -- The test of 103 as facts: what a movement that passes it has, and that one that has it passes. Assumes nothing.
-use mathlib.Core.Path.{_≡_, refl}
+use mathlib.Core.Path.{_≡_}
 use mathlib.Core.Bool.{Bool, true, false, _&&_}
-use Prim.Native.Nat.{ℕ, _-_, _≤_, _<_}
-use native.Mathlib.Omega.{arith}
+use Prim.Native.Nat.{ℕ, _≤_, _<_}
 use lib.Dec.{ltb, leb, eqb}
 use borrow.Author.Tests.{lt-ltb, le-leb, eq-eqb, ltb-true, leb-true, eqb-true}
 use Rattle.count.specs.Pick.{pick}
 use Rattle.count.specs.Numbers.{far, full}
+use Rattle.count.specs.Truth.{and-left, and-right, both}
 use Rattle.motion.specs.declared.Counters.{Counters}
 use Rattle.motion.specs.declared.Move.{Move}
 use Rattle.motion.specs.Phase.{countAfter}
@@ -14,20 +14,6 @@ use Rattle.motion.specs.Next.{fromOf, toOf, leg, speedAt}
 use Rattle.motion.specs.Sound.{speedRight, counted, inRange, standsAt, underWay}
 use Rattle.motion.specs.Axis.{count-small}
 use Rattle.motion.specs.Pulses.{In24, within-x, within-y, within-z}
-
-pub and-left : (a b : Bool) → a && b ≡ true → a ≡ true
-and-left true b e = refl
-and-left false b e = e
-
-pub and-right : (a b : Bool) → a && b ≡ true → b ≡ true
-and-right true b e = e
-and-right false b e = let z : _≡_ {A = Bool} false true = e in absurd (never z)
-  where
-    never : false ≡ true → ⊥
-    never p = let z : _≡_ {A = ℕ} 0 1 = cc in omega arith
-
-pub both : {a b : Bool} → a ≡ true → b ≡ true → a && b ≡ true
-both p q = rw (p, q)
 
 -- ---- three counts of 24 bits
 

@@ -2,7 +2,7 @@
 use mathlib.Core.Path.{_≡_, refl, sym, ap, _∙_}
 use mathlib.Core.Bool.{Bool, true, false, _&&_, not}
 use mathlib.Core.List.{List}
-use Prim.Native.Nat.{ℕ, _+_, _-_, _≤_, _<_}
+use Prim.Native.Nat.{ℕ, _≤_, _<_}
 use native.Mathlib.Omega.{arith}
 use lib.Dec.{ltb, eqb}
 use lib.IntN.{ℤ, pos, negsuc, _+ℤ_}
@@ -15,6 +15,7 @@ use Rattle.count.specs.Ranges.{inSpeed, nth, rightDistances, rightSpeeds}
 use Rattle.count.specs.Laws.{within-up}
 use Rattle.count.specs.declared.Placed.{Placed}
 use Rattle.count.specs.declared.Placed.the-variants as placed
+use Rattle.count.specs.Truth.{never, and-left, and-right}
 use Rattle.motion.specs.declared.Counters.{Counters}
 use Rattle.motion.specs.declared.Move.{Move}
 use Rattle.motion.specs.declared.Planned.{Planned}
@@ -24,7 +25,7 @@ use Rattle.motion.specs.Next.{fromOf, toOf}
 use Rattle.motion.specs.Sound.{speedRight, counted, underWay}
 use Rattle.motion.specs.Axis.{count-first}
 use Rattle.motion.specs.Pulses.{In24}
-use Rattle.motion.specs.Passed.{and-left, and-right, Passed, passes, in24-of}
+use Rattle.motion.specs.Passed.{Passed, passes, in24-of}
 
 -- ---- resting points
 
@@ -83,9 +84,6 @@ unfolding inSpeed
 speed-word w e = sym (within-up 30 10000 w (omega arith)) ∙ e
 
 module _ (axes : ℕ) (l : List ℕ) (h : rightSpeeds axes l ≡ true) where
-  never : {A : Type 0} → false ≡ true → A
-  never p = let z : _≡_ {A = ℕ} 0 1 = cc in absurd (omega arith)
-
   one-by : (a b c p q r s : Bool) → pick a p (pick b (p && q) (pick c (p && q && r && s) false)) ≡ true → p ≡ true
   one-by true b c p q r s e = e
   one-by false true c p q r s e = and-left p q e

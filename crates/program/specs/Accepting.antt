@@ -9,6 +9,7 @@ use borrow.Author.Tests.{le-ltb}
 use lib.Dec.{ltb}
 use lib.ListN.{length, drop}
 use Rattle.count.specs.Pick.{pick}
+use Rattle.count.specs.Truth.{never, and-parts}
 use Rattle.record.specs.declared.Held.{Held}
 use Rattle.record.specs.declared.Record.{Record}
 use Rattle.record.specs.Bytes.{Fetch, Got, End, Wrong, front, lengthOf, isRight}
@@ -17,7 +18,6 @@ use Rattle.record.specs.Walk.{front-stands}
 use Rattle.program.specs.declared.Verdict.{Verdict}
 use Rattle.program.specs.declared.Verdict.the-variants.{Sound, Unreadable}
 use Rattle.program.specs.Program.{verdictOn, verdictOf, isSound, passes, axesSet, passing, accepted}
-use Rattle.program.specs.Clean.{never, and-true}
 use Rattle.program.specs.Run.{recordIn, Accepted}
 
 -- ---- the check computes it
@@ -102,7 +102,7 @@ rights axes (suc k) s = rights-then axes k s (front axes s) refl (rights axes k)
 
 passing-list : (h : Held) (s : List ℕ) (l : List Record) → recordsOf h s ≡ are l → accepted h s ≡ true → passes l ≡ true
 unfolding accepted
-passing-list h s l e a = ap passing (sym e) ∙ and-true (axesSet (h .axes)) (passing (recordsOf h s)) a .1
+passing-list h s l e a = ap passing (sym e) ∙ and-parts (axesSet (h .axes)) (passing (recordsOf h s)) a .1
 
 -- its list of records is accepted under its axes
 pub accepted-list : (h : Held) (s : List ℕ) (l : List Record) → recordsOf h s ≡ are l → accepted h s ≡ true → Accepted (h .axes) l
@@ -119,11 +119,11 @@ pub record Holds (h : Held) (s : List ℕ) : Type 0 where
 
 no-list : (h : Held) (s : List ℕ) → recordsOf h s ≡ none-are → accepted h s ≡ true → passing none-are ≡ true
 unfolding accepted
-no-list h s e a = ap passing (sym e) ∙ and-true (axesSet (h .axes)) (passing (recordsOf h s)) a .1
+no-list h s e a = ap passing (sym e) ∙ and-parts (axesSet (h .axes)) (passing (recordsOf h s)) a .1
 
 holds-by : (h : Held) (s : List ℕ) (x : Records) → recordsOf h s ≡ x → accepted h s ≡ true → Holds h s
 holds-by h s (are l) e a = record { items = l; reads = e; count = records-count h s l e; program = accepted-list h s l e a }
-holds-by h s none-are e a = never (sym (no-list h s e a))
+holds-by h s none-are e a = never (no-list h s e a)
 
 pub accepted-holds : (h : Held) (s : List ℕ) → accepted h s ≡ true → Holds h s
 accepted-holds h s a = holds-by h s (recordsOf h s) refl a

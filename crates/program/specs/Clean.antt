@@ -1,5 +1,5 @@
 -- A check that finds nothing finds nothing at each place, in each of its conditions. Assumes nothing.
-use Prim.Native.Nat.{ℕ, zero, suc, _+_, _-_, _≤_, _<_}
+use Prim.Native.Nat.{ℕ, zero, suc, _+_, _≤_, _<_}
 use mathlib.Core.Bool.{Bool, true, false, cond, not, _&&_, _||_, Bool·beq}
 use mathlib.Core.Path.{_≡_, refl, sym, _∙_, subst}
 use native.Mathlib.Omega.{arith}
@@ -7,6 +7,7 @@ use native.Mathlib.Nat.{zero-add}
 use borrow.Author.Tests.{ltb-false, leb-true, eqb-true, eqb-false, le-leb}
 use lib.Dec.{ltb, leb, eqb, T}
 use Rattle.count.specs.Pick.{pick}
+use Rattle.count.specs.Truth.{never, and-parts, both}
 use Rattle.program.specs.declared.Verdict.{Verdict}
 use Rattle.program.specs.declared.Verdict.the-variants.{Sound, Fault}
 use Rattle.program.specs.Check.{mark, some, tally, holds, meets, overlaps, holders, strays, outside, early, letter, faultFrom, checked}
@@ -18,22 +19,9 @@ pub true-T : {b : Bool} → T b → b ≡ true
 true-T {b = true} t = refl
 true-T {b = false} t = absurd t
 
-pub T-true : {b : Bool} → b ≡ true → T b
-T-true e = subst T (sym e) tt
-
-pub never : {A : Type 0} → _≡_ {A = Bool} true false → A
-never e = absurd (subst T e tt)
-
 pub and-false : {a b : Bool} → a && b ≡ false → a ≡ true → b ≡ false
 and-false {a = true} e t = e
-and-false {a = false} e t = never (sym t)
-
-pub and-true : (a b : Bool) → a && b ≡ true → (a ≡ true) × (b ≡ true)
-and-true true b e = (refl, e)
-and-true false b e = never (sym e)
-
-pub and-yes : {a b : Bool} → a ≡ true → b ≡ true → a && b ≡ true
-and-yes e f = rw (e, f)
+and-false {a = false} e t = never t
 
 none-go : {k i : ℕ} (f : ℕ → Bool) (q : Bool) → eqb i k ≡ q → f k ≡ false → (i < k → f i ≡ false) → i < suc k → f i ≡ false
 none-go f true e z g h = subst (λ (j : ℕ). f j ≡ false) (sym (eqb-true _ _ e)) z
@@ -43,7 +31,7 @@ none-go f false e z g h = let n = eqb-false _ _ e in g (below h n)
     below h d = omega arith
 
 pub or-false : {a b : Bool} → a || b ≡ false → (a ≡ false) × (b ≡ false)
-or-false {a = true} e = never e
+or-false {a = true} e = never (sym e)
 or-false {a = false} e = (refl, e)
 
 -- nowhere among k places
@@ -127,21 +115,21 @@ holders-up fl (suc m) i p g h = omega (arith, one-le (flow.holds fl i p) (g i) (
 module _ (loop : ℕ → Bool) (far : ℕ → ℕ) where
   pub holds-yes : (i m : ℕ) → loop i ≡ true → far i ≤ m → m ≤ mark i → holds loop far i m ≡ true
   unfolding holds
-  holds-yes i m k g h = and-yes (and-yes k (le-leb _ _ g)) (le-leb _ _ h)
+  holds-yes i m k g h = both (both k (le-leb _ _ g)) (le-leb _ _ h)
 
   pub holds-parts : (i m : ℕ) → holds loop far i m ≡ true → (far i ≤ m) × (m ≤ mark i)
   unfolding holds
-  holds-parts i m e = let d = and-true (loop i && leb (far i) m) (leb m (mark i)) e in (leb-true _ _ (and-true (loop i) (leb (far i) m) (d .0) .1), leb-true _ _ (d .1))
+  holds-parts i m e = let d = and-parts (loop i && leb (far i) m) (leb m (mark i)) e in (leb-true _ _ (and-parts (loop i) (leb (far i) m) (d .0) .1), leb-true _ _ (d .1))
 
   pub meets-no : (i f : ℕ) → meets loop far i f ≡ false → loop i ≡ true → f ≤ mark i → f ≤ far i
   unfolding meets
   meets-no i f e k h = go (ltb (far i) f) refl
     where
       go : (q : Bool) → ltb (far i) f ≡ q → f ≤ far i
-      go true q = never (sym (le-leb _ _ h) ∙ and-false e (and-yes k q))
+      go true q = never (sym (and-false e (both k q)) ∙ le-leb _ _ h)
       go false q = ltb-false _ _ q
 
 pub level : {a b : Bool} → not (Bool·beq a b) ≡ false → a ≡ true → b ≡ true
 level {a = true} {b = true} e t = refl
-level {a = true} {b = false} e t = never e
-level {a = false} e t = never (sym t)
+level {a = true} {b = false} e t = never (sym e)
+level {a = false} e t = never t

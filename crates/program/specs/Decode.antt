@@ -2,7 +2,7 @@
 -- definition's. Assumes nothing.
 use Prim.Native.Nat.{ℕ, _+_, _-_, _≤_, _<_}
 use mathlib.Core.Path.{_≡_, refl, sym}
-use mathlib.Core.Bool.{Bool, true, false, _&&_}
+use mathlib.Core.Bool.{Bool, true, false}
 use native.Mathlib.Omega.{arith}
 use borrow.Author.Tests.{ltb-true, ltb-false, leb-true, eqb-true, eqb-false, lt-ltb, le-ltb}
 use lib.Dec.{eqb, leb, ltb}
@@ -12,6 +12,7 @@ use Rattle.count.specs.Pick.{pick}
 use Rattle.count.specs.Numbers.{within, signed}
 use Rattle.count.specs.Ranges.{nth, inOffset}
 use Rattle.count.specs.Laws.{signed-low, signed-high}
+use Rattle.count.specs.Truth.{and-left}
 use Rattle.record.specs.declared.Record.{Record}
 use Rattle.record.specs.Bytes.{isRight}
 use Rattle.program.specs.Program.{Aim, aimOf, goes, jumps, waits, loops, shift, offsetOf}
@@ -45,10 +46,6 @@ unfolding within clip
 clip-high w l e =
     let h = leb-true (4294967295 - w) 32767 (and-left (leb (4294967295 - w) 32767) true (rw (signed-high w l) at e)) in
     rw (signed-high w l, le-ltb w 32768 (omega arith), le-ltb w 4294934528 (omega arith))
-  where
-    and-left : (a b : Bool) → a && b ≡ true → a ≡ true
-    and-left true b e = refl
-    and-left false b e = e
 
 pub clip-same : (w : ℕ) → inOffset (signed w) ≡ true → shift (signed w) ≡ clip w
 unfolding inOffset

@@ -11,6 +11,7 @@ use lib.Dec.{ltb, eqb}
 use lib.ListN.{length, getD}
 use Rattle.count.specs.Pick.{pick}
 use Rattle.count.specs.Ranges.{nth}
+use Rattle.count.specs.Truth.{never}
 use Rattle.record.specs.declared.Record.{Record}
 use Rattle.record.specs.Bytes.{isRight}
 use Rattle.program.specs.declared.Verdict.{Verdict}
@@ -24,7 +25,6 @@ use Rattle.program.specs.Check.{mark}
 use Rattle.program.specs.Program.{Aim, goes, jumps, waits, loops, shift, aimOf, isLoop, isTurn, offsetOf, aimAt, loopAt, turnAt, checkOf, isSound, passes}
 use Rattle.program.specs.Onward.{noLoops, onwardOf}
 use Rattle.program.specs.Right.{loop-right, back-in}
-use Rattle.program.specs.Clean.{never}
 use Rattle.program.specs.Flow.{Next, Fail, Here}
 use Rattle.program.specs.Flow as flow
 use Rattle.program.specs.Nest.{Secure, Inv, Good, good-goes}
@@ -55,8 +55,8 @@ Fine l Lost = ⊥
 
 sound-of : (v : Verdict) → isSound v ≡ true → v ≡ Sound
 sound-of Sound e = refl
-sound-of (Fault a p) e = never (sym e)
-sound-of Unreadable e = never (sym e)
+sound-of (Fault a p) e = never e
+sound-of Unreadable e = never e
 
 -- a record by its tests
 abbrev aimBy : Bool → Bool → Bool → ℕ → ℕ → Aim
@@ -69,10 +69,10 @@ module _ (axes : ℕ) (l : List Record) (a : Accepted axes l) where
 
   back-by : (r : Record) → isRight axes r ≡ true → (x y z : Bool) → eqb (r .code) 51 ≡ x → eqb (getD (r .words) 0 0) 0 ≡ z
       → isLoop (aimBy x y z (getD (r .words) 0 0) (shift (nth (r .words) 1))) ≡ true → offsetOf (aimBy x y z (getD (r .words) 0 0) (shift (nth (r .words) 1))) ≤ 32767
-  back-by r h true y true p q e = never (sym e)
+  back-by r h true y true p q e = never e
   back-by r h true y false p q e = back-in (nth (r .words) 1) (loop-right axes r h (eqb-true _ _ p) (eqb-false _ _ q) .2) .1
-  back-by r h false true z p q e = never (sym e)
-  back-by r h false false z p q e = never (sym e)
+  back-by r h false true z p q e = never e
+  back-by r h false false z p q e = never e
 
   pub back : Back l
   unfolding aimOf
@@ -111,13 +111,13 @@ module _ (axes : ℕ) (l : List Record) (a : Accepted axes l) where
     off-turn true y true e = refl
     off-turn true y false e = refl
     off-turn false true z e = refl
-    off-turn false false z e = never (sym e)
+    off-turn false false z e = never e
 
     off-loop : (x y z : Bool) → isLoop (aimBy x y z (getD (r .words) 0 0) off) ≡ true → offsetOf (aimBy x y z (getD (r .words) 0 0) off) ≡ off
     off-loop true y true e = refl
     off-loop true y false e = refl
     off-loop false true z e = refl
-    off-loop false false z e = never (sym e)
+    off-loop false false z e = never e
 
     abbrev x : Bool
     x = eqb (r .code) 51

@@ -1,7 +1,7 @@
 -- What the discipline of loops says of a run: which ranges its open counters belong to, that none is open at the end place, and that a loop
 -- with number c goes back exactly c times and then on, each time that it is entered. Assumes nothing.
 use Prim.Native.Nat.{ℕ, zero, suc, _+_, _-_, _≤_, _<_}
-use mathlib.Core.Bool.{Bool, true, false, _&&_}
+use mathlib.Core.Bool.{Bool, true, false}
 use mathlib.Core.List.{List, [], _∷_}
 use mathlib.Core.Path.{_≡_, refl, sym, _∙_, ap, subst}
 use native.Mathlib.Omega.{arith}
@@ -12,6 +12,7 @@ use lib.ListN.{length, getD}
 use Rattle.count.specs.Pick.{pick}
 use Rattle.count.specs.Ranges.{nth, inBack}
 use Rattle.count.specs.Numbers.{within}
+use Rattle.count.specs.Truth.{and-left}
 use Rattle.record.specs.declared.Record.{Record}
 use Rattle.program.specs.declared.Loop.{Loop}
 use Rattle.program.specs.declared.Loops.{Loops}
@@ -44,11 +45,7 @@ less h e = omega arith
 
 back-small : (k : ℕ) → inBack (negsuc k) ≡ true → k ≤ 32767
 unfolding inBack within
-back-small k e = leb-true k 32767 (left (leb k 32767) (leb 0 k) e)
-  where
-    left : (x y : Bool) → x && y ≡ true → x ≡ true
-    left true y q = refl
-    left false y q = q
+back-small k e = leb-true k 32767 (and-left (leb k 32767) (leb 0 k) e)
 
 module _ (axes : ℕ) (l : List Record) (a : Accepted axes l) where
   abbrev start : ℕ → ℕ

@@ -1,22 +1,17 @@
 -- Every open loop's range holds the place of a run, the innermost last, and no eighth loop opens. Assumes nothing.
-use Prim.Native.Nat.{ℕ, zero, suc, _+_, _-_, _≤_, _<_}
+use Prim.Native.Nat.{ℕ, zero, suc, _+_, _≤_, _<_}
 use mathlib.Core.Bool.{Bool, true, false, cond, _&&_}
 use mathlib.Core.List.{List, [], _∷_}
 use mathlib.Core.Path.{_≡_, refl, sym, ap, subst}
 use native.Mathlib.Omega.{arith}
-use lib.Dec.{ltb, leb, eqb, T, eqb→eq, eqb-refl, le→leb, lt→ltb}
+use lib.Dec.{ltb, leb, eqb, T, lt→ltb}
+use borrow.Author.Tests.{le-leb, eqb-true, eqb-false}
 use Rattle.program.specs.declared.Loop.{Loop}
 use Rattle.program.specs.Onward.{counter}
 use Rattle.program.specs.Flow.{Flow, Ahead, Jump, Wait, Round, Halt, Next, Fail, Here, depth, again, opens, looped, goes, isLoop, startOf, holds, holders}
 
 pub is-true : {b : Bool} → b ≡ true → T b
 is-true e = subst T (sym e) tt
-
-pub eq-yes : (a b : ℕ) → eqb a b ≡ true → a ≡ b
-eq-yes a b e = eqb→eq a b (is-true e)
-
-pub eq-no : (a b : ℕ) → eqb a b ≡ false → a ≡ b → ⊥
-eq-no a b e h = subst T (e) (subst (λ (x : ℕ). T (eqb a x)) h (eqb-refl a))
 
 module _ (flow : ℕ → Flow) (n : ℕ) where
   abbrev pub IsLoop : ℕ → Type 0
@@ -85,19 +80,12 @@ module _ (flow : ℕ → Flow) (n : ℕ) where
   across p q l h v = record { begun = begun-to p q l h (v .begun) p (omega arith) (v .rising); rising = rising-to p q l h (v .begun) (v .rising) }
 
   -- ---- the depth: rising places whose ranges all hold p are no more than the holders of p
-  pub le-true : {a b : ℕ} → a ≤ b → leb a b ≡ true
-  le-true {a} {b} h = go (leb a b) (le→leb a b h)
-    where
-      go : (q : Bool) → T q → q ≡ true
-      go true t = refl
-      go false t = absurd t
-
   counted : (b x y : Bool) → T b → x ≡ true → y ≡ true → _≡_ {A = ℕ} (cond (b && (x && y)) 1 0) 1
   counted true x y t e f = rw (e, f)
   counted false x y t e f = absurd t
 
   one-of : (i p : ℕ) → IsLoop i → start i ≤ p → p ≤ i → _≡_ {A = ℕ} (cond (holds flow i p) 1 0) 1
-  one-of i p k g h = counted (isLoop (flow i)) (leb (start i) p) (leb p i) k (le-true g) (le-true h)
+  one-of i p k g h = counted (isLoop (flow i)) (leb (start i) p) (leb p i) k (le-leb _ _ g) (le-leb _ _ h)
 
   abbrev pub Covers : ℕ → List Loop → Type 0
   Covers p [] = Unit
@@ -114,10 +102,10 @@ module _ (flow : ℕ → Flow) (n : ℕ) where
   deep-go : (m i p : ℕ) (o : Loop) (l : List Loop) (q : Bool) → eqb (o .place) i ≡ q → Deep m (suc i) p →
       Begun p (o ∷ l) → Covers p (o ∷ l) → Rising i (o ∷ l) → Below (suc i + m) (o ∷ l) → suc (depth l) ≤ cond (holds flow i p) 1 0 + holders flow m (suc i) p
   deep-go m i p o l true e f (k, g, b) (c, cs) (r, rs) (u, us) =
-      let h : o .place ≡ i = eq-yes (o .place) i e in
+      let h : o .place ≡ i = eqb-true (o .place) i e in
       let w : _≡_ {A = ℕ} (cond (holds flow i p) 1 0) 1 = one-of i p (subst IsLoop h k) (subst (λ (j : ℕ). start j ≤ p) h g) (subst (λ (j : ℕ). p ≤ j) h c) in
       omega (arith, w, f l b cs (subst (λ (j : ℕ). Rising (suc j) l) h rs) us)
-  deep-go m i p o l false e f b c (r, rs) u = omega (arith, f (o ∷ l) b c (beyond r (eq-no (o .place) i e), rs) u)
+  deep-go m i p o l false e f b c (r, rs) u = omega (arith, f (o ∷ l) b c (beyond r (eqb-false (o .place) i e), rs) u)
 
   deep : (m i p : ℕ) → Deep m i p
   deep zero i p [] b c r u = omega arith
@@ -177,8 +165,8 @@ module _ (flow : ℕ → Flow) (n : ℕ) where
   good-looped-go : (s : Secure) (p c : ℕ) (o : Loop) (l : List Loop) (q : Bool) → eqb (o .place) p ≡ q → IsLoop p → Inv p (o ∷ l) →
       Good (elim q [ true ↦ again p (start p) (o .left) l | false ↦ opens p (start p) c (o ∷ l) ])
   good-looped-go s p c o l true e k v =
-      good-again s p (o .left) l k (v .begun .2) (subst (λ (j : ℕ). Rising (suc j) l) (eq-yes (o .place) p e) (v .rising .1))
-  good-looped-go s p c o l false e k v = good-opens s p c (o ∷ l) k (v .begun) (beyond (v .rising .0) (eq-no (o .place) p e), v .rising .1)
+      good-again s p (o .left) l k (v .begun .2) (subst (λ (j : ℕ). Rising (suc j) l) (eqb-true (o .place) p e) (v .rising .1))
+  good-looped-go s p c o l false e k v = good-opens s p c (o ∷ l) k (v .begun) (beyond (v .rising .0) (eqb-false (o .place) p e), v .rising .1)
 
   good-looped : (s : Secure) (p c : ℕ) (l : List Loop) → IsLoop p → Inv p l → Good (looped p (start p) c l)
   good-looped s p c [] k v = good-opens s p c [] k tt tt

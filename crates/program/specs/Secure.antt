@@ -7,6 +7,7 @@ use native.Mathlib.Omega.{arith}
 use borrow.Author.Tests.{ltb-true, ltb-false, leb-true}
 use lib.Dec.{ltb, leb, T}
 use lib.ListN.{length}
+use Rattle.count.specs.Truth.{and-parts}
 use Rattle.record.specs.declared.Record.{Record}
 use Rattle.program.specs.declared.Verdict.the-variants.{Sound}
 use Rattle.program.specs.Check.{mark, holds, meets, overlaps, holders, strays, outside, early}
@@ -14,8 +15,8 @@ use Rattle.program.specs.Program.{Aim, goes, jumps, waits, loops, offset
 use Rattle.program.specs.Program as program
 use Rattle.program.specs.Flow.{Flow, Ahead, Jump, Wait, Round, Halt}
 use Rattle.program.specs.Flow as flow
-use Rattle.program.specs.Nest.{Secure}
-use Rattle.program.specs.Clean.{T-true, and-true, and-false, or-false, none-of, up-tally, holders-up, holds-yes, holds-parts, meets-no, level, Clean, clean}
+use Rattle.program.specs.Nest.{is-true, Secure}
+use Rattle.program.specs.Clean.{and-false, or-false, none-of, up-tally, holders-up, holds-yes, holds-parts, meets-no, level, Clean, clean}
 
 -- where a record at place i goes
 abbrev pub placed : ℕ → Aim → Flow
@@ -96,9 +97,9 @@ module _ (l : List Record) (back : Back l) (fine : checkOf l ≡ Sound) where
     where
       each : (j : ℕ) → flow.holds (flowAt l) j p ≡ true → holds (loopAt l) (farAt l) j (mark p) ≡ true
       each j e =
-          let d = and-true (flow.isLoop (flowAt l j)) (leb (start j) p && leb p j) e in
-          let f = and-true (leb (start j) p) (leb p j) (d .1) in
-          let g = loop-in j (T-true (d .0)) in
+          let d = and-parts (flow.isLoop (flowAt l j)) (leb (start j) p && leb p j) e in
+          let f = and-parts (leb (start j) p) (leb p j) (d .1) in
+          let g = loop-in j (is-true (d .0)) in
           let a : start j ≤ p = leb-true _ _ (f .0) in
           let b : p ≤ j = leb-true _ _ (f .1) in
           holds-yes (loopAt l) (farAt l) j (mark p) (g .1) (omega (arith, g .2)) (omega arith)

@@ -1,7 +1,7 @@
 -- Where a right record sends a run, by what it is: own place plus offset, counted from its own record. Assumes nothing.
 use Prim.Native.Nat.{ℕ, suc, _+_, _-_, _≤_, _<_}
-use mathlib.Core.Bool.{Bool, true, false, _&&_}
-use mathlib.Core.Path.{_≡_, refl, _∙_, ap}
+use mathlib.Core.Bool.{true, false}
+use mathlib.Core.Path.{_≡_, _∙_, ap}
 use native.Mathlib.Omega.{arith}
 use native.Mathlib.Numerals.{add-one}
 use borrow.Author.Tests.{le-leb, lt-leb, leb-true, eqb-true, eqb-false, eq-eqb, le-ltb}
@@ -11,6 +11,7 @@ use lib.ListN.{getD}
 use Rattle.count.specs.Numbers.{within}
 use Rattle.count.specs.Ranges.{nth, inOffset}
 use Rattle.count.specs.Laws.{sub-pos}
+use Rattle.count.specs.Truth.{and-left}
 use Rattle.record.specs.declared.Record.{Record}
 use Rattle.record.specs.Bytes.{isRight}
 use Rattle.program.specs.declared.Loops.{Loops}
@@ -22,10 +23,6 @@ use Rattle.program.specs.Right.{wait-right, jump-right, loop-right, back
 use Rattle.program.specs.Target.{sends}
 
 -- ---- own place plus offset
-
-and-left : (a b : Bool) → a && b ≡ true → a ≡ true
-and-left true b e = refl
-and-left false b e = e
 
 pub inside-shift : (p n : ℕ) (z : ℤ) → inOffset z ≡ true → 32768 ≤ p + shift z → p + shift z ≤ mark n
     → (inside p z n ≡ true) × (targetOf p z ≡ p + shift z - 32768)

@@ -17,6 +17,7 @@ use Rattle.program.specs.declared.Going.the-variants.{To, Waits, Wrong}
 use Rattle.program.specs.declared.Way.{Way}
 use lib.IntN.{ℤ}
 use Rattle.count.specs.Ranges.{nth}
+use Rattle.count.specs.Truth.{and-left}
 use Rattle.record.specs.declared.Record.{Record}
 use Rattle.program.specs.Onward.{counter, opened, noLoops, lastOf, to, wrong, again, opens, looped, inside, targetOf, aimed, onwardOf}
 use Rattle.program.specs.Flow.{Next, Fail, Here, depth}
@@ -191,10 +192,6 @@ module _ (o : Loops) (s : Shaped o) where
   last-shaped : (p f c : ℕ) (t : Bool) → ltb 0 (o .depth) && eqb (lastOf o .place) p ≡ t → Shaped (pick t (again p f o) (opens p f c o) .loops)
   unfolding opens
   last-shaped p f c true e = shaped-again p f (ltb-true 0 (o .depth) (and-left (ltb 0 (o .depth)) (eqb (lastOf o .place) p) e))
-    where
-      and-left : (a b : Bool) → a && b ≡ true → a ≡ true
-      and-left true b q = refl
-      and-left false b q = q
   last-shaped p f c false e = opens-shaped p f c (leb 7 (o .depth)) refl
 
   pub shaped-looped : (p f c : ℕ) → Shaped (looped p f c o .loops)

@@ -1,14 +1,14 @@
 -- A loop goes back exactly its number of times, and then on, each time that it is entered. Assumes nothing.
-use Prim.Native.Nat.{ℕ, zero, suc, _-_, _≤_}
+use Prim.Native.Nat.{ℕ, zero, suc, _≤_}
 use mathlib.Core.Bool.{Bool, true, false}
 use mathlib.Core.List.{List, [], _∷_}
 use mathlib.Core.Path.{_≡_, refl, sym, _∙_, ap, subst}
 use native.Mathlib.Omega.{arith}
-use lib.Dec.{ltb, eqb, T, eqb-refl, lt→ltb}
+use lib.Dec.{ltb, eqb, T, lt→ltb}
+use borrow.Author.Tests.{eqb-true, eqb-false, eq-eqb, ne-eqb}
 use Rattle.program.specs.declared.Loop.{Loop}
 use Rattle.program.specs.Onward.{counter}
 use Rattle.program.specs.Flow.{Flow, Ahead, Jump, Wait, Round, Halt, Next, Fail, Here, depth, again, opens, looped, goes, isLoop, startOf, nextOf, noted, Cycles}
-use Rattle.program.specs.Nest.{eq-yes, eq-no}
 use Rattle.program.specs.Nest as nest
 
 module _ (flow : ℕ → Flow) (n : ℕ) where
@@ -51,23 +51,9 @@ module _ (flow : ℕ → Flow) (n : ℕ) where
   nay true a b e = absurd (subst T e tt)
   nay false a b e = refl
 
-  eqb-same : (a : ℕ) → eqb a a ≡ true
-  eqb-same a = go (eqb a a) (eqb-refl a)
-    where
-      go : (q : Bool) → T q → q ≡ true
-      go true t = refl
-      go false t = absurd t
-
-  eqb-apart : (a b : ℕ) → (a ≡ b → ⊥) → eqb a b ≡ false
-  eqb-apart a b h = go (eqb a b) refl
-    where
-      go : (q : Bool) → eqb a b ≡ q → q ≡ false
-      go true e = absurd (h (eq-yes a b e))
-      go false e = refl
-
   due-none : (i c : ℕ) (l : List Loop) (m : ℕ) → suc i ≤ m → Rising m l → due i c l ≡ c
   due-none i c [] m h r = refl
-  due-none i c (o ∷ l) m h (g, r) = nay (eqb (o .place) i) (o .left) (due i c l) (eqb-apart (o .place) i apart) ∙ due-none i c l (suc (o .place)) (omega arith) r
+  due-none i c (o ∷ l) m h (g, r) = nay (eqb (o .place) i) (o .left) (due i c l) (ne-eqb (o .place) i apart) ∙ due-none i c l (suc (o .place)) (omega arith) r
     where
       apart : o .place ≡ i → ⊥
       apart e = omega arith
@@ -79,7 +65,7 @@ module _ (flow : ℕ → Flow) (n : ℕ) where
 
   turned-again : (s : Secure) (i c k : ℕ) (l : List Loop) → IsLoop i → Rising (suc i) l → Turned i c k (again i (start i) k l)
   turned-again s i c zero l h r = (refl, due-none i c l (suc i) (omega arith) r)
-  turned-again s i c (suc k) l h r = (refl, yes (eqb i i) k (due i c l) (eqb-same i))
+  turned-again s i c (suc k) l h r = (refl, yes (eqb i i) k (due i c l) (eq-eqb i i refl))
 
   turned-opens : (s : Secure) (i c : ℕ) (l : List Loop) → IsLoop i → Begun i l → Rising (suc i) l → Turned i c c (opens i (start i) c l)
   turned-opens s i c l k b r =
@@ -89,9 +75,9 @@ module _ (flow : ℕ → Flow) (n : ℕ) where
 
   turned-go : (s : Secure) (i c : ℕ) (o : Loop) (l : List Loop) (q : Bool) → eqb (o .place) i ≡ q → IsLoop i → Inv i (o ∷ l) →
       Turned i c (elim q [ true ↦ o .left | false ↦ due i c l ]) (elim q [ true ↦ again i (start i) (o .left) l | false ↦ opens i (start i) c (o ∷ l) ])
-  turned-go s i c o l true e k v = turned-again s i c (o .left) l k (subst (λ (j : ℕ). Rising (suc j) l) (eq-yes (o .place) i e) (v .rising .1))
+  turned-go s i c o l true e k v = turned-again s i c (o .left) l k (subst (λ (j : ℕ). Rising (suc j) l) (eqb-true (o .place) i e) (v .rising .1))
   turned-go s i c o l false e k v =
-      let g : suc i ≤ o .place = nest.beyond flow n (v .rising .0) (eq-no (o .place) i e) in
+      let g : suc i ≤ o .place = nest.beyond flow n (v .rising .0) (eqb-false (o .place) i e) in
       subst (λ (d : ℕ). Turned i c d (opens i (start i) c (o ∷ l))) (sym (due-none i c l (suc (o .place)) (omega arith) (v .rising .1)))
       (turned-opens s i c (o ∷ l) k (v .begun) (g, v .rising .1))
 
@@ -102,7 +88,7 @@ module _ (flow : ℕ → Flow) (n : ℕ) where
   -- another place leaves what is due alone
   kept-again : (i c p f k : ℕ) (l : List Loop) → (p ≡ i → ⊥) → dueN i c (again p f k l) ≡ due i c l
   kept-again i c p f zero l h = refl
-  kept-again i c p f (suc k) l h = nay (eqb p i) k (due i c l) (eqb-apart p i h)
+  kept-again i c p f (suc k) l h = nay (eqb p i) k (due i c l) (ne-eqb p i h)
 
   kept-opens : (i c p f k : ℕ) (l : List Loop) → (p ≡ i → ⊥) → Good (opens p f k l) → dueN i c (opens p f k l) ≡ due i c l
   kept-opens i c p f k l h = go (ltb (depth l) 7)
@@ -115,7 +101,7 @@ module _ (flow : ℕ → Flow) (n : ℕ) where
       Good (elim q [ true ↦ again p f (o .left) l | false ↦ opens p f k (o ∷ l) ]) →
       dueN i c (elim q [ true ↦ again p f (o .left) l | false ↦ opens p f k (o ∷ l) ]) ≡ due i c (o ∷ l)
   kept-go i c p f k o l true e h g =
-      kept-again i c p f (o .left) l h ∙ sym (nay (eqb (o .place) i) (o .left) (due i c l) (eqb-apart (o .place) i (λ d. h (sym (eq-yes (o .place) p e) ∙ d))))
+      kept-again i c p f (o .left) l h ∙ sym (nay (eqb (o .place) i) (o .left) (due i c l) (ne-eqb (o .place) i (λ d. h (sym (eqb-true (o .place) p e) ∙ d))))
   kept-go i c p f k o l false e h g = kept-opens i c p f k (o ∷ l) h g
 
   kept-due : (i c : ℕ) (fl : Flow) (b : Bool) (p : ℕ) (l : List Loop) → (p ≡ i → ⊥) → Good (goes fl b p l) → dueN i c (goes fl b p l) ≡ due i c l
@@ -136,7 +122,7 @@ module _ (flow : ℕ → Flow) (n : ℕ) where
   cycle-go s i c f e b p l true h v ts g = cycle-turn i c (due i c l) (goes (flow p) b p l) ts here g
     where
       same : p ≡ i
-      same = eq-yes p i h
+      same = eqb-true p i h
 
       k : IsLoop i
       k = subst (λ (x : Flow). T (isLoop x)) (sym e) tt
@@ -146,4 +132,4 @@ module _ (flow : ℕ → Flow) (n : ℕ) where
           (subst (λ (j : ℕ). Turned i c (due i c l) (looped j f c l)) (sym same)
           (subst (λ (j : ℕ). Turned i c (due i c l) (looped i j c l)) (ap startOf e) (turned s i c l k (subst (λ (j : ℕ). Inv j l) same v))))
   cycle-go s i c f e b p l false h v ts g =
-      subst (λ (m : ℕ). Cycles (start i) (suc i) c m ts) (kept-due i c (flow p) b p l (eq-no p i h) (nest.good-goes flow n s (flow p) b p l refl v)) g
+      subst (λ (m : ℕ). Cycles (start i) (suc i) c m ts) (kept-due i c (flow p) b p l (eqb-false p i h) (nest.good-goes flow n s (flow p) b p l refl v)) g

@@ -8,6 +8,7 @@ use lib.Dec.{ltb, eqb}
 use lib.ListN.{length}
 use Rattle.count.specs.Pick.{pick}
 use Rattle.count.specs.Paper.{says}
+use Rattle.count.specs.Truth.{never}
 use Rattle.motion.specs.Next.{pulseOf}
 use Rattle.record.specs.Places.{fetchOf}
 use Rattle.engine.specs.declared.Job.{Job}
@@ -26,9 +27,6 @@ use Rattle.course.specs.Text.{answerText}
 use Rattle.course.specs.Run.{runsNow, Course, rests, then, course}
 use Rattle.promise.specs.Machine.{Lent, lent, ours}
 use Rattle.promise.specs.Demands.{isIdle, isWaiting, RefusedCall, Quiet, ticks, CountedRun, Counted}
-
-pub never : {A : Type 0} → false ≡ true → A
-never p = let z : _≡_ {A = ℕ} 0 1 = cc in absurd (omega arith)
 
 -- ---- a received byte: refused, or heard
 

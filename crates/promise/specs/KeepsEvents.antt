@@ -9,6 +9,7 @@ use lib.IntN.{pos}
 use lib.ListN.{getD, take}
 use Rattle.count.specs.Pick.{pick}
 use Rattle.count.specs.Numbers.{value}
+use Rattle.count.specs.Truth.{never, and-not}
 use Rattle.motion.specs.declared.Counters.{Counters}
 use Rattle.record.specs.declared.Record.{Record}
 use Rattle.record.specs.Keep.{storeOf}
@@ -30,7 +31,7 @@ use Rattle.board.specs.Receive.{Ear, earBy, earOf, isStoring, returned, gatheri
 use Rattle.board.specs.Calls.{Outcome, receiving, fresh}
 use Rattle.promise.specs.Machine.{Lent, heardBy as heardFrom, ours, Event, byte, clock, next, afterAll}
 use Rattle.promise.specs.Demands.{isIdle, idles, stores, Axis, X, Y, Z, counterOf, position, zeroLine, zeroes, sumAfter, pulseSum, SumOfPulses}
-use Rattle.promise.specs.KeepsCalls.{never, kept}
+use Rattle.promise.specs.KeepsCalls.{kept}
 use Rattle.promise.specs.KeepsReturn.{out-reply, out-board}
 use Rattle.promise.specs.KeepsPulses.{clock-adds}
 use Rattle.promise.specs.KeepsSum.{off-1, off-2, off-3, Right, same, stands-right, idle-right}
@@ -129,17 +130,14 @@ module _ (a : Axis) (b : Board) (ports store : List ℕ) where
           (stores-idle (b .engine .run .job) (b .standing) q))
       by false false p q = direct (b .standing) refl q p
 
-  both-true : (x y : Bool) → x ≡ true → y ≡ false → x && not y ≡ true
-  both-true x y p q = rw (p, q)
-
   return-right : Right a b (hearing 13 ports b store)
   unfolding hearing earOf gathering heard
   return-right = by (b .standing) (b .engine .run .job) refl refl
     where
       by : (s : Bool) (j : Job) → b .standing ≡ s → b .engine .run .job ≡ j → Right a b (ordinary (pick s gathers (earBy j)) 13 ports b store)
       by true j p q = returned-right (λ h. never (sym h ∙ p))
-      by false job.Idle p q = returned-right (λ h z. both-true (isIdle (b .engine .run .job)) (b .standing) (ap isIdle q) p)
-      by false job.Storing p q = returned-right (λ h z. never (sym z ∙ both-true (isStoring (b .engine .run .job)) (b .standing) (ap isStoring q) p))
+      by false job.Idle p q = returned-right (λ h z. and-not (isIdle (b .engine .run .job)) (b .standing) (ap isIdle q) p)
+      by false job.Storing p q = returned-right (λ h z. never (sym z ∙ and-not (isStoring (b .engine .run .job)) (b .standing) (ap isStoring q) p))
       by false (job.Direct m) p q = unheard (said b [] store) refl refl
       by false job.Ready p q = unheard (said b [] store) refl refl
       by false (job.Moving m) p q = unheard (said b [] store) refl refl

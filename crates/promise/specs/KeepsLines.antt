@@ -9,6 +9,7 @@ use lib.Dec.{eqb}
 use lib.ListN.{length}
 use Rattle.count.specs.Pick.{pick}
 use Rattle.count.specs.Text.{report, twoHex, hexes}
+use Rattle.count.specs.Truth.{never, and-not}
 use Rattle.motion.specs.declared.Planned.{Planned}
 use Rattle.motion.specs.declared.Planned.the-variants as planned
 use Rattle.motion.specs.Next.{leftOf}
@@ -37,7 +38,6 @@ use Rattle.board.specs.Receive.Ear.{gathers}
 use Rattle.board.specs.Receive.{earBy, earOf, isStoring, returned, gathering, ordinary, hearing}
 use Rattle.course.specs.Run.{runsNow}
 use Rattle.promise.specs.Demands.{isIdle, isWaiting, idles, stores, isNine, endLine, unstored, Silent, begun, onward, dropped, taken}
-use Rattle.promise.specs.KeepsCalls.{never}
 
 -- ---- what a return comes to
 
@@ -247,9 +247,6 @@ wait-runs : (e : Engine) (c t v : ℕ) → runsOf (heardBy (job.Wait c t) v e) �
 unfolding runsOf
 wait-runs e c t v = wait-by (eqb v c) _ (withJob e job.Ready) refl refl
 
-both-true : (x y : Bool) → x ≡ true → y ≡ false → x && not y ≡ true
-both-true x y p q = rw (p, q)
-
 module _ (b : Board) where
   -- WHAT A RETURN COMES TO
   pub came : (ports store : List ℕ) → Came b store (hearing 13 ports b store)
@@ -257,17 +254,17 @@ module _ (b : Board) where
   came ports store = by (b .standing) (b .engine .run .job) refl refl
     where
       runs : (j : Job) → b .engine .run .job ≡ j → runsBy j ≡ true → b .standing ≡ false → runsNow b ≡ true
-      runs j q r p = both-true (runsBy (b .engine .run .job)) (b .standing) (ap runsBy q ∙ r) p
+      runs j q r p = and-not (runsBy (b .engine .run .job)) (b .standing) (ap runsBy q ∙ r) p
 
       by : (s : Bool) (j : Job) → b .standing ≡ s → b .engine .run .job ≡ j → Came b store (ordinary (pick s gathers (earBy j)) 13 ports b store)
       by true j p q = returned-came b ports store (λ h. never (sym h ∙ p))
-      by false job.Idle p q = returned-came b ports store (λ h z. both-true (isIdle (b .engine .run .job)) (b .standing) (ap isIdle q) p)
+      by false job.Idle p q = returned-came b ports store (λ h z. and-not (isIdle (b .engine .run .job)) (b .standing) (ap isIdle q) p)
       by false job.Storing p q =
-          returned-came b ports store (λ h z. never (sym z ∙ both-true (isStoring (b .engine .run .job)) (b .standing) (ap isStoring q) p))
+          returned-came b ports store (λ h z. never (sym z ∙ and-not (isStoring (b .engine .run .job)) (b .standing) (ap isStoring q) p))
       by false (job.Direct m) p q = still refl (dropped (runs (job.Direct m) q refl p) refl)
       by false job.Ready p q = still refl (dropped (runs job.Ready q refl p) refl)
       by false (job.Moving m) p q = still refl (dropped (runs (job.Moving m) q refl p) refl)
       by false (job.Delay t) p q = still refl (dropped (runs (job.Delay t) q refl p) refl)
       by false (job.Wait c t) p q =
-          still refl (taken (both-true (isWaiting (b .engine .run .job)) (b .standing) (ap isWaiting q) p)
-          (both-true (runsBy (heardBy (b .engine .run .job) 13 (b .engine) .run .job)) (b .standing) (rw q (wait-runs (b .engine) c t 13)) p) refl)
+          still refl (taken (and-not (isWaiting (b .engine .run .job)) (b .standing) (ap isWaiting q) p)
+          (and-not (runsBy (heardBy (b .engine .run .job) 13 (b .engine) .run .job)) (b .standing) (rw q (wait-runs (b .engine) c t 13)) p) refl)

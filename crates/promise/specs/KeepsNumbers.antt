@@ -16,11 +16,11 @@ use Rattle.count.specs.Ranges.{inSpeed, inOffset, inBack, inLoop, inDelay, inCh
 use Rattle.count.specs.Laws.{word-signed}
 use Rattle.count.specs.Text.{decimal, digits, shown}
 use Rattle.count.specs.Words.{pad}
+use Rattle.count.specs.Truth.{and-parts}
 use Rattle.record.specs.declared.Record.{Record}
 use Rattle.record.specs.Fault.{isCode, countRight, axesRight, loopRight, rangesRight, speedsRight}
 use Rattle.record.specs.Bytes.{numbersOf}
 use Rattle.record.specs.Listing.{more, numbersText}
-use Rattle.record.specs.Work.{both}
 use Rattle.record.specs.Below.{below-take}
 use Rattle.record.specs.Right.{RightOne, right-count}
 use Rattle.record.specs.Faultless.{Faultless, right-faultless, either, by-code, within-mag}
@@ -119,16 +119,16 @@ module _ (w : List ℕ) where
       → Small n w
   movement-by true b c n absolute p q r = small-two n (eqb-true n 2 p) (far-in (nth w 0) q) (speed-in (nth w 1) r)
   movement-by false true c n absolute p q r =
-      let d = both (in24 (nth w 0)) (in24 (nth w 2)) q in
-      let s = both (inSpeed (nth w 1)) (inSpeed (nth w 3)) r in
+      let d = and-parts (in24 (nth w 0)) (in24 (nth w 2)) q in
+      let s = and-parts (inSpeed (nth w 1)) (inSpeed (nth w 3)) r in
       small-four n (eqb-true n 4 p) (far-in (nth w 0) (d .0)) (speed-in (nth w 1) (s .0)) (far-in (nth w 2) (d .1)) (speed-in (nth w 3) (s .1))
   movement-by false false true n absolute p q r =
-      let d = both (in24 (nth w 0) && in24 (nth w 2) && in24 (nth w 4)) (rightZ2 absolute (nth w 6)) q in
-      let d′ = both (in24 (nth w 0) && in24 (nth w 2)) (in24 (nth w 4)) (d .0) in
-      let d″ = both (in24 (nth w 0)) (in24 (nth w 2)) (d′ .0) in
-      let s = both (inSpeed (nth w 1) && inSpeed (nth w 3) && inSpeed (nth w 5)) (inSpeed (nth w 7)) r in
-      let s′ = both (inSpeed (nth w 1) && inSpeed (nth w 3)) (inSpeed (nth w 5)) (s .0) in
-      let s″ = both (inSpeed (nth w 1)) (inSpeed (nth w 3)) (s′ .0) in
+      let d = and-parts (in24 (nth w 0) && in24 (nth w 2) && in24 (nth w 4)) (rightZ2 absolute (nth w 6)) q in
+      let d′ = and-parts (in24 (nth w 0) && in24 (nth w 2)) (in24 (nth w 4)) (d .0) in
+      let d″ = and-parts (in24 (nth w 0)) (in24 (nth w 2)) (d′ .0) in
+      let s = and-parts (inSpeed (nth w 1) && inSpeed (nth w 3) && inSpeed (nth w 5)) (inSpeed (nth w 7)) r in
+      let s′ = and-parts (inSpeed (nth w 1) && inSpeed (nth w 3)) (inSpeed (nth w 5)) (s .0) in
+      let s″ = and-parts (inSpeed (nth w 1)) (inSpeed (nth w 3)) (s′ .0) in
       small-eight n (eqb-true n 8 p) (far-in (nth w 0) (d″ .0)) (speed-in (nth w 1) (s″ .0)) (far-in (nth w 2) (d″ .1)) (speed-in (nth w 3) (s″ .1))
       (far-in (nth w 4) (d′ .1)) (speed-in (nth w 5) (s′ .1)) (last-in absolute (nth w 6) (d .1)) (speed-in (nth w 7) (s .1))
   movement-by false false false n absolute p q r = absurd (let z : _≡_ {A = ℕ} 0 1 = cc in omega arith)
@@ -147,10 +147,10 @@ module _ (w : List ℕ) where
     where
       by : (inLoop x && inBack y ≡ true) ⊎ (inZero x && inOffset y ≡ true) → (natAbs x < 100000000) × (natAbs y < 100000000)
       by (inl p) =
-          let q = both (inLoop x) (inBack y) p in
+          let q = and-parts (inLoop x) (inBack y) p in
           (in-range (pos 1) (pos 32767) x (omega arith) (omega arith) (q .0), in-range (negsuc 32767) (negsuc 0) y (omega arith) (omega arith) (q .1))
       by (inr p) =
-          let q = both (inZero x) (inOffset y) p in
+          let q = and-parts (inZero x) (inOffset y) p in
           (in-range (pos 0) (pos 0) x (omega arith) (omega arith) (q .0), offset-in y (q .1))
 
   abbrev SmallAs : ℕ → ℕ → ℕ → Type 0
@@ -169,7 +169,7 @@ module _ (w : List ℕ) where
 
       origin : SmallAs axes n 110
       origin p q r s =
-          let h = both (within (pos 1) (pos 7) (nth w 0)) (within (pos 1) (pos axes) (nth w 0)) q in
+          let h = and-parts (within (pos 1) (pos 7) (nth w 0)) (within (pos 1) (pos axes) (nth w 0)) q in
           small-one n (eqb-true n 1 p) (in-range (pos 1) (pos 7) (nth w 0) (omega arith) (omega arith) (h .0))
 
       switch : SmallAs axes n 122
@@ -188,7 +188,7 @@ module _ (w : List ℕ) where
 
       wait : SmallAs axes n 50
       wait p q r s =
-          let h = both (inCharacter (nth w 0)) (inOffset (nth w 1)) r in
+          let h = and-parts (inCharacter (nth w 0)) (inOffset (nth w 1)) r in
           small-two n (eqb-true n 2 p) (in-range (pos 33) (pos 126) (nth w 0) (omega arith) (omega arith) (h .0)) (offset-in (nth w 1) (h .1))
 
 short-of : (n : ℕ) (w : List ℕ) → Small n w → Short (map signed (take n w))

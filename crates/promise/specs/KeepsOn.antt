@@ -6,17 +6,12 @@ use mathlib.Core.Bool.{Bool, true, false}
 use mathlib.Core.List.{List, [], _∷_}
 use borrow.Author.Tests.{eqb-true, eqb-false}
 use lib.Dec.{eqb}
-use lib.ListN.{length}
-use Rattle.count.specs.Pick.{pick}
-use Rattle.motion.specs.Next.{pulseOf}
-use Rattle.record.specs.Places.{fetchOf}
 use Rattle.engine.specs.declared.Answer.the-variants as answer
-use Rattle.engine.specs.Tick.{ticked}
 use Rattle.board.specs.declared.Board.{Board}
-use Rattle.board.specs.declared.Ticked.{Ticked}
 use Rattle.board.specs.State.{sound}
 use Rattle.board.specs.Receive.{hearing}
-use Rattle.board.specs.Calls.{Outcome, receiving, clocked, wentOn, clocking, fresh}
+use Rattle.board.specs.Calls.{Outcome, receiving, clocking, fresh}
+use Rattle.board.specs.Laws.{clock-never-refused}
 use Rattle.promise.specs.Machine.{Lent, ours, Event, byte, clock, next, afterAll}
 use Rattle.promise.specs.Demands.{RightLent, refusalOf, NoDeadEnd}
 use Rattle.promise.specs.KeepsCalls.{kept}
@@ -25,19 +20,9 @@ use Rattle.promise.specs.KeepsSending.{hear-so}
 
 -- ---- a sound board refuses no call with buffers of the right lengths
 
-clock-by : (s : Bool) (x y : Ticked) → x .refusal ≡ 0 → y .refusal ≡ 0 → pick s x y .refusal ≡ 0
-clock-by true x y p q = p
-clock-by false x y p q = q
-
-clock-none : (s : Board) (store : List ℕ) → sound s ≡ true → length store ≡ 16384 → clocking s store .refusal ≡ 0
-unfolding clocking
-clock-none s store h n =
-    rw (n, h)
-    (clock-by (s .standing) (clocked 0 s answer.Nothing) (wentOn s (ticked pulseOf (fetchOf (s .engine .held) store) (s .engine))) refl refl)
-
 none-refused : (e : Event) (s : Board) → sound s ≡ true → RightLent e → refusalOf ours e s ≡ 0
 none-refused (byte v ports l) s h r = ap (λ (o : Outcome). o .result .refusal) (hear-so v ports s (l .reply) (l .store) h (r .1) (r .0))
-none-refused (clock store) s h r = clock-none s store h r
+none-refused (clock store) s h r = clock-never-refused s store h r
 
 module _ (start : sound fresh ≡ true)
     (byte-keeps : (v : ℕ) (ports : List ℕ) (b : Board) (store : List ℕ) → sound b ≡ true → sound (hearing v ports b store .board) ≡ true)

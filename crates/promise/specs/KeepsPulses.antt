@@ -8,6 +8,7 @@ use lib.IntN.{pos, _+ℤ_, +ℤ-idr}
 use lib.ListN.{getD}
 use Rattle.count.specs.Pick.{pick}
 use Rattle.count.specs.Numbers.{value}
+use Rattle.count.specs.Truth.{and-left, and-right}
 use Rattle.motion.specs.declared.Counters.{Counters}
 use Rattle.motion.specs.declared.Signs.{Signs}
 use Rattle.motion.specs.declared.Move.{Move}
@@ -19,7 +20,6 @@ use Rattle.motion.specs.Plan.{asked, planOf}
 use Rattle.motion.specs.Next.{pulseOf}
 use Rattle.motion.specs.Sound.{counted, underWay}
 use Rattle.motion.specs.Room.{hasRoom}
-use Rattle.motion.specs.Passed.{and-left, and-right}
 use Rattle.motion.specs.Onward.{taken}
 use Rattle.motion.specs.Plans.{plan-sound}
 use Rattle.motion.specs.Whole.{value-moved}

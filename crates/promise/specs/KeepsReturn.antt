@@ -9,6 +9,7 @@ use lib.Dec.{eqb}
 use lib.ListN.{length, take, drop}
 use lib.Seq.{take-append-seam}
 use Rattle.count.specs.Pick.{pick}
+use Rattle.count.specs.Truth.{never}
 use Rattle.board.specs.declared.Board.{Board}
 use Rattle.engine.specs.State.{ceased}
 use Rattle.board.specs.State.{board, gathered, withLine, lineDone, Said, said}
@@ -17,7 +18,7 @@ use Rattle.board.specs.Receive.{Ear, earOf, gathering, ordinary, hearing, holds
 use Rattle.board.specs.Calls.{Outcome, answered, receiving}
 use Rattle.promise.specs.Machine.{Lent, lent, ours}
 use Rattle.promise.specs.Demands.{unstored, Untouched, Silent, RefusedLine, AcceptedLine, SilentReturn}
-use Rattle.promise.specs.KeepsCalls.{never, calm}
+use Rattle.promise.specs.KeepsCalls.{calm}
 use Rattle.promise.specs.KeepsLines.{Came, refused, failed, zeroed, still, came}
 
 -- ---- what a host reads of a call that is not refused

@@ -6,6 +6,7 @@ use mathlib.Core.List.{List, [], _∷_}
 use native.Mathlib.Omega.{arith}
 use borrow.Author.Tests.{eqb-true}
 use lib.Dec.{eqb}
+use Rattle.count.specs.Truth.{never}
 use Rattle.record.specs.declared.Held.{Held}
 use Rattle.program.specs.Onward.{noLoops}
 use Rattle.program.specs.Program.{axesSet}
@@ -15,7 +16,6 @@ use Rattle.engine.specs.State.{zeroes, running, idle, nothingHeld}
 use Rattle.engine.specs.Sound.{axesKnown, soundOf}
 use Rattle.board.specs.State.{board, noLine, said}
 use Rattle.board.specs.Receive.{hearing}
-use Rattle.promise.specs.KeepsCalls.{never}
 use Rattle.promise.specs.KeepsSending.{with-line, lineOf, Plain}
 
 -- a board that stores, and one that is idle, under axes and with a part in use

@@ -9,6 +9,7 @@ use lib.IntN.{pos}
 use lib.ListN.{getD}
 use Rattle.count.specs.Pick.{pick}
 use Rattle.count.specs.Numbers.{value, half}
+use Rattle.count.specs.Truth.{never, and-false}
 use Rattle.motion.specs.declared.Counters.{Counters}
 use Rattle.motion.specs.declared.Planned.{Planned}
 use Rattle.motion.specs.declared.Planned.the-variants as planned
@@ -24,7 +25,6 @@ use Rattle.board.specs.declared.Board.{Board}
 use Rattle.board.specs.State.{board, textOf, lineDone, Said, said}
 use Rattle.board.specs.Direct.{isWrong, heardStanding, replyOf, effectOf, accepted, directSaid, started-with}
 use Rattle.promise.specs.Demands.{isIdle, idles, Axis, X, Y, Z, counterOf, position, part, zeroLine}
-use Rattle.promise.specs.KeepsCalls.{never}
 use Rattle.promise.specs.KeepsLines.{row-facts}
 
 -- ---- four tests joined are off where one of them is
@@ -72,10 +72,6 @@ module _ (a : Axis) (b : Board) where
     abbrev RightBy : Letter → Type 0
     RightBy k = position a (after k .board) ≡ pick (eqb (getD (after k .reply) 0 0) 48 && zeroBy k) (pos 0) (position a b)
 
-    and-none : (x : Bool) → x && false ≡ false
-    and-none true = refl
-    and-none false = refl
-
     moving-at : (p : Planned) → started-with (begunBy p (b .engine)) (b .standing) .engine .at ≡ b .engine .at
     moving-at (planned.Going m) = by (eqb (leftOf m) 0)
       where
@@ -89,7 +85,7 @@ module _ (a : Axis) (b : Board) where
     start-at false = refl
 
     kept-at : (k : Letter) → after k .board .engine .at ≡ b .engine .at → zeroBy k ≡ false → RightBy k
-    kept-at k p q = rw (q, and-none) (ap (λ (c : Counters). value (counterOf a c)) p)
+    kept-at k p q = rw (q, and-false) (ap (λ (c : Counters). value (counterOf a c)) p)
 
 zero-pick : (t : Bool) (c : ℕ) → value (pick t half c) ≡ pick t (pos 0) (value c)
 zero-pick true c = refl

@@ -9,6 +9,7 @@ use lib.Dec.{leb}
 use lib.ListN.{length, take, drop, length-append}
 use lib.Seq.{length-take-le}
 use Rattle.count.specs.Pick.{pick}
+use Rattle.count.specs.Truth.{and-parts}
 use Rattle.motion.specs.Sound.{counted}
 use Rattle.record.specs.declared.Held.{Held}
 use Rattle.record.specs.declared.Record.{Record}
@@ -17,7 +18,6 @@ use Rattle.record.specs.Places.{recordsFrom, recordsOf, encodeAll}
 use Rattle.record.specs.Places.Records.{are}
 use Rattle.record.specs.Keep.{longer, hasRoom, storeOf}
 use Rattle.record.specs.Listing.{numbersText, lineText, listText, telling, listOf}
-use Rattle.record.specs.Work.{both}
 use Rattle.record.specs.Below.{Below}
 use Rattle.record.specs.Right.{RightOne, take-pad}
 use Rattle.record.specs.Stored.{AllRight, readable-list, encode-behind, stored-list}
@@ -187,7 +187,7 @@ empty-held axes = refl
 accepted-parts : (h : Held) (store : List ℕ) (l : List Record) → accepted h store ≡ true → recordsOf h store ≡ are l → (axesSet (h .axes) ≡ true) × (passes l ≡ true)
 unfolding accepted
 accepted-parts h store l a q =
-    let f = both (axesSet (h .axes)) (passing (recordsOf h store)) a in
+    let f = and-parts (axesSet (h .axes)) (passing (recordsOf h store)) a in
     (f .0, ap passing (sym q) ∙ f .1)
 
 pub keeps-round-trip : RoundTrip ours
@@ -224,10 +224,10 @@ sound-used b h =
     let c = counted (e .at) && counted (e .origin) && k in
     let u = leb (e .held .used) 16384 && leb (e .held .records) 1000 in
     let d = leb (e .run .loops .depth) 7 in
-    let s = both (c && u && d && jobSound (e .run .job) (e .at)) (leb (b .line .len) 80) h in
-    let t = both (c && u && d) (jobSound (e .run .job) (e .at)) (s .0) in
-    let w = both c u (both (c && u) d (t .0) .0) in
-    leb-true (e .held .used) 16384 (both (leb (e .held .used) 16384) (leb (e .held .records) 1000) (w .1) .0)
+    let s = and-parts (c && u && d && jobSound (e .run .job) (e .at)) (leb (b .line .len) 80) h in
+    let t = and-parts (c && u && d) (jobSound (e .run .job) (e .at)) (s .0) in
+    let w = and-parts c u (and-parts (c && u) d (t .0) .0) in
+    leb-true (e .held .used) 16384 (and-parts (leb (e .held .used) 16384) (leb (e .held .records) 1000) (w .1) .0)
 
 -- the lines that are sent are those that the lister writes
 pub lister-text : (b : Board) (store t : List ℕ) (l : List Record) → length store ≡ 16384 → sound b ≡ true → 32768 ≤ length t → recordsOf (b .engine .held) store ≡ are l

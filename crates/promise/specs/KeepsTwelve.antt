@@ -1,7 +1,7 @@
--- The twelve of 01, "Prove these", computed: each side of each equation, under every definition on the way. Assumes nothing.
+-- The twelve of 01, "Prove these", computed: each side of each equation, under every definition on the way; (9) to (11) are the sheet's
+-- own examples. Assumes nothing.
 use mathlib.Core.Path.{_≡_, refl, ap, _∙_}
 use lib.IntN.{pos}
-use lib.Ieee.{mul, div, le}
 use Rattle.count.specs.Numbers.{count}
 use Rattle.count.specs.Numbers.{within, in24, signed, word, placed, added}
 use Rattle.count.specs.Ranges.{inSpeed, inOffset, inBack, inLoop, inDelay, inCharacter, inSwitch, inPort, inByte, inZero, rightCount, rightZ2, rightDistances, rightSpeeds}
@@ -30,9 +30,9 @@ use Rattle.board.specs.Storing.{recordReply, storedSaid}
 use Rattle.course.specs.Run.{runsNow, course}
 use Rattle.course.specs.Text.{pulseText, positionsText}
 use Rattle.course.specs.Walk.{walkedFrom, walked}
-use Rattle.sheet.specs.Sheet.{float, minusFloat, axisRight, distanceRight, rateRight, halfUp, near, wholeSteps, wholeSpeed, rounded, distanceSteps, speedSteps, distanceOf, speedOf}
+use Rattle.sheet.specs.Examples.{nine, ten, eleven}
 use Rattle.course.specs.Walk.{noStore}
-use Rattle.promise.specs.Twelve.{History, from, standsOn, standsAt, text, sends, ticks, One, Two, Three, Four, Five, Six, Seven, Eight, Nine, Ten, Eleven, Twelve}
+use Rattle.promise.specs.Twelve.{History, from, standsOn, standsAt, text, sends, ticks, One, Two, Three, Four, Five, Six, Seven, Eight, Twelve}
 
 -- (1) to (3), which run
 ran : One × Two × Three
@@ -49,11 +49,6 @@ replied : Four × Five × Six × Seven × Eight
 unfolding sends ticks text within in24 signed word placed added inSpeed inOffset inBack inLoop inDelay inCharacter inSwitch inPort inByte inZero rightCount rightZ2 rightDistances rightSpeeds hexDigit hexes twos24 report twoHex decimal digits shown fromOf toOf speedAt skipped nextBy pulseOf afterOf leftOf pulses steps signAt countAfter goal goalX goalY goalZ1 goalZ2 firstSpeed laterSpeed route goingTo planOf counted inRange underWay behind letterOf afterAddress directOf codeOf storedOf digitsBehind digitsOf numberOf parted itemsOf numbersOf bytes4 numBytes encode wordAt wordsOf front isCode countRight axesRight loopRight rangesRight speedsRight faultOf hasRoom storeOf recordAt spotFrom spotOf fetchOf recordsFrom recordsOf holds meets early overlaps holders outside strays letter checked inside again opens looped aimed onwardOf aimOf checkOf verdictOf soundOf mixed resetOf heard beginOf performed ticked runsOf receiving clocking first replyOf directSaid earOf returned gathering stopped broken resetSaid hearing gathered sound recordReply storedSaid runsNow course pulseText positionsText walkedFrom walked
 replied = ((refl, refl, refl), (refl, refl), (refl, refl), refl, refl, (refl, refl, refl, refl))
 
--- (9) to (11), the two conversions
-converted : Nine × Ten × Eleven
-unfolding float minusFloat axisRight distanceRight rateRight halfUp near wholeSteps wholeSpeed rounded distanceSteps speedSteps distanceOf speedOf mul div le
-converted = (refl, (refl, refl), refl)
-
 count-so : 16777215 ≡ count (pos 8388607)
 count-so = refl
 
@@ -62,4 +57,4 @@ pub the-twelve : Twelve
 the-twelve =
     let r = replied .5 in
     let e : last .board ≡ standsAt (pos 8388607) = r .1 ∙ ap standsOn count-so in
-    (ran .0, ran .1, ran .2, replied .0, replied .1, replied .2, replied .3, replied .4, converted .0, converted .1, converted .2, (r .0, e, r .2, r .3))
+    (ran .0, ran .1, ran .2, replied .0, replied .1, replied .2, replied .3, replied .4, nine, ten, eleven, (r .0, e, r .2, r .3))

@@ -9,13 +9,14 @@ use lib.Dec.{ltb}
 use lib.ListN.{length}
 use Rattle.count.specs.Pick.{pick}
 use Rattle.count.specs.Paper.{Paper}
+use Rattle.count.specs.Truth.{and-right}
 use Rattle.board.specs.declared.Board.{Board}
 use Rattle.promise.specs.Machine.{ours}
 use Rattle.promise.specs.Guard as G
 use Rattle.promise.specs.Guard.{reached, shown, Along}
 use Rattle.promise.specs.Stop.{Step, receive, call, Mild, waits, rests, counts, takes, ahead, answerOf, countOf, byteOf}
 use Rattle.promise.specs.StopSteps.{Act, byte, tick, At, twin, actOf, right, tells, acted, actAnswer, our-answer, one-answer}
-use Rattle.promise.specs.StopOne.{keeps, FitAt, and-right}
+use Rattle.promise.specs.StopOne.{keeps, FitAt}
 
 -- ---- what the acts show: the calls, and the bytes
 

@@ -22,6 +22,7 @@ use Rattle.board.specs.Direct.{replyOf, first, directSaid}
 use Rattle.board.specs.Storing.{storedSaid}
 use Rattle.board.specs.Receive.{holdsBy, earOf, isStoring, stopped, hearing, returned, gathering}
 use Rattle.board.specs.Calls.{Outcome, answered, receiving}
+use Rattle.board.specs.Hears.{sound-engine}
 use Rattle.promise.specs.Machine.{ours}
 use Rattle.promise.specs.Guard.{reached}
 use Rattle.promise.specs.Demands.{isWaiting}
@@ -171,14 +172,6 @@ module _ (ports reply : List ℕ) (e : Engine) (store : List ℕ) (r : 32 ≤ le
 
   both : stoppable (board e false noLine) ≡ true → eqb (e .axes) 0 ≡ false → Stood (board e false noLine) ports reply store
   both h a = (ap (λ (q : At). q .0 .standing) (stops h), ap (λ (q : At). q .0) (whole h a), ap (λ (q : At). q .1) (whole h a))
-
-sound-engine : (b : Board) → sound b ≡ true → soundOf (b .engine) ≡ true
-unfolding sound
-sound-engine b h = by (soundOf (b .engine)) (leb (b .line .len) 80) h
-  where
-    by : (s t : Bool) → s && t ≡ true → s ≡ true
-    by true t q = refl
-    by false t q = absurd (true≢false (sym q))
 
 pub ours-stop-and-start : StopAndStart ours
 ours-stop-and-start p ports reply b r h a =

@@ -6,6 +6,7 @@ use mathlib.Core.List.{List, []}
 use mathlib.Core.Path.{_≡_, refl, sym, subst}
 use borrow.Author.Tests.{le-ltb, lt-ltb, eqb-true, eqb-false, ne-eqb}
 use lib.Dec.{ltb, eqb}
+use Rattle.count.specs.Truth.{and-right}
 use Rattle.board.specs.declared.Board.{Board}
 use Rattle.board.specs.Receive.{earOf, stopped, ordinary, hearing}
 use Rattle.promise.specs.Machine.{ours}
@@ -50,10 +51,6 @@ keeps p call = counts (p .0)
 awake-and : (s k : Bool) → not s && k ≡ true → s ≡ false
 awake-and true k h = absurd (true≢false (sym h))
 awake-and false k h = refl
-
-pub and-right : (a b : Bool) → a && b ≡ true → b ≡ true
-and-right true b h = h
-and-right false b h = absurd (true≢false (sym h))
 
 -- whatever counts comes while nothing stands
 pub awake : (p : At) (e : Step) → keeps p e ≡ true → p .0 .standing ≡ false

@@ -8,6 +8,7 @@ use borrow.Author.Tests.{ltb-true}
 use lib.Dec.{ltb}
 use lib.ListN.{length}
 use Rattle.count.specs.Pick.{pick}
+use Rattle.count.specs.Truth.{and-left}
 use Rattle.board.specs.declared.Board.{Board}
 use Rattle.promise.specs.Machine.{ours}
 use Rattle.promise.specs.Guard as G
@@ -115,10 +116,6 @@ mild-out p (e ∷ es) (m, ms) = by (out p e) (unstopped ours (ahead ours p e) es
     by : (k : Bool) (fs : List Step) → Mildly fs → Mildly (consIf k e fs)
     by true fs h = (m, h)
     by false fs h = h
-
-and-left : (a b : Bool) → a && b ≡ true → a ≡ true
-and-left true b q = refl
-and-left false b q = absurd (true≢false (sym q))
 
 ordinary : (p : At) (e : Step) → out p e ≡ true → Unstopped e
 ordinary p (receive v ports reply) h = ltb-true v 253 (and-left (ltb v 253) (takes (p .0)) h)

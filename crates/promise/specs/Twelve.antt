@@ -10,9 +10,9 @@ use lib.IntN.{ℤ, pos, negsuc}
 use lib.ListN.{take, replicate}
 use Rattle.count.specs.Numbers.{value, count, half}
 use Rattle.count.specs.Paper.{Paper, says}
-use Rattle.sheet.specs.declared.Axis.{Axis}
 use Rattle.sheet.specs.declared.Rate.the-variants.{PerMinute}
 use Rattle.sheet.specs.Sheet.{float, minusFloat, found, distanceOf, speedOf}
+use Rattle.sheet.specs.Examples.{axis}
 use Rattle.engine.specs.State.{paper, zeroes, nothingHeld, idle}
 use Rattle.board.specs.declared.Board.{Board}
 use Rattle.board.specs.State.{board, noLine}
@@ -86,10 +86,6 @@ standsOn c = board (record { axes = 1; at = record { x = c; y = half; z = half }
 
 abbrev pub standsAt : ℤ → Board
 standsAt z = standsOn (count z)
-
--- an axis of the sheet with whole numbers
-abbrev pub axis : ℕ → ℕ → ℕ → Axis
-axis l s g = record { lead = float l 1; steps = float s 1; gear = float g 1 }
 
 -- what a fresh board comes to by a text
 abbrev pub told : string.String → History

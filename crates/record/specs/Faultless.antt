@@ -11,10 +11,10 @@ use lib.IntN.{ℤ, pos, negsuc}
 use lib.Signed.{mag, leZ}
 use Rattle.count.specs.Pick.{pick}
 use Rattle.count.specs.Numbers.{within}
+use Rattle.count.specs.Truth.{and-parts}
 use Rattle.record.specs.declared.Record.{Record}
 use Rattle.record.specs.Fault.{isMovement, isCode, countRight, axesRight, rangesRight, speedsRight, faultOf}
 use Rattle.record.specs.Bytes.{isRight}
-use Rattle.record.specs.Work.{both}
 
 -- ---- test by test
 
@@ -83,14 +83,14 @@ module _ (P : ℕ → Type 0) (c : ℕ) where
 pub within-mag : (lo hi z : ℤ) (n : ℕ) → mag lo < n → mag hi < n → within lo hi z ≡ true → mag z < n
 unfolding within
 within-mag lo (pos h) (pos k) n l m e =
-    let p = both (leZ lo (pos k)) (leZ (pos k) (pos h)) e in
+    let p = and-parts (leZ lo (pos k)) (leZ (pos k) (pos h)) e in
     omega (arith, leb-true k h (p .1))
 within-mag lo (negsuc h) (pos k) n l m e =
-    let p = both (leZ lo (pos k)) false e in
+    let p = and-parts (leZ lo (pos k)) false e in
     absurd (let z : _≡_ {A = ℕ} 0 1 = cc in omega arith)
 within-mag (pos g) hi (negsuc k) n l m e =
-    let p = both false (leZ (negsuc k) hi) e in
+    let p = and-parts false (leZ (negsuc k) hi) e in
     absurd (let z : _≡_ {A = ℕ} 0 1 = cc in omega arith)
 within-mag (negsuc g) hi (negsuc k) n l m e =
-    let p = both (leZ (negsuc g) (negsuc k)) (leZ (negsuc k) hi) e in
+    let p = and-parts (leZ (negsuc g) (negsuc k)) (leZ (negsuc k) hi) e in
     omega (arith, leb-true k g (p .0))

@@ -17,13 +17,13 @@ use Rattle.count.specs.Ranges.{inSpeed, inOffset, inBack, inLoop, inDelay, inCh
 use Rattle.count.specs.Text.{decimal, digits, shown}
 use Rattle.count.specs.Digits.{decimal-more, decimal-long}
 use Rattle.count.specs.Words.{length-pad}
+use Rattle.count.specs.Truth.{and-parts}
 use Rattle.record.specs.declared.Held.{Held}
 use Rattle.record.specs.declared.Record.{Record}
 use Rattle.record.specs.Fault.{countRight, axesRight, loopRight, rangesRight, speedsRight}
 use Rattle.record.specs.Bytes.{numbersOf, lengthOf}
 use Rattle.record.specs.Places.{are, recordsOf, encodeAll}
 use Rattle.record.specs.Listing.{more, numbersText, lineText, listText}
-use Rattle.record.specs.Work.{both}
 use Rattle.record.specs.Below.{Below}
 use Rattle.record.specs.Right.{RightOne, right-long}
 use Rattle.record.specs.Stored.{AllRight, readable-list}
@@ -55,7 +55,7 @@ in-eight lo hi z l h e = shown-eight z (within-mag lo hi z 9999999 l h e)
 speed-five : (z : ℤ) → inSpeed z ≡ true → length (shown z) ≤ 5
 unfolding inSpeed within shown
 speed-five (pos n) e =
-    let p = both (leZ (pos 30) (pos n)) (leZ (pos n) (pos 10000)) e in
+    let p = and-parts (leZ (pos 30) (pos n)) (leZ (pos n) (pos 10000)) e in
     digits-five n (omega (arith, leb-true n 10000 (p .1)))
 speed-five (negsuc n) e = absurd (let z : _≡_ {A = ℕ} 0 1 = cc in omega arith)
 
@@ -123,16 +123,16 @@ module _ (w : List ℕ) where
   movement-by true b c n absolute p q r =
       fits-two n (eqb-true n 2 p) (twenty-four (nth w 0) q) (omega (arith, speed-five (nth w 1) r))
   movement-by false true c n absolute p q r =
-      let d = both (in24 (nth w 0)) (in24 (nth w 2)) q in
-      let s = both (inSpeed (nth w 1)) (inSpeed (nth w 3)) r in
+      let d = and-parts (in24 (nth w 0)) (in24 (nth w 2)) q in
+      let s = and-parts (inSpeed (nth w 1)) (inSpeed (nth w 3)) r in
       fits-four n (eqb-true n 4 p) (twenty-four (nth w 0) (d .0)) (speed-five (nth w 1) (s .0)) (twenty-four (nth w 2) (d .1)) (speed-five (nth w 3) (s .1))
   movement-by false false true n absolute p q r =
-      let d = both (in24 (nth w 0) && in24 (nth w 2) && in24 (nth w 4)) (rightZ2 absolute (nth w 6)) q in
-      let d′ = both (in24 (nth w 0) && in24 (nth w 2)) (in24 (nth w 4)) (d .0) in
-      let d″ = both (in24 (nth w 0)) (in24 (nth w 2)) (d′ .0) in
-      let s = both (inSpeed (nth w 1) && inSpeed (nth w 3) && inSpeed (nth w 5)) (inSpeed (nth w 7)) r in
-      let s′ = both (inSpeed (nth w 1) && inSpeed (nth w 3)) (inSpeed (nth w 5)) (s .0) in
-      let s″ = both (inSpeed (nth w 1)) (inSpeed (nth w 3)) (s′ .0) in
+      let d = and-parts (in24 (nth w 0) && in24 (nth w 2) && in24 (nth w 4)) (rightZ2 absolute (nth w 6)) q in
+      let d′ = and-parts (in24 (nth w 0) && in24 (nth w 2)) (in24 (nth w 4)) (d .0) in
+      let d″ = and-parts (in24 (nth w 0)) (in24 (nth w 2)) (d′ .0) in
+      let s = and-parts (inSpeed (nth w 1) && inSpeed (nth w 3) && inSpeed (nth w 5)) (inSpeed (nth w 7)) r in
+      let s′ = and-parts (inSpeed (nth w 1) && inSpeed (nth w 3)) (inSpeed (nth w 5)) (s .0) in
+      let s″ = and-parts (inSpeed (nth w 1)) (inSpeed (nth w 3)) (s′ .0) in
       fits-eight n (eqb-true n 8 p) (twenty-four (nth w 0) (d″ .0)) (speed-five (nth w 1) (s″ .0)) (twenty-four (nth w 2) (d″ .1)) (speed-five (nth w 3) (s″ .1))
       (twenty-four (nth w 4) (d′ .1)) (speed-five (nth w 5) (s′ .1)) (last-z absolute (nth w 6) (d .1)) (speed-five (nth w 7) (s .1))
   movement-by false false false n absolute p q r = absurd (let z : _≡_ {A = ℕ} 0 1 = cc in omega arith)
@@ -151,10 +151,10 @@ module _ (w : List ℕ) where
     where
       by : (inLoop x && inBack y ≡ true) ⊎ (inZero x && inOffset y ≡ true) → (length (shown x) ≤ 8) × (length (shown y) ≤ 8)
       by (inl p) =
-          let q = both (inLoop x) (inBack y) p in
+          let q = and-parts (inLoop x) (inBack y) p in
           (in-eight (pos 1) (pos 32767) x (omega arith) (omega arith) (q .0), in-eight (negsuc 32767) (negsuc 0) y (omega arith) (omega arith) (q .1))
       by (inr p) =
-          let q = both (inZero x) (inOffset y) p in
+          let q = and-parts (inZero x) (inOffset y) p in
           (in-eight (pos 0) (pos 0) x (omega arith) (omega arith) (q .0), offset-eight y (q .1))
 
   -- every code
@@ -173,7 +173,7 @@ module _ (w : List ℕ) where
   fits-origin : (axes n : ℕ) → FitsAs axes n 110
   unfolding countRight axesRight
   fits-origin axes n p q r s =
-      let h = both (within (pos 1) (pos 7) (nth w 0)) (within (pos 1) (pos axes) (nth w 0)) q in
+      let h = and-parts (within (pos 1) (pos 7) (nth w 0)) (within (pos 1) (pos axes) (nth w 0)) q in
       fits-one n (eqb-true n 1 p) (in-eight (pos 1) (pos 7) (nth w 0) (omega arith) (omega arith) (h .0))
 
   fits-switch : (axes n : ℕ) → FitsAs axes n 122
@@ -197,7 +197,7 @@ module _ (w : List ℕ) where
   fits-wait : (axes n : ℕ) → FitsAs axes n 50
   unfolding countRight rangesRight inCharacter
   fits-wait axes n p q r s =
-      let h = both (inCharacter (nth w 0)) (inOffset (nth w 1)) r in
+      let h = and-parts (inCharacter (nth w 0)) (inOffset (nth w 1)) r in
       fits-two n (eqb-true n 2 p) (in-eight (pos 33) (pos 126) (nth w 0) (omega arith) (omega arith) (h .0)) (offset-eight (nth w 1) (h .1))
 
   fits : (axes code n : ℕ) → Faultless axes code n w → Fits n w

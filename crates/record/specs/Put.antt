@@ -11,11 +11,12 @@ use lib.ListN.{length, getD, take, drop, length-append, length-take}
 use borrow.Rule.Slice.PartMut.{putMid}
 use lib.Seq.{length-take-le, take-suc, take-at, drop-at, drop-drop}
 use Rattle.count.specs.Lists.{rest, to-end}
+use Rattle.count.specs.Truth.{and-parts}
 use Rattle.record.specs.declared.Held.{Held}
 use Rattle.record.specs.declared.Record.{Record}
 use Rattle.record.specs.Bytes.{bytes4, numBytes, numbersOf, encode}
 use Rattle.record.specs.Keep.{storing, longer, hasRoom, storeOf}
-use Rattle.record.specs.Work.{both, take-short}
+use Rattle.record.specs.Work.{take-short}
 
 -- mark, code and count
 abbrev pub headBytes : ℕ → ℕ → List ℕ
@@ -64,8 +65,8 @@ record-put buf h n at code count v room eh b eb en =
 pub room-so : (h : Held) (n size : ℕ) → hasRoom h n size ≡ true → (h .records + 1 ≤ 1000) × (h .used + n ≤ 16384) × (h .used + n ≤ size)
 unfolding hasRoom
 room-so h n size e =
-    let p = both (leb (h .records + 1) 1000 && leb (h .used + n) 16384) (leb (h .used + n) size) e in
-    let q = both (leb (h .records + 1) 1000) (leb (h .used + n) 16384) (p .0) in
+    let p = and-parts (leb (h .records + 1) 1000 && leb (h .used + n) 16384) (leb (h .used + n) size) e in
+    let q = and-parts (leb (h .records + 1) 1000) (leb (h .used + n) 16384) (p .0) in
     (leb-true (h .records + 1) 1000 (q .0), leb-true (h .used + n) 16384 (q .1), leb-true (h .used + n) size (p .1))
 
 module _ (r : Record) {n : ℕ} (long : length (r .words) ≡ 8) (e : n ≡ min (r .count) 8) where

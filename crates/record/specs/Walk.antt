@@ -11,6 +11,7 @@ use lib.ListN.{length, getD, take, drop, length-drop}
 use lib.Seq.{drop-drop, length-take-le}
 use Rattle.count.specs.Pick.{pick}
 use Rattle.count.specs.Lists.{rest}
+use Rattle.count.specs.Truth.{and-parts}
 use Rattle.record.specs.declared.Held.{Held}
 use Rattle.record.specs.declared.Record.{Record}
 use Rattle.record.specs.declared.Fetched.{Fetched}
@@ -18,7 +19,7 @@ use Rattle.record.specs.declared.Spot.{Spot}
 use Rattle.record.specs.declared.Spot.the-variants as spot
 use Rattle.record.specs.Bytes.{Fetch, Got, End, Wrong, wordsOf, made, lengthOf, isRight, front}
 use Rattle.record.specs.Places.{inUse, answered, past, spotFrom, spotOf, Records, are, none-are, onto, then, recordsFrom, recordsOf, isList, readableOf}
-use Rattle.record.specs.Work.{length-words, both, part-within, part-all}
+use Rattle.record.specs.Work.{length-words, part-within, part-all}
 
 -- ---- a record found
 
@@ -42,8 +43,8 @@ module _ (axes : ℕ) (s : List ℕ) {r : Record} where
   stands-by false true false d p q t u e = absurd (let z : _≡_ {A = ℕ} 0 1 = cc in omega arith)
   stands-by false true true false p q t u e = absurd (let z : _≡_ {A = ℕ} 0 1 = cc in omega arith)
   stands-by false true true true p q t u e =
-      let m = both (eqb (getD s 0 0) 0xD7) (eqb (getD s 1 0) 0x2B) q in
-      let n = both (leb (getD s 3 0) 8) (leb (4 + 4 * getD s 3 0) (length s)) t in
+      let m = and-parts (eqb (getD s 0 0) 0xD7) (eqb (getD s 1 0) 0x2B) q in
+      let n = and-parts (leb (getD s 3 0) 8) (leb (4 + 4 * getD s 3 0) (length s)) t in
       let i : r ≡ found-item s = cc in
       record {
         mark = eqb-true (getD s 0 0) 0xD7 (m .0);

@@ -12,6 +12,7 @@ use lib.Seq.{take-nil, drop-drop}
 use Rattle.count.specs.Pick.{pick}
 use Rattle.count.specs.Words.{pad, pad-put}
 use Rattle.count.specs.Lists.{rest}
+use Rattle.count.specs.Truth.{and-parts}
 use Rattle.record.specs.declared.Held.{Held}
 use Rattle.record.specs.Fault.{faultOf}
 use Rattle.record.specs.Bytes.{Got, Wrong, wordAt, wordsOf, made, ifRight, front}
@@ -46,11 +47,6 @@ headOf s =
     (pick (leb (getD s 3 0) 8 && leb (4 + 4 * getD s 3 0) (length s)) (getD s 3 0) 9)
     9)
 
-pub both : (a b : Bool) → a && b ≡ true → (a ≡ true) × (b ≡ true)
-both true true e = (refl, refl)
-both true false e = (refl, e)
-both false b e = (e, absurd (let z : _≡_ {A = ℕ} 0 1 = cc in omega arith))
-
 -- a head that is one
 pub record Whole (axes : ℕ) (s : List ℕ) (n : ℕ) : Type 0 where
   pub fits : 4 + 4 * n ≤ length s
@@ -64,7 +60,7 @@ module _ (axes : ℕ) (s : List ℕ) where
   head-by false false c p q r h = absurd (omega (arith, rw (p, q) at h))
   head-by false true false p q r h = absurd (omega (arith, rw (p, q, r) at h))
   head-by false true true p q r h =
-      let e = both (leb (getD s 3 0) 8) (leb (4 + 4 * getD s 3 0) (length s)) r in
+      let e = and-parts (leb (getD s 3 0) 8) (leb (4 + 4 * getD s 3 0) (length s)) r in
       rw (p, q, r) (record { fits = leb-true (4 + 4 * getD s 3 0) (length s) (e .1); reads = rw (p, q, r) })
 
   pub head-whole : headOf s ≤ 8 → Whole axes s (headOf s)
@@ -77,7 +73,7 @@ module _ (axes : ℕ) (s : List ℕ) where
   front-by false false c p q r h = rw (p, q)
   front-by false true false p q r h = rw (p, q, r)
   front-by false true true p q r h =
-      let e = both (leb (getD s 3 0) 8) (leb (4 + 4 * getD s 3 0) (length s)) r in
+      let e = and-parts (leb (getD s 3 0) 8) (leb (4 + 4 * getD s 3 0) (length s)) r in
       absurd (omega (arith, rw (p, q, r) at h, leb-true (getD s 3 0) 8 (e .0)))
 
   pub front-none : {n : ℕ} → n ≡ headOf s → 8 < n → front axes s ≡ Wrong

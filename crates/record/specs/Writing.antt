@@ -7,14 +7,13 @@ use native.Mathlib.Numerals.{add-one, sub-one}
 use native.Mathlib.Omega.{arith}
 use borrow.Author.Tests.{ne-eqb, eq-eqb}
 use lib.Dec.{eqb}
-use lib.IntN.{ℤ, pos, negsuc}
 use lib.ListN.{length, getD, take, drop, set, length-append, length-take, length-drop, length-set, drop-of-length-le}
 use lib.Seq.{length-take-le, take-all, take-add, take-at, drop-at, drop-drop, drop-cons, drop-append-seam, take-append-seam, set-at, getD-take}
 use borrow.Rule.Slice.PartMut.{putMid, same-len-mid}
 use Rattle.count.specs.Pick.{pick}
 use Rattle.count.specs.Numbers.{signed}
 use Rattle.count.specs.Text.{Written, written, wrote, shown}
-use Rattle.count.specs.Digits.{wrote-long, digits-most}
+use Rattle.count.specs.Digits.{wrote-long, shown-most}
 use Rattle.count.specs.Lists.{rest, to-end, set-front, drop-one}
 use Rattle.record.specs.declared.Record.{Record}
 use Rattle.record.specs.declared.Fetched.{Fetched}
@@ -131,11 +130,6 @@ pub tail-done : (i n : ℕ) (v : List ℕ) → n ≤ i → lineLeft i (drop i (t
 tail-done i n v h =
     let m : length (take n v) ≤ i = rw length-take (omega arith) in
     rw (drop-of-length-le (take n v) m) (line-done i)
-
-shown-most : (z : ℤ) → length (shown z) ≤ 11
-unfolding shown
-shown-most (pos n) = omega (arith, digits-most n)
-shown-most (negsuc n) = omega (arith, digits-most (suc n))
 
 item-by : (b : Bool) (t : List ℕ) → length t ≤ 11 → length (pick b t (44 ∷ t)) ≤ 12
 item-by true t h = omega arith

@@ -5,12 +5,6 @@ use libc::STDOUT_FILENO;
 use record::Held;
 use record::Record;
 
-// A number of the text as a word of 32 bits, and where the text goes on.
-struct Number {
-    word: u32,
-    at: usize,
-}
-
 // The numbers of one kind of record, and where the text goes on.
 struct Given {
     words: [u32; 11],
@@ -23,54 +17,12 @@ struct Filled {
     at: usize,
 }
 
-fn is_digit(b: u8) -> bool {
-    (48 <= b) & (b <= 57)
-}
-
-// A size with one digit more, to nine digits; any other byte leaves it.
-fn with_digit(size: u32, b: u8) -> u32 {
-    if size < 100000000 {
-        if 48 <= b {
-            if b <= 57 {
-                return size * 10 + ((b - 48) as u32);
-            }
-        }
-    }
-    size
-}
-
-// The next number from a place of the text on.
-fn next_number(text: &[u8], from: usize) -> Number {
-    let mut at = from;
-    let mut size: u32 = 0;
-    let mut minus = false;
-    let mut begun = false;
-    while at < text.len() {
-        let b = text[at];
-        at = at + 1;
-        let digit = is_digit(b);
-        if begun & !digit {
-            return Number {
-                word: count::word_of(minus, size),
-                at,
-            };
-        }
-        minus = minus | (b == 45);
-        begun = begun | digit;
-        size = with_digit(size, b);
-    }
-    Number {
-        word: count::word_of(minus, size),
-        at,
-    }
-}
-
 fn next_record(text: &[u8], from: usize) -> Given {
     let mut words: [u32; 11] = [0; 11];
     let mut at = from;
     let mut k = 0;
     while k < 11 {
-        let t = next_number(text, at);
+        let t = reader::next_number(text, at);
         words[k] = t.word;
         at = t.at;
         k = k + 1;
@@ -209,15 +161,15 @@ fn show_store(store: &[u8], held: Held) {
 // One store of the text; answers where the text goes on.
 fn one_store(text: &[u8], from: usize) -> usize {
     let mut store: [u8; 16384] = [0; 16384];
-    let axes = next_number(text, from);
-    let kinds = next_number(text, axes.at);
+    let axes = reader::next_number(text, from);
+    let kinds = reader::next_number(text, axes.at);
     let f = fill(&mut store, byte_of(axes.word), text, kinds.at, kinds.word);
     show_store(&store, f.held);
     f.at
 }
 
 fn show_all(text: &[u8]) {
-    let first = next_number(text, 0);
+    let first = reader::next_number(text, 0);
     let mut left = first.word;
     let mut at = first.at;
     while 0 < left {

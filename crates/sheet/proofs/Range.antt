@@ -11,6 +11,7 @@ use mir.Syntax.{w32, w64}
 use mir.Val.{SFits, toZ, ofZ}
 use mir.ValLaws.{toZ-pos, toZ-ofZ}
 use borrow.Author.Tests.{leb-true, leb-false, le-leb, lt-leb}
+use Rattle.count.specs.Truth.{and-left}
 use Rattle.sheet.specs.declared.Converted.{Converted}
 use Rattle.sheet.specs.Sheet.{near, signed, refused, wholeSteps, wholeSpeed, rounded}
 use Rattle.sheet.specs.Work.{cappedWhole}
@@ -93,11 +94,7 @@ capped-back (fin s m e) = toZ-ofZ w64 (signed s (min (near m e) 16777216)) (sign
 
 pub steps-fit : (z : ℤ) → (leZ (negsuc 8388607) z && leZ z (pos 8388607)) ≡ true → SFits w32 z
 steps-fit (pos k) h = let l : k ≤ 8388607 = leb-true k 8388607 h in record { sfits = omega arith }
-steps-fit (negsuc k) h = let l : k ≤ 8388607 = leb-true k 8388607 (both (leb k 8388607) h) in record { sfits = omega arith }
-  where
-    both : (a : Bool) → (a && true) ≡ true → a ≡ true
-    both true e = refl
-    both false e = e
+steps-fit (negsuc k) h = let l : k ≤ 8388607 = leb-true k 8388607 (and-left (leb k 8388607) true h) in record { sfits = omega arith }
 
 pub speed-fit : (z : ℤ) → (leZ (pos 30) z && leZ z (pos 10000)) ≡ true → SFits w32 z
 speed-fit (pos k) h = let l : k ≤ 10000 = leb-true k 10000 (second (leb 30 k) (leb k 10000) h) in record { sfits = omega arith }

@@ -8,7 +8,7 @@ use Rattle.sheet.specs.declared.Rate.the-variants.{PerSecond, PerMinute}
 use Rattle.sheet.specs.Sheet.{float, minusFloat, found, refused, halfUp, near, rounded, wholeSteps, wholeSpeed, axisRight, distanceRight, rateRight, distanceSteps, speedSteps, distanceOf, speedOf}
 
 -- an axis of whole numbers
-abbrev axis : ℕ → ℕ → ℕ → Axis
+abbrev pub axis : ℕ → ℕ → ℕ → Axis
 axis l s g = record { lead = float l 1; steps = float s 1; gear = float g 1 }
 
 -- (9) lead 5, 400 steps, gear 1: 10 mm is 800

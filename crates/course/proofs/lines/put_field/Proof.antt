@@ -6,8 +6,9 @@ use borrow.Rule.Slice.PartMut.{putMid}
 use lib.ListN.{length, set}
 use Rattle.count.specs.Numbers.{value}
 use Rattle.count.specs.Text.{shown}
+use Rattle.count.specs.Digits.{shown-most}
 use Rattle.course.specs.Work.{Wrote}
-use Rattle.course.proofs.Behind.{byte-before, shown-most}
+use Rattle.course.proofs.Behind.{byte-before}
 use borrow.Author.Needs.{needs}
 use Rattle.course.proofs.lines.put_field.Statement.{statement}
 use Rattle.course.proofs.lines.put_field.Tie as tie

@@ -1,8 +1,8 @@
 -- `motion::route::plan` meets its contract. Assumes nothing.
 use mathlib.Core.Path.{sym, _∙_}
 use Rattle.count.specs.Ranges.{rightDistances, rightSpeeds}
+use Rattle.count.specs.Truth.{and-right}
 use Rattle.motion.specs.Plan.{planOf}
-use Rattle.motion.specs.Passed.{and-right}
 use borrow.Author.Needs.{needs}
 use Rattle.motion.proofs.route.plan.Statement.{statement}
 use Rattle.motion.proofs.route.plan.Tie as tie

@@ -1,6 +1,5 @@
 // What a host sets in a board's state by name.
 use board::Board;
-use board::Line;
 use engine::Engine;
 use engine::Job;
 use engine::Run;
@@ -42,12 +41,6 @@ const SECOND: u64 = 0x7365636f6e64;
 
 const THIRD: u64 = 0x7468697264;
 
-// The board afterwards, and whether there is such a field and it can hold the value.
-pub(crate) struct Outcome {
-    pub board: Board,
-    pub right: bool,
-}
-
 pub(crate) fn byte_of(w: u64) -> u8 {
     if w < 256 { w as u8 } else { 255 }
 }
@@ -60,41 +53,71 @@ pub(crate) fn word_of(w: u64) -> u32 {
     if w < 4294967296 { w as u32 } else { 4294967295 }
 }
 
-fn right(board: Board) -> Outcome {
-    Outcome { board, right: true }
+fn is_axis(axis: u64) -> bool {
+    (120 <= axis) & (axis <= 122)
 }
 
-fn wrong(board: Board) -> Outcome {
-    Outcome {
-        board,
-        right: false,
+// The value of a word as a field keeps it: a point's is counted from -8,388,608 on.
+pub(crate) fn kept_as(name: u64, word: u64) -> u64 {
+    if !is_axis(name % 256) {
+        return word;
     }
-}
-
-// The value of a point as it is kept, from -8,388,608 on; what is none stays above all that a point can hold.
-fn kept_as(value: u64) -> u64 {
-    if value <= 4286578687 {
-        return value + 8388608;
+    if word <= 4286578687 {
+        return word + 8388608;
     }
-    if 18446744073701163008 <= value {
-        return value - 18446744073701163008;
+    if 18446744073701163008 <= word {
+        return word - 18446744073701163008;
     }
     u64::MAX
 }
 
-fn is_axis(name: u64) -> bool {
-    let axis = name % 256;
-    (120 <= axis) & (axis <= 122)
+pub(crate) fn is_moving(job: Job) -> bool {
+    match job {
+        Job::Idle => false,
+        Job::Storing => false,
+        Job::Direct(_) => true,
+        Job::Ready => false,
+        Job::Moving(_) => true,
+        Job::Delay(_) => false,
+        Job::Wait(_, _) => false,
+    }
 }
 
-// The greatest value that a field can hold.
-fn most_of(name: u64) -> u64 {
+// How many values a field of the state takes: none without a name.
+fn values_of(name: u64) -> u64 {
     match name {
-        OVER | STANDING => 1,
-        AXES | DEPTH | LEN | PHASE => 255,
-        PLACE | SPEED1 | SPEED2 | SPEED3 => 65535,
-        _ => 4294967295,
+        OVER | STANDING => 2,
+        AXES | DEPTH | LEN => 256,
+        PLACE => 65536,
+        _ => 0,
     }
+}
+
+// The same of a field of a movement.
+fn values_moving(name: u64) -> u64 {
+    match name {
+        PHASE => 256,
+        SPEED1 | SPEED2 | SPEED3 => 65536,
+        MADE => 4294967296,
+        _ => 0,
+    }
+}
+
+// Whether a point is of the board, or of a movement under way.
+fn is_point(point: u64, moving: bool) -> bool {
+    match point {
+        POSITION | ORIGIN => true,
+        START | FIRST | SECOND | THIRD => moving,
+        _ => false,
+    }
+}
+
+// Whether there is a field of this name, the board's or of the movement under way, and it can hold the value.
+pub(crate) fn can_hold(name: u64, value: u64, moving: bool) -> bool {
+    if is_axis(name % 256) {
+        return is_point(name / 256, moving) & (value < 4294967296);
+    }
+    (value < values_of(name)) | moving & (value < values_moving(name))
 }
 
 fn with_axis(c: Counters, axis: u64, count: u32) -> Counters {
@@ -107,79 +130,7 @@ fn with_axis(c: Counters, axis: u64, count: u32) -> Counters {
     next
 }
 
-fn with_engine(board: Board, engine: Engine) -> Outcome {
-    let mut next = board;
-    next.engine = engine;
-    right(next)
-}
-
-fn with_run(board: Board, run: Run) -> Outcome {
-    let mut engine = board.engine;
-    engine.run = run;
-    with_engine(board, engine)
-}
-
-fn with_line(board: Board, line: Line) -> Outcome {
-    let mut next = board;
-    next.line = line;
-    right(next)
-}
-
-fn set_axes(board: Board, axes: u8) -> Outcome {
-    let mut engine = board.engine;
-    engine.axes = axes;
-    with_engine(board, engine)
-}
-
-fn set_position(board: Board, axis: u64, count: u32) -> Outcome {
-    let mut engine = board.engine;
-    let at = with_axis(engine.at, axis, count);
-    engine.at = at;
-    with_engine(board, engine)
-}
-
-fn set_origin(board: Board, axis: u64, count: u32) -> Outcome {
-    let mut engine = board.engine;
-    let origin = with_axis(engine.origin, axis, count);
-    engine.origin = origin;
-    with_engine(board, engine)
-}
-
-fn set_depth(board: Board, depth: u8) -> Outcome {
-    let engine = board.engine;
-    let mut run = engine.run;
-    let mut loops = run.loops;
-    loops.depth = depth;
-    run.loops = loops;
-    with_run(board, run)
-}
-
-fn set_place(board: Board, place: u16) -> Outcome {
-    let engine = board.engine;
-    let mut run = engine.run;
-    run.place = place;
-    with_run(board, run)
-}
-
-fn set_len(board: Board, len: u8) -> Outcome {
-    let mut line = board.line;
-    line.len = len;
-    with_line(board, line)
-}
-
-fn set_over(board: Board, over: bool) -> Outcome {
-    let mut line = board.line;
-    line.over = over;
-    with_line(board, line)
-}
-
-fn set_standing(board: Board, standing: bool) -> Outcome {
-    let mut next = board;
-    next.standing = standing;
-    right(next)
-}
-
-// A movement with a point's axis set.
+// A movement with an axis of a point set.
 fn with_point(m: Move, point: u64, axis: u64, count: u32) -> Move {
     let mut next = m;
     match point {
@@ -191,9 +142,9 @@ fn with_point(m: Move, point: u64, axis: u64, count: u32) -> Move {
     next
 }
 
-// A movement with a named field set.
+// A movement with a field set.
 fn altered(m: Move, name: u64, value: u64) -> Move {
-    if is_axis(name) {
+    if is_axis(name % 256) {
         return with_point(m, name / 256, name % 256, word_of(value));
     }
     let mut next = m;
@@ -207,69 +158,75 @@ fn altered(m: Move, name: u64, value: u64) -> Move {
     next
 }
 
-fn with_job(board: Board, job: Job) -> Outcome {
-    let engine = board.engine;
-    let old = engine.run;
-    let loops = old.loops;
-    let run = Run {
-        job,
-        place: old.place,
-        loops,
-    };
-    with_run(board, run)
-}
-
-// A field of the movement under way, direct or of a program.
-fn set_movement(board: Board, name: u64, value: u64) -> Outcome {
-    let engine = board.engine;
-    let run = engine.run;
-    let job = run.job;
+// The job with a field of its movement set.
+fn job_with(job: Job, name: u64, value: u64) -> Job {
     match job {
-        Job::Idle => wrong(board),
-        Job::Storing => wrong(board),
-        Job::Direct(m) => with_job(board, Job::Direct(altered(m, name, value))),
-        Job::Ready => wrong(board),
-        Job::Moving(m) => with_job(board, Job::Moving(altered(m, name, value))),
-        Job::Delay(_) => wrong(board),
-        Job::Wait(_, _) => wrong(board),
+        Job::Idle => job,
+        Job::Storing => job,
+        Job::Direct(m) => Job::Direct(altered(m, name, value)),
+        Job::Ready => job,
+        Job::Moving(m) => Job::Moving(altered(m, name, value)),
+        Job::Delay(_) => job,
+        Job::Wait(_, _) => job,
     }
 }
 
-fn set_point(board: Board, name: u64, value: u64) -> Outcome {
-    let axis = name % 256;
-    let point = name / 256;
-    match point {
-        POSITION => set_position(board, axis, word_of(value)),
-        ORIGIN => set_origin(board, axis, word_of(value)),
-        START | FIRST | SECOND | THIRD => set_movement(board, name, value),
-        _ => wrong(board),
-    }
-}
-
-fn set_plain(board: Board, name: u64, value: u64) -> Outcome {
+fn run_with(old: Run, name: u64, value: u64) -> Run {
+    let mut next = old;
+    let mut loops = old.loops;
     match name {
-        AXES => set_axes(board, byte_of(value)),
-        DEPTH => set_depth(board, byte_of(value)),
-        LEN => set_len(board, byte_of(value)),
-        PLACE => set_place(board, half_of(value)),
-        OVER => set_over(board, value == 1),
-        STANDING => set_standing(board, value == 1),
-        PHASE | MADE | SPEED1 | SPEED2 | SPEED3 => set_movement(board, name, value),
-        _ => wrong(board),
+        PLACE => next.place = half_of(value),
+        DEPTH => {
+            loops.depth = byte_of(value);
+            next.loops = loops;
+        }
+        _ => {
+            let before = old.job;
+            let job = job_with(before, name, value);
+            next = Run {
+                job,
+                place: old.place,
+                loops,
+            };
+        }
     }
+    next
 }
 
-// Sets a field to the value of a word.
-pub(crate) fn set(board: Board, name: u64, value: u64) -> Outcome {
+fn engine_with(e: Engine, name: u64, value: u64) -> Engine {
+    let mut next = e;
+    let point = name / 256;
+    if name == AXES {
+        next.axes = byte_of(value);
+        return next;
+    }
     if is_axis(name) {
-        let kept = kept_as(value);
-        if most_of(name) < kept {
-            return wrong(board);
+        next.at = with_axis(e.at, name, word_of(value));
+        return next;
+    }
+    if point == ORIGIN {
+        next.origin = with_axis(e.origin, name % 256, word_of(value));
+        return next;
+    }
+    next.run = run_with(e.run, name, value);
+    next
+}
+
+// The board with a field set to a value that it can hold.
+pub(crate) fn board_with(board: Board, name: u64, value: u64) -> Board {
+    let mut next = board;
+    let mut line = board.line;
+    match name {
+        STANDING => next.standing = value == 1,
+        LEN => {
+            line.len = byte_of(value);
+            next.line = line;
         }
-        return set_point(board, name, kept);
+        OVER => {
+            line.over = value == 1;
+            next.line = line;
+        }
+        _ => next.engine = engine_with(board.engine, name, value),
     }
-    if most_of(name) < value {
-        return wrong(board);
-    }
-    set_plain(board, name, value)
+    next
 }

@@ -1,35 +1,34 @@
 // `calls`: drives a board call by call from a script on standard input (trial/README.md), and prints what each call answers.
-ghost use Prim.Native.Nat.{_≤_};
-ghost use lib.ListN.{length};
-
 mod host;
 mod script;
 mod show;
 
 use board::Board;
+use host::board_with;
 use host::byte_of;
+use host::can_hold;
 use host::half_of;
+use host::is_moving;
+use host::kept_as;
 use host::word_of;
 use libc::STDIN_FILENO;
+use libc::STDOUT_FILENO;
 use record::Held;
 use script::Row;
-use show::first;
-use show::flush;
-use show::put_byte;
-use show::put_heard;
-use show::put_listing;
-use show::put_state;
-use show::put_text;
-use show::put_ticked;
-use show::put_unlisted;
+use show::show_answer;
+use show::show_listing;
+use show::show_refusal;
+use show::show_reply;
+use show::show_state;
 use show::within;
 
+// The usual store and reply buffer.
 const STORE: usize = 16384;
 
 const REPLY: usize = 32;
 
 // Where a script has come to: the board, the input ports, the bytes of the store and the reply buffer that the next call is lent, the line
-// being read and its number, how much of the output buffer waits to be written, and whether input may follow.
+// being read and its number, and whether input may follow.
 struct Play {
     pub board: Board,
     pub ports: [u8; 4],
@@ -37,134 +36,87 @@ struct Play {
     pub reply: usize,
     pub row: Row,
     pub number: u64,
-    pub at: usize,
     pub more: bool,
 }
 
-// The start of a part of so many bytes at the end of a buffer; of the whole buffer where it has fewer.
-fn lent_from(n: usize, buf: &[u8]) -> usize
-    ensures { λ r. ⌜ r ≤ length (now (buf .entry)) ⌝ }
-{
-    if n <= buf.len() {
-        return buf.len() - n;
-    }
-    0
-}
-
-// Room for a printed line: where fewer than 256 bytes are left, the buffer is written out first.
-fn with_room(play: Play, out: &[u8]) -> Play {
-    let at = within(play.at, out);
-    if 256 <= out.len() - at {
-        return play;
-    }
-    flush(out, at);
-    let mut next = play;
-    next.at = 0;
-    next
-}
-
-// A call was made: the next one is lent what is usual.
-fn called(play: Play, board: Board, at: usize) -> Play {
+fn with_board(play: Play, board: Board) -> Play {
     let mut next = play;
     next.board = board;
-    next.store = STORE;
-    next.reply = REPLY;
-    next.at = at;
     next
 }
 
-fn hear(play: Play, byte: u8, reply: &mut [u8], store: &mut [u8], out: &mut [u8]) -> Play {
+fn lending(play: Play, store: usize, reply: usize) -> Play {
+    let mut next = play;
+    next.store = store;
+    next.reply = reply;
+    next
+}
+
+// A byte is received. The store is the first 16,384 bytes of the space. A store of another length is the first bytes of it too: a call
+// that refuses its store leaves it alone.
+fn receive(play: Play, byte: u8, space: &mut [u8], replies: &mut [u8]) -> Play {
     let board = play.board;
     let ports = play.ports;
-    let heard = board.receive(byte, ports, &mut *reply, store);
+    let n = within(play.store, space);
+    let k = within(play.reply, replies);
+    let heard = board.receive(byte, ports, &mut replies[0..k], &mut space[0..n]);
+    if heard.refusal != 0 {
+        show_refusal(b"B ", heard.refusal);
+    } else {
+        show_reply(replies, heard.len);
+    }
     let next = heard.board;
-    let at = put_heard(out, play.at, heard.refusal, first(reply, heard.len));
-    called(play, next, at)
+    with_board(lending(play, STORE, REPLY), next)
 }
 
-// A byte received with a reply buffer, and with the store or a buffer of another length.
-fn receive_in(play: Play, byte: u8, reply: &mut [u8], store: &mut [u8], out: &mut [u8]) -> Play {
-    if play.store == STORE {
-        return hear(play, byte, reply, store, out);
-    }
-    let mut other = io::large_buffer();
-    let from = lent_from(play.store, &other);
-    hear(play, byte, reply, &mut other[from..], out)
-}
-
-fn receive(play: Play, byte: u8, store: &mut [u8], out: &mut [u8]) -> Play {
-    if play.reply == REPLY {
-        let mut reply = [0u8; 32];
-        return receive_in(play, byte, &mut reply, store, out);
-    }
-    let mut other = io::large_buffer();
-    let from = lent_from(play.reply, &other);
-    receive_in(play, byte, &mut other[from..], store, out)
-}
-
-fn clock(play: Play, store: &[u8], out: &mut [u8]) -> Play {
-    let ready = with_room(play, out);
-    let board = ready.board;
-    let ticked = board.clock(store);
-    let next = ticked.board;
+fn clock(play: Play, space: &[u8]) -> Play {
+    let board = play.board;
+    let n = within(play.store, space);
+    let ticked = board.clock(&space[0..n]);
     let answer = ticked.answer;
-    let at = put_ticked(out, ready.at, ticked.refusal, answer);
-    called(ready, next, at)
+    if ticked.refusal != 0 {
+        show_refusal(b"C ", ticked.refusal);
+    } else {
+        show_answer(answer);
+    }
+    let next = ticked.board;
+    with_board(lending(play, STORE, REPLY), next)
 }
 
-fn clock_times(start: Play, n: u32, store: &[u8], out: &mut [u8]) -> Play {
+fn clocks(start: Play, n: u32, space: &[u8]) -> Play {
     let mut play = start;
     let mut left = n;
     while 0 < left {
-        let next = clock(play, store, &mut *out);
+        let next = clock(play, space);
         play = next;
         left = left - 1;
     }
     play
 }
 
-// So many clock calls, the first with the store or a buffer of another length.
-fn clocks(play: Play, n: u32, store: &[u8], out: &mut [u8]) -> Play {
-    if n == 0 {
-        return play;
-    }
-    if play.store == STORE {
-        return clock_times(play, n, store, out);
-    }
-    let other = io::large_buffer();
-    let from = lent_from(play.store, &other);
-    let next = clock(play, &other[from..], &mut *out);
-    clock_times(next, n - 1, store, out)
-}
-
-// The listing; the buffer is written out before it.
-fn list_in(play: Play, store: &[u8], out: &mut [u8]) -> Play {
-    flush(out, play.at);
+fn show_list(board: Board, store: &[u8]) {
     let mut text = [0u8; 32768];
-    let board = play.board;
     let listed = board.list(store, &mut text);
-    if listed.refusal != 0 {
-        let at = put_unlisted(out, 0, listed.refusal);
-        return called(play, board, at);
+    let refusal = listed.refusal;
+    match refusal {
+        0 => show_listing(&text, listed.len as usize),
+        71 => {
+            io::write_all(STDOUT_FILENO, b"L G\n");
+        }
+        _ => show_refusal(b"L ", refusal),
     }
-    let at = put_listing(out, 0, first(&text, listed.len as usize));
-    called(play, board, at)
 }
 
-fn list(play: Play, store: &[u8], out: &mut [u8]) -> Play {
-    if play.store == STORE {
-        return list_in(play, store, out);
-    }
-    let other = io::large_buffer();
-    let from = lent_from(play.store, &other);
-    list_in(play, &other[from..], out)
+fn list(play: Play, space: &[u8]) -> Play {
+    let n = within(play.store, space);
+    show_list(play.board, &space[0..n]);
+    lending(play, STORE, REPLY)
 }
 
 // The host writes a byte of the store.
-fn poke(play: Play, store: &mut [u8], at: u64, b: u8) -> Play {
-    let i = at as usize;
-    if i < store.len() {
-        store[i] = b;
+fn poke(play: Play, space: &mut [u8], at: usize, b: u8) -> Play {
+    if at < space.len() {
+        space[at] = b;
     }
     play
 }
@@ -176,14 +128,10 @@ fn set_held(play: Play, words: [u64; 5]) -> Play {
         records: half_of(words[2]),
         axes: byte_of(words[3]),
     };
-    let old = play.board;
-    let engine = old.engine;
-    let mut board = old;
-    let filled = engine.set_held(held);
-    board.engine = filled;
-    let mut next = play;
-    next.board = board;
-    next
+    let mut board = play.board;
+    let engine = board.engine;
+    board.engine = engine.set_held(held);
+    with_board(play, board)
 }
 
 fn set_ports(play: Play, words: [u64; 5]) -> Play {
@@ -198,74 +146,56 @@ fn set_ports(play: Play, words: [u64; 5]) -> Play {
     next
 }
 
-fn lend_store(play: Play, n: u64) -> Play {
-    let mut next = play;
-    next.store = n as usize;
-    next
-}
-
-fn lend_reply(play: Play, n: u64) -> Play {
-    let mut next = play;
-    next.reply = n as usize;
-    next
-}
-
-fn show_state(play: Play, out: &mut [u8]) -> Play {
-    let mut next = play;
-    next.at = put_state(out, play.at, play.board);
-    next
-}
-
 // A wrong line prints its number.
-fn wrong(play: Play, out: &mut [u8]) -> Play {
-    let mut digits = [0u8; 20];
-    let k = io::decimal(play.number, &mut digits);
-    let a = put_text(&mut *out, play.at, b"? ");
-    let b = put_text(&mut *out, a, &digits[..k]);
-    let mut next = play;
-    next.at = put_byte(out, b, b'\n');
-    next
+fn wrong(play: Play) -> Play {
+    io::write_all(STDOUT_FILENO, b"? ");
+    io::print_decimal(STDOUT_FILENO, play.number);
+    io::write_all(STDOUT_FILENO, b"\n");
+    play
 }
 
 // The host sets a field of the state by name.
-fn set_field(play: Play, row: Row, out: &mut [u8]) -> Play {
-    let words = row.words;
-    let done = host::set(play.board, row.name, words[2]);
-    if !done.right {
-        return wrong(play, out);
+fn set_field(play: Play, name: u64, word: u64) -> Play {
+    let board = play.board;
+    let engine = board.engine;
+    let run = engine.run;
+    let job = run.job;
+    let value = kept_as(name, word);
+    if can_hold(name, value, is_moving(job)) {
+        return with_board(play, board_with(board, name, value));
     }
-    let board = done.board;
-    let mut next = play;
-    next.board = board;
-    next
+    wrong(play)
 }
 
 // One line.
-fn act(play: Play, row: Row, store: &mut [u8], out: &mut [u8]) -> Play {
-    let letter = row.letter();
+fn act(play: Play, row: Row, space: &mut [u8], replies: &mut [u8]) -> Play {
+    let letter = byte_of(row.command);
     if !row.is_right(letter) {
-        return wrong(play, out);
+        return wrong(play);
     }
     let words = row.words;
+    let n = word_of(words[1]);
     match letter {
-        b'B' => receive(play, byte_of(words[1]), store, out),
-        b'C' => clocks(play, word_of(words[1]), store, out),
-        b'H' => set_field(play, row, out),
+        b'B' => receive(play, byte_of(words[1]), space, replies),
+        b'C' => clocks(play, n, space),
+        b'H' => set_field(play, row.name, words[2]),
         b'I' => set_ports(play, words),
         b'K' => set_held(play, words),
-        b'L' => list(play, store, out),
-        b'M' => lend_store(play, words[1]),
-        b'R' => lend_reply(play, words[1]),
-        b'S' => show_state(play, out),
-        _ => poke(play, store, words[1], byte_of(words[2])),
+        b'L' => list(play, space),
+        b'M' => lending(play, n as usize, play.reply),
+        b'R' => lending(play, play.store, n as usize),
+        b'S' => {
+            show_state(play.board);
+            play
+        }
+        _ => poke(play, space, n as usize, byte_of(words[2])),
     }
 }
 
 // The line that was read, and the next one begins.
-fn end_line(play: Play, store: &mut [u8], out: &mut [u8]) -> Play {
-    let ready = with_room(play, out);
-    let row = ready.row;
-    let mut next = act(ready, row.closed(), store, out);
+fn end_line(play: Play, space: &mut [u8], replies: &mut [u8]) -> Play {
+    let row = play.row;
+    let mut next = act(play, row.closed(), space, replies);
     if next.number < u64::MAX {
         next.number = next.number + 1;
     }
@@ -273,9 +203,9 @@ fn end_line(play: Play, store: &mut [u8], out: &mut [u8]) -> Play {
     next
 }
 
-fn take_byte(play: Play, b: u8, store: &mut [u8], out: &mut [u8]) -> Play {
+fn take_byte(play: Play, b: u8, space: &mut [u8], replies: &mut [u8]) -> Play {
     if b == b'\n' {
-        return end_line(play, store, out);
+        return end_line(play, space, replies);
     }
     let row = play.row;
     let mut next = play;
@@ -284,11 +214,11 @@ fn take_byte(play: Play, b: u8, store: &mut [u8], out: &mut [u8]) -> Play {
 }
 
 // All bytes of a piece of input.
-fn take_all(start: Play, input: &[u8], store: &mut [u8], out: &mut [u8]) -> Play {
+fn take_all(start: Play, input: &[u8], space: &mut [u8], replies: &mut [u8]) -> Play {
     let mut play = start;
     let mut i = 0;
     while i < input.len() {
-        let next = take_byte(play, input[i], &mut *store, &mut *out);
+        let next = take_byte(play, input[i], &mut *space, &mut *replies);
         play = next;
         i = i + 1;
     }
@@ -296,7 +226,7 @@ fn take_all(start: Play, input: &[u8], store: &mut [u8], out: &mut [u8]) -> Play
 }
 
 // One piece of input, or that no more follows.
-fn take_piece(play: Play, input: &mut [u8], store: &mut [u8], out: &mut [u8]) -> Play {
+fn take_piece(play: Play, input: &mut [u8], space: &mut [u8], replies: &mut [u8]) -> Play {
     let got = libc::read(STDIN_FILENO, &mut *input);
     let n = io::count(got, input);
     if n == 0 {
@@ -304,12 +234,12 @@ fn take_piece(play: Play, input: &mut [u8], store: &mut [u8], out: &mut [u8]) ->
         next.more = false;
         return next;
     }
-    take_all(play, &input[..n], store, out)
+    take_all(play, &input[..n], space, replies)
 }
 
 // Everything that is read. A proved loop has to end, and nothing says that input does, so it counts its turns down from a number that no
 // run uses up.
-fn take_input(start: Play, store: &mut [u8], out: &mut [u8]) -> Play {
+fn take_input(start: Play, space: &mut [u8], replies: &mut [u8]) -> Play {
     let mut input = io::large_buffer();
     let mut play = start;
     let mut turns = u64::MAX;
@@ -317,38 +247,28 @@ fn take_input(start: Play, store: &mut [u8], out: &mut [u8]) -> Play {
         if !play.more {
             return play;
         }
-        let next = take_piece(play, &mut input, &mut *store, &mut *out);
+        let next = take_piece(play, &mut input, &mut *space, &mut *replies);
         play = next;
         turns = turns - 1;
     }
     play
 }
 
-// A last line without a line feed.
-fn finish(play: Play, store: &mut [u8], out: &mut [u8]) -> Play {
-    let row = play.row;
-    if row.is_empty() {
-        return play;
-    }
-    end_line(play, store, out)
-}
-
 fn main() {
-    let mut out = io::large_buffer();
-    let mut store = [0u8; 16384];
-    let board = Board::fresh();
-    let row = Row::new();
+    let mut space = io::large_buffer();
+    let mut replies = io::large_buffer();
     let start = Play {
-        board,
+        board: Board::fresh(),
         ports: [0; 4],
         store: STORE,
         reply: REPLY,
-        row,
+        row: Row::new(),
         number: 1,
-        at: 0,
         more: true,
     };
-    let read = take_input(start, &mut store, &mut out);
-    let end = finish(read, &mut store, &mut out);
-    flush(&out, end.at);
+    let end = take_input(start, &mut space, &mut replies);
+    let row = end.row;
+    if (row.fields != 0) | (row.packed != 0) {
+        end_line(end, &mut space, &mut replies);
+    }
 }

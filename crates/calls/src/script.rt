@@ -3,14 +3,14 @@
 // What stands for a number that is none: it is in no range.
 const WRONG: u64 = 9223372036854775808;
 
-// A number as far as it is read. More than ten digits, or a byte that does not belong there, give eleven.
+// A number as far as it is read: whether it has a minus, its digits and its size. Eleven digits stand for what is no number.
 struct Number {
     pub minus: bool,
     pub digits: u8,
     pub size: u64,
 }
 
-// A line as far as it is read: the field being read as a number and with its bytes packed into a word, the fields before it (six stand
+// A line as far as it is read: the field being read as a number and with its bytes packed into a word, how many fields are closed (six stand
 // for more than five), the first two of them packed, and the numbers of the first five in two's complement.
 pub(crate) struct Row {
     pub number: Number,
@@ -32,57 +32,37 @@ fn pack(word: u64, b: u8) -> u64 {
     u64::MAX
 }
 
+fn chosen(b: bool, x: u64, y: u64) -> u64 {
+    if b { x } else { y }
+}
+
 impl Number {
-    fn none() -> Number {
+    fn of(minus: bool, digits: u8, size: u64) -> Number {
         Number {
-            minus: false,
-            digits: 0,
-            size: 0,
+            minus,
+            digits,
+            size,
         }
     }
 
-    fn wrong(self) -> Number {
-        Number {
-            minus: self.minus,
-            digits: 11,
-            size: 0,
-        }
-    }
-
-    // The number with a digit more.
-    fn with_digit(self, d: u8) -> Number {
-        if 10 <= self.digits {
-            return self.wrong();
-        }
-        if 1000000000 <= self.size {
-            return self.wrong();
-        }
-        Number {
-            minus: self.minus,
-            digits: self.digits + 1,
-            size: self.size * 10 + ((d % 10) as u64),
-        }
-    }
-
-    // The number with a byte more: a minus before all digits, or a digit.
+    // The number with a byte more: a minus before all digits, or one of ten digits.
     fn with_byte(self, b: u8) -> Number {
-        if b == b'-' {
-            if self.minus | (0 < self.digits) {
-                return self.wrong();
+        if (b == b'-') & (self.digits == 0) & !self.minus {
+            return Number::of(true, 0, 0);
+        }
+        if (b < 48) | (57 < b) {
+            return Number::of(false, 11, 0);
+        }
+        if self.digits < 10 {
+            if self.size < 1000000000 {
+                return Number::of(
+                    self.minus,
+                    self.digits + 1,
+                    self.size * 10 + ((b % 48) as u64),
+                );
             }
-            return Number {
-                minus: true,
-                digits: 0,
-                size: 0,
-            };
         }
-        if b < 48 {
-            return self.wrong();
-        }
-        if 57 < b {
-            return self.wrong();
-        }
-        self.with_digit(b - 48)
+        Number::of(false, 11, 0)
     }
 
     // The number as a word, or what stands for none.
@@ -90,11 +70,10 @@ impl Number {
         if (self.digits == 0) | (10 < self.digits) {
             return WRONG;
         }
-        if self.size == 0 {
-            return 0;
-        }
         if self.minus {
-            return u64::MAX - (self.size - 1);
+            if 0 < self.size {
+                return u64::MAX - (self.size - 1);
+            }
         }
         self.size
     }
@@ -103,7 +82,7 @@ impl Number {
 impl Row {
     pub(crate) fn new() -> Row {
         Row {
-            number: Number::none(),
+            number: Number::of(false, 0, 0),
             packed: 0,
             fields: 0,
             command: 0,
@@ -112,31 +91,25 @@ impl Row {
         }
     }
 
-    // Whether nothing of a line is read.
-    pub(crate) fn is_empty(self) -> bool {
-        (self.fields == 0) & (self.packed == 0)
-    }
-
     // The row with the field being read behind the others, and no byte read of the next one.
     pub(crate) fn closed(self) -> Row {
-        let mut row = self;
         let k = self.fields;
         let number = self.number;
-        if k == 0 {
-            row.command = self.packed;
+        let mut words = self.words;
+        if 5 <= k {
+            let mut longer = self;
+            longer.fields = 6;
+            return longer;
         }
-        if k == 1 {
-            row.name = self.packed;
+        words[k] = number.word();
+        Row {
+            number: Number::of(false, 0, 0),
+            packed: 0,
+            fields: k + 1,
+            command: chosen(k == 0, self.packed, self.command),
+            name: chosen(k == 1, self.packed, self.name),
+            words,
         }
-        if k < 5 {
-            row.words[k] = number.word();
-        }
-        if k < 6 {
-            row.fields = k + 1;
-        }
-        row.number = Number::none();
-        row.packed = 0;
-        row
     }
 
     // The row with a byte more: a space parts two fields.
@@ -152,10 +125,10 @@ impl Row {
     }
 
     // Whether a closed row's fields are as many as its command asks, and in range. What `H` sets is for the board to say.
-    pub(crate) fn is_right(self, command: u8) -> bool {
+    pub(crate) fn is_right(self, letter: u8) -> bool {
         let w = self.words;
         let n = self.fields;
-        match command {
+        match letter {
             b'B' => (n == 2) & (w[1] <= 255),
             b'C' => (n == 2) & (w[1] <= 4294967295),
             b'H' => n == 3,
@@ -165,15 +138,6 @@ impl Row {
             b'M' | b'R' => (n == 2) & (w[1] <= 65536),
             b'W' => (n == 3) & (w[1] <= 16383) & (w[2] <= 255),
             _ => false,
-        }
-    }
-
-    // A closed row's command: one letter, or 0.
-    pub(crate) fn letter(self) -> u8 {
-        if self.command < 256 {
-            self.command as u8
-        } else {
-            0
         }
     }
 }

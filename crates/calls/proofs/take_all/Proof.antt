@@ -1,4 +1,4 @@
--- `calls::take_all` is safe and ends. The invariant: `i` is at most the length of the input, which fits, and store and buffer keep their
+-- `calls::take_all` is safe and ends. The invariant: `i` is at most the length of the input, which fits, and the two buffers keep their
 -- lengths. The measure is what is left of the input. Assumes nothing.
 use Prim.Native.Nat.{_≤_, _<_, _-_}
 use mathlib.Core.Path.{_≡_}
@@ -8,10 +8,10 @@ use Rattle.calls.proofs.take_all.Statement.{statement}
 use Rattle.calls.proofs.take_all.Tie as tie
 
 abbrev Inv-loop : tie.InvT-loop
-Inv-loop input store₀ out₀ play₀ i₀ store out play i = (i ≤ length input) × (length input < 18446744073709551616) × (length store ≡ length store₀) × (length out ≡ length out₀)
+Inv-loop input space₀ replies₀ play₀ i₀ space replies play i = (i ≤ length input) × (length input < 18446744073709551616) × (length space ≡ length space₀) × (length replies ≡ length replies₀)
 
 abbrev μ-loop : tie.MeasureT-loop
-μ-loop input store₀ out₀ play₀ i₀ store out play i = length input - i
+μ-loop input space₀ replies₀ play₀ i₀ space replies play i = length input - i
 
 loop-holds : tie.Need-loop-holds Inv-loop μ-loop
 loop-holds c = search needs

@@ -6,10 +6,10 @@ use Rattle.calls.proofs.take_input.Statement.{statement}
 use Rattle.calls.proofs.take_input.Tie as tie
 
 abbrev Inv-loop : tie.InvT-loop
-Inv-loop store₀ out₀ input₀ play₀ turns₀ store out input play turns = (65536 ≡ length input) × (length store ≡ length store₀) × (length out ≡ length out₀)
+Inv-loop space₀ replies₀ input₀ play₀ turns₀ space replies input play turns = (65536 ≡ length input) × (length space ≡ length space₀) × (length replies ≡ length replies₀)
 
 abbrev μ-loop : tie.MeasureT-loop
-μ-loop store₀ out₀ input₀ play₀ turns₀ store out input play turns = turns
+μ-loop space₀ replies₀ input₀ play₀ turns₀ space replies input play turns = turns
 
 large-buffer-requires : tie.Need-large-buffer-requires Inv-loop μ-loop
 large-buffer-requires c κs = search needs

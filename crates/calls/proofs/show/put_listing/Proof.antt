@@ -8,10 +8,10 @@ use Rattle.calls.proofs.show.put_listing.Statement.{statement}
 use Rattle.calls.proofs.show.put_listing.Tie as tie
 
 abbrev Inv-loop : tie.InvT-loop
-Inv-loop out₀ from text at₀ i₀ begun₀ out at i begun = (i ≤ length text) × (length text < 18446744073709551616) × (length out ≡ length out₀)
+Inv-loop out₀ text at₀ i₀ begun₀ out at i begun = (i ≤ length text) × (length text < 18446744073709551616) × (length out ≡ length out₀)
 
 abbrev μ-loop : tie.MeasureT-loop
-μ-loop out₀ from text at₀ i₀ begun₀ out at i begun = length text - i
+μ-loop out₀ text at₀ i₀ begun₀ out at i begun = length text - i
 
 loop-holds : tie.Need-loop-holds Inv-loop μ-loop
 loop-holds c = search needs

@@ -11,6 +11,9 @@ pub fn script(rng: &mut Rng, count: u64, out: &mut Vec<u8>) {
     for _ in 0..count {
         script.scene();
     }
+    if script.rng.once_in(3) {
+        script.out.pop(); // the last line needs no line feed
+    }
 }
 
 pub struct Script<'a> {

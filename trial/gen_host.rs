@@ -44,9 +44,20 @@ impl Script<'_> {
             }
             4 => self.bring_back(),
             5 => {
-                let used = self.rng.pick(&[16_384, 16_385, 20_000, 16_380, 0, 12, 16_372, 65_535]);
-                let records = self.rng.pick(&[0, 1, 2, 999, 1_000, 1_001]);
-                let axes = self.rng.pick(&[0, 1, 3, 7]);
+                let used = self.rng.pick(&[
+                    16_384,
+                    16_385,
+                    20_000,
+                    16_380,
+                    0,
+                    12,
+                    16_372,
+                    65_535,
+                    65_536,
+                    4_294_967_295i64,
+                ]);
+                let records = self.rng.pick(&[0, 1, 2, 999, 1_000, 1_001, 65_535, 65_536]);
+                let axes = self.rng.pick(&[0, 1, 3, 7, 7, 255, 256]);
                 self.say(format!("K {used} {records} {axes}"));
             }
             _ => self.wrong_line(),
@@ -64,6 +75,7 @@ impl Script<'_> {
         self.say(format!("K {} {} {axes}", used.max(0), records.max(0)));
     }
 
+    /// A line that is wrong, or at the limit of what is right.
     fn wrong_line(&mut self) {
         let text = self.rng.pick(&[
             "B 256",
@@ -85,8 +97,47 @@ impl Script<'_> {
             "M -1",
             "L 1",
             "",
+            "B 0000000064",
+            "B 00000000064",
+            "B -0",
+            "B +1",
+            "B  64",
+            " B 64",
+            "B 64 ",
+            "B 64\r",
+            "b 64",
+            "C 0",
+            "C -1",
+            "K 65535 65535 255",
+            "K 65536 0 0",
+            "K 0 65536 0",
+            "K 0 0 256",
+            "W 0 256",
+            "W -1 0",
+            "M 65536",
+            "M 65537",
+            "R 65537",
+            "H place 65536",
+            "H axes 256",
+            "H depth 256",
+            "H len 256",
+            "H standing 2",
+            "H  1",
+            "I 1 2 3 256",
+            "\u{e9}",
         ]);
-        self.say(text.to_string());
+        match self.rng.below(12) {
+            0 => self.long_line(),
+            _ => self.say(text.to_string()),
+        }
+    }
+
+    /// A line of about 64 bytes or far more, with a right line at its end.
+    fn long_line(&mut self) {
+        let len = self.rng.pick(&[59, 60, 61, 64, 128, 1_000]);
+        let fill = self.rng.pick(&["0", " ", "B"]);
+        let tail = self.rng.pick(&["C 1", "B 64", "S"]);
+        self.say(format!("{}{tail}", fill.repeat(len)));
     }
 
     /// The host alters the state, and mostly mends it after a call.
@@ -105,7 +156,7 @@ impl Script<'_> {
             3 => ("depth", &[0, 1, 2, 6, 7, 8, 255]),
             4 => ("len", &[0, 1, 2, 79, 80, 81, 255]),
             5 => (self.rng.pick(&["over", "standing", "standing"]), &[0, 1]),
-            6 => ("place", &[0, 1, 2, 3, 5, 8, 1_000, 1_001, 65_535]),
+            6 => ("place", &[0, 1, 2, 3, 5, 8, 1_000, 1_001, 32_768, 65_535, 65_536]),
             7 => ("phase", &[0, 1, 2, 3, 255]),
             8 => ("made", &[0, 1, 2, 3, 7, 8_388_607, 4_294_967_295]),
             9 => (self.rng.pick(&["speed1", "speed2", "speed3"]), &[29, 30, 10_000, 10_001, 0, 65_535]),

@@ -1,4 +1,4 @@
-//! Vectors for the sheet: random doubles and doubles at every edge.
+//! Vectors for the sheet, of 70 bytes each: random doubles and doubles at every edge.
 
 use crate::rng::Rng;
 use std::io::Write;
@@ -8,11 +8,11 @@ pub fn vectors(rng: &mut Rng, count: u64, out: &mut Vec<u8>) {
         let axis = axis(rng);
         let [lead, steps, gear] = axis.map(f64::to_bits);
         let kind = rng.pick(b"DDDSSMMN") as char;
-        let _ = write!(out, "{kind} {lead:016x} {steps:016x} {gear:016x} ");
-        let _ = match kind {
-            'N' => writeln!(out, "{}", whole(rng)),
-            _ => writeln!(out, "{:016x}", value(rng, kind, axis).to_bits()),
+        let last = match kind {
+            'N' => whole(rng) as u64,
+            _ => value(rng, kind, axis).to_bits(),
         };
+        let _ = writeln!(out, "{kind} {lead:016x} {steps:016x} {gear:016x} {last:016x}");
     }
 }
 

@@ -1,5 +1,6 @@
 //! What a host may set in a board's state by name, and the state as one line.
 
+use crate::script::half;
 use trial::board::{Board, Job};
 use trial::motion::Move;
 use trial::number::push_decimal;
@@ -17,7 +18,7 @@ pub fn set(board: &mut Board, name: &str, value: i64) -> Option<()> {
         "axes" => board.axes = value.try_into().ok()?,
         "depth" => board.depth = value.try_into().ok()?,
         "len" => board.len = value.try_into().ok()?,
-        "place" => board.place = value.try_into().ok()?,
+        "place" => board.place = half(value)?.into(),
         "over" => board.over = flag(value)?,
         "standing" => board.standing = flag(value)?,
         _ => set_movement(movement(board)?, name, value)?,

@@ -4,20 +4,23 @@ use std::io::{self, Read, Write};
 use trial::number::push_decimal;
 use trial::sheet::{distance, speed, Axis, Speed};
 
-fn float(text: &str) -> Option<f64> {
-    (text.len() == 16).then(|| u64::from_str_radix(text, 16).ok().map(f64::from_bits))?
+/// Sixteen hexadecimal digits, small letters.
+fn word(text: &str) -> Option<u64> {
+    let right = |b| matches!(b, b'0'..=b'9' | b'a'..=b'f');
+    (text.len() == 16 && text.bytes().all(right)).then(|| u64::from_str_radix(text, 16).ok())?
 }
 
 /// None: the line is wrong.
 fn convert(line: &str) -> Option<Result<i32, u8>> {
     let fields: Vec<&str> = line.split(' ').collect();
     let [kind, lead, steps, gear, value] = fields[..] else { return None };
+    let float = |text| word(text).map(f64::from_bits);
     let axis = Axis { lead: float(lead)?, steps: float(steps)?, gear: float(gear)? };
     Some(match kind {
         "D" => distance(axis, float(value)?),
         "S" => speed(axis, Speed::MmPerSecond(float(value)?)),
         "M" => speed(axis, Speed::MmPerMinute(float(value)?)),
-        "N" => speed(axis, Speed::StepsPerSecond(value.parse().ok()?)),
+        "N" => speed(axis, Speed::StepsPerSecond(word(value)? as i64)),
         _ => return None,
     })
 }

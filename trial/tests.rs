@@ -1,14 +1,17 @@
 //! Hand-worked cases from the paper's sentences, for the trial board alone.
 #![cfg(test)]
 
+mod host;
 mod program;
 mod rng;
+mod script;
 mod test_check;
 mod test_host;
 mod test_lines;
 mod test_movement;
 mod test_random;
 mod test_run;
+mod test_script;
 mod test_sheet;
 mod test_stop;
 

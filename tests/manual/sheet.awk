@@ -1,5 +1,5 @@
-# A block `sheet` of the manual. part=script: the script for the program sheet_main. part=answers: the block again, with the
-# answers from the file `output` that the program printed.
+# A block `sheet` of the manual. part=script: lines of 70 bytes for a program of the sheet. part=answers: the block again, with
+# the answers from the file `output` that the program printed.
 !/^> / { next }
 part == "answers" { print }
 $2 == "axis" {
@@ -10,8 +10,8 @@ part == "script" {
     if ($2 == "distance") print "D " axis " " bits($3)
     else if ($4 == "mm/s") print "S " axis " " bits($3)
     else if ($4 == "mm/min") print "M " axis " " bits($3)
-    else if ($4 == "steps/s") print "N " axis " " $3
-    else print "?"
+    else if ($4 == "steps/s") print "N " axis " " whole($3)
+    else exit 1
     next
 }
 {
@@ -19,6 +19,12 @@ part == "script" {
     split(line, word, " ")
     if (word[1] == "0") print word[2]
     else print "refused " word[1]
+}
+
+# A whole number of at most 32 bits in two's complement of 64, as sixteen hexadecimal digits.
+function whole(text, v) {
+    v = text + 0
+    return v < 0 ? sprintf("ffffffff%08x", 4294967296 + v) : sprintf("00000000%08x", v)
 }
 
 # The 64 bits of a float, as sixteen hexadecimal digits. For numbers that are 0 or not tiny.

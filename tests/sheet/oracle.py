@@ -1,7 +1,7 @@
 #!/usr/bin/env python3
 """A slow third opinion on the sheet: the nearest whole number from the exact value as a fraction.
 
-Reads lines as the trial's `sheet_main` does and prints the same.
+Reads lines of 70 bytes as `sheet_vectors` and the trial's `sheet_main` do and prints the same.
 """
 import struct
 import sys
@@ -10,6 +10,10 @@ from fractions import Fraction
 
 def real(bits):
     return struct.unpack(">d", bytes.fromhex(bits))[0]
+
+
+def integer(bits):
+    return struct.unpack(">q", bytes.fromhex(bits))[0]
 
 
 def nearest(value):
@@ -22,7 +26,7 @@ def convert(kind, lead, steps, gear, value):
     lead, steps, gear = real(lead), real(steps), real(gear)
     if not all(0.001 <= v <= 1000000.0 for v in (lead, steps, gear)):
         return 201, 0
-    v = int(value) if kind == "N" else real(value)
+    v = integer(value) if kind == "N" else real(value)
     if not (-1000000 if kind == "D" else 0) <= v <= 1000000:
         return 202, 0
     if kind == "D":

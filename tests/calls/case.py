@@ -1,0 +1,103 @@
+"""How the cases for `calls` are written down: each step is a list of pairs, a line of the script and what it prints.
+
+Nothing here runs a board: replies, answers and states are written by hand, and pulses by the paper's formula.
+"""
+CASES = []
+WRONG = "?"  # a wrong line prints this and its number
+
+
+def case(name, why, *steps):
+    given, printed = [], []
+    for step in steps:
+        for text, answers in step:
+            given.append(text)
+            printed += [a + " %d" % len(given) if a == WRONG else a for a in answers]
+    CASES.append((name, why, "\n".join(given) + "\n", "\n".join(printed) + "\n"))
+
+
+def byte(v, reply="-"):
+    return [("B %d" % v, ["B " + reply])]
+
+
+STOP, RESET, BREAK = 253, 254, 255
+stop = byte(STOP, "F")
+no_stop = byte(STOP)
+
+
+def text(some):
+    """Bytes that are answered with nothing: part of a line, or dropped."""
+    return [pair for c in some for pair in byte(ord(c))]
+
+
+def line(some, reply="-"):
+    """A line with its return, which is answered."""
+    return text(some) + byte(13, reply)
+
+
+def lines(reply, *texts):
+    return [pair for t in texts for pair in line(t, reply)]
+
+
+def clock(*answers):
+    """So many clock calls with these answers."""
+    return [("C %d" % len(answers), ["C " + a for a in answers])]
+
+
+def nothing(n=1):
+    return clock(*["Nothing"] * n)
+
+
+def sends(character):
+    return "Send %d" % ord(character)
+
+
+def pulses(d, speed):
+    """The pulses of one phase: after pulse k of n an axis has made (2k|d| + n) div 2n steps."""
+    n = max(abs(v) for v in d)
+    answers = []
+    for k in range(1, n + 1):
+        signs = ""
+        for v in d:
+            step = (2 * k * abs(v) + n) // (2 * n) - (2 * (k - 1) * abs(v) + n) // (2 * n)
+            signs += "." if step == 0 else "+" if v > 0 else "-"
+        answers.append("Pulse %s %d" % (signs, speed))
+    return answers
+
+
+def x(d, speed=600):
+    return pulses([d, 0, 0], speed)
+
+
+def report(*position):
+    """The reply to P: 0 and six hexadecimal capitals for each axis, two's complement."""
+    return "0" + "".join("%06X" % (v % 2 ** 24) for v in position)
+
+
+def where(*position):
+    return line("@0P", report(*position))
+
+
+def host(*texts):
+    """What the host does prints nothing."""
+    return [(t, []) for t in texts]
+
+
+def wrong(*texts):
+    return [(t, [WRONG]) for t in texts]
+
+
+def store(*records):
+    """A program sent for storing, all of it accepted."""
+    return lines("0", "@0i", *records, "9")
+
+
+def listed(*printed):
+    return [("L", ["L " + p for p in printed])]
+
+
+def state(axes=0, position=(0, 0, 0), origin=(0, 0, 0), three=0, output=0, held=(0, 0, 0), job="Idle", standing=0, loops=0):
+    """`held` are the bytes and records in use and the store's axes."""
+    said = "S axes %d position %d %d %d" % ((axes,) + position)
+    said += " origin %d %d %d three %d output %d" % (origin + (three, output))
+    said += " used %d records %d store_axes %d" % held
+    return [("S", [said + " job %s standing %d loops %d" % (job, standing, loops)])]

@@ -1,5 +1,5 @@
 //! `stop`: the stop trial. `stop emit SEED COUNT` writes a script for `calls`: each movement or
-//! program once unstopped and once with stops; `stop check` compares the two in what `calls` printed.
+//! program once unstopped and once with stops; `stop check COUNT` compares the two in what `calls` printed.
 
 mod program;
 mod rng;
@@ -154,7 +154,8 @@ fn emit(seed: u64, count: u64) -> io::Result<()> {
 }
 
 /// Pulses and sent characters of one run, its listing, and its state at the end, also after break.
-fn check() -> io::Result<()> {
+/// All of COUNT runs must be there.
+fn check(count: usize) -> io::Result<()> {
     let mut text = String::new();
     io::stdin().lock().read_to_string(&mut text)?;
     let mut runs: Vec<Vec<&str>> = vec![Vec::new()];
@@ -173,7 +174,12 @@ fn check() -> io::Result<()> {
     let pairs: Vec<&[Vec<&str>]> = runs.chunks(2).collect();
     let wrong = pairs.iter().position(|pair| pair.len() < 2 || pair[0] != pair[1]);
     let answers: usize = runs.iter().map(Vec::len).sum();
-    println!("stop: {} runs twice, {} lines compared", pairs.len(), answers / 2);
+    let bytes: usize = runs.iter().flatten().map(|line| line.len() + 1).sum();
+    println!("stop: {} runs twice, {} lines, {} bytes compared", pairs.len(), answers / 2, bytes / 2);
+    if pairs.len() != count || count == 0 {
+        println!("stop: {count} runs were given");
+        std::process::exit(1);
+    }
     if let Some(at) = wrong {
         println!("stop: run {at} differs when stopped");
         show(pairs[at]);
@@ -196,9 +202,12 @@ fn main() -> io::Result<()> {
             (Ok(seed), Ok(count)) => emit(seed, count),
             _ => std::process::exit(2),
         },
-        ["check"] => check(),
+        ["check", count] => match count.parse() {
+            Ok(count) => check(count),
+            _ => std::process::exit(2),
+        },
         _ => {
-            eprintln!("usage: stop emit SEED COUNT | stop check");
+            eprintln!("usage: stop emit SEED COUNT | stop check COUNT");
             std::process::exit(2)
         }
     }

@@ -9,16 +9,13 @@ use crate::table::Extent;
 // The head of the picture, down to where the plot's measure begins: hundredths of a unit.
 pub(crate) fn begin() {
     text(
-        b"<svg xmlns=\"http://www.w3.org/2000/svg\" version=\"1.1\" width=\"800\" height=\"600\" viewBox=\"0 0 800 600\"",
+        b"<svg xmlns=\"http://www.w3.org/2000/svg\" version=\"1.1\" width=\"800\" height=\"600\" viewBox=\"0 0 800 600\" \
+        font-family=\"sans-serif\" font-size=\"14\">\n\
+        <title>The plate seen from above</title>\n\
+        <rect width=\"800\" height=\"600\" fill=\"#FFFFFF\"/>\n\
+        <rect x=\"20\" y=\"50\" width=\"560\" height=\"480\" fill=\"none\" stroke=\"#BBBBBB\"/>\n\
+        <g transform=\"scale(0.01)\" fill=\"none\">\n",
     );
-    text(
-        b" font-family=\"sans-serif\" font-size=\"14\">\n<title>The plate seen from above</title>\n",
-    );
-    text(b"<rect width=\"800\" height=\"600\" fill=\"#FFFFFF\"/>\n");
-    text(
-        b"<rect x=\"20\" y=\"50\" width=\"560\" height=\"480\" fill=\"none\" stroke=\"#BBBBBB\"/>\n",
-    );
-    text(b"<g transform=\"scale(0.01)\" fill=\"none\">\n");
 }
 
 // A line of the legend's samples.
@@ -26,7 +23,7 @@ fn sample(y: u64, cut: bool, speed: u16) {
     draw::line(60000, y, 64000, y, cut, speed);
 }
 
-// What the legend explains, drawn as in the plot.
+// What the legend explains, drawn as in the plot, and the directions of x and y.
 pub(crate) fn samples() {
     sample(6600, false, 30);
     sample(9200, true, 30);
@@ -40,39 +37,31 @@ pub(crate) fn samples() {
     sample(35200, true, 1000);
     sample(37800, true, 2500);
     text(
-        b"<path d=\"M61000 50000h6000l-800 -400m800 400l-800 400M61000 50000v-6000l-400 800m400 -800l400 800\" stroke=\"#000000\"",
+        b"<path d=\"M61000 50000h6000l-800 -400m800 400l-800 400M61000 50000v-6000l-400 800m400 -800l400 800\" \
+        stroke=\"#000000\" stroke-width=\"120\"/>\n",
     );
-    text(b" stroke-width=\"120\"/>\n");
-}
-
-// Words at a place.
-fn say(x: u64, y: u64, words: &[u8]) {
-    text(b"<text x=\"");
-    number(x);
-    text(b"\" y=\"");
-    number(y);
-    text(b"\">");
-    text(words);
-    text(b"</text>\n");
 }
 
 // The end of the plot's measure, the title, and the words of the legend.
 pub(crate) fn words() {
-    text(b"</g>\n<text x=\"20\" y=\"34\" font-size=\"20\">The plate seen from above</text>\n");
-    say(655, 71, b"tool up");
-    say(655, 97, b"cutting");
-    say(655, 123, b"drilled hole");
-    say(655, 150, b"start");
-    say(655, 177, b"end");
-    say(655, 207, b"origin");
-    say(600, 252, b"speed, steps per second");
-    say(655, 279, b"30 to 199");
-    say(655, 305, b"200 to 499");
-    say(655, 331, b"500 to 999");
-    say(655, 357, b"1,000 to 2,499");
-    say(655, 383, b"2,500 to 10,000");
-    say(675, 505, b"x");
-    say(606, 432, b"y");
+    text(
+        b"</g>\n\
+        <text x=\"20\" y=\"34\" font-size=\"20\">The plate seen from above</text>\n\
+        <text x=\"655\" y=\"71\">tool up</text>\n\
+        <text x=\"655\" y=\"97\">cutting</text>\n\
+        <text x=\"655\" y=\"123\">drilled hole</text>\n\
+        <text x=\"655\" y=\"150\">start</text>\n\
+        <text x=\"655\" y=\"177\">end</text>\n\
+        <text x=\"655\" y=\"207\">origin</text>\n\
+        <text x=\"600\" y=\"252\">speed, steps per second</text>\n\
+        <text x=\"655\" y=\"279\">30 to 199</text>\n\
+        <text x=\"655\" y=\"305\">200 to 499</text>\n\
+        <text x=\"655\" y=\"331\">500 to 999</text>\n\
+        <text x=\"655\" y=\"357\">1,000 to 2,499</text>\n\
+        <text x=\"655\" y=\"383\">2,500 to 10,000</text>\n\
+        <text x=\"675\" y=\"505\">x</text>\n\
+        <text x=\"606\" y=\"432\">y</text>\n",
+    );
 }
 
 // A size in steps as a number of units with at most two decimals.
@@ -135,9 +124,9 @@ pub(crate) fn notes(unit: Unit, moved: bool, over: bool) {
         text(b"</text>\n");
     }
     if !moved {
-        say(255, 250, b"no movement");
+        text(b"<text x=\"255\" y=\"250\">no movement</text>\n");
     }
     if !over {
-        say(230, 580, b"not over after 100,000 clock calls");
+        text(b"<text x=\"230\" y=\"580\">not over after 100,000 clock calls</text>\n");
     }
 }

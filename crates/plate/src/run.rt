@@ -57,7 +57,7 @@ fn tick(stage: Stage, store: &[u8]) -> Stage {
     let answer = told.answer;
     let engine = next.engine;
     let moved = followed(stage.trace, answer, next);
-    let trace = moved.homed(engine);
+    let trace = moved.homed(engine.at, engine.origin);
     let over = is_nothing(answer);
     Stage {
         board: next,
@@ -91,18 +91,21 @@ fn run(start: Stage, store: &[u8]) -> Stage {
     looked(stage, store)
 }
 
+// The board after a byte. What it replies is not drawn.
+fn heard(board: Board, byte: u8, store: &mut [u8]) -> Board {
+    let mut reply = [0u8; 32];
+    let got = board.receive(byte, [0u8; 4], &mut reply, store);
+    got.board
+}
+
 // One byte with its whole run.
 fn take_byte(stage: Stage, byte: u8, store: &mut [u8]) -> Stage {
-    let mut reply = [0u8; 32];
-    let board = stage.board;
     let old = stage.trace;
-    let ports = [0u8; 4];
-    let got = board.receive(byte, ports, &mut reply, &mut *store);
-    let next = got.board;
-    let engine = next.engine;
-    let trace = old.homed(engine);
+    let board = heard(stage.board, byte, &mut *store);
+    let engine = board.engine;
+    let trace = old.homed(engine.at, engine.origin);
     let begun = Stage {
-        board: next,
+        board,
         trace,
         over: false,
     };

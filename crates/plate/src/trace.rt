@@ -5,7 +5,7 @@ use crate::table::START;
 use crate::table::Table;
 use crate::table::home;
 use crate::view::View;
-use engine::Engine;
+use motion::Counters;
 use motion::Signs;
 
 // A line that has begun: where, whether it cuts, and its speed.
@@ -141,11 +141,9 @@ impl Trace {
         }
     }
 
-    // After a call: where it changed the place of the origin, that place is marked.
-    pub(crate) fn homed(self, e: Engine) -> Trace {
+    // After a call that left these positions and origins: where it changed the place of the origin, that place is marked.
+    pub(crate) fn homed(self, at: Counters, origin: Counters) -> Trace {
         let table = self.table;
-        let at = e.at;
-        let origin = e.origin;
         let x = home(table.x, at.x, origin.x);
         let y = home(table.y, at.y, origin.y);
         if (x == self.home_x) & (y == self.home_y) {

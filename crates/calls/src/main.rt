@@ -15,11 +15,10 @@ use libc::STDIN_FILENO;
 use libc::STDOUT_FILENO;
 use record::Held;
 use script::Row;
-use show::show_answer;
+use show::show_heard;
 use show::show_listing;
-use show::show_refusal;
-use show::show_reply;
 use show::show_state;
+use show::show_ticked;
 use show::within;
 
 // The usual store and reply buffer.
@@ -52,21 +51,31 @@ fn lending(play: Play, store: usize, reply: usize) -> Play {
     next
 }
 
+// A call was made: the next one is lent what is usual.
+fn called(play: Play, board: Board) -> Play {
+    lending(with_board(play, board), STORE, REPLY)
+}
+
 // A byte is received. The store is the first 16,384 bytes of the space. A store of another length is the first bytes of it too: a call
 // that refuses its store leaves it alone.
-fn receive(play: Play, byte: u8, space: &mut [u8], replies: &mut [u8]) -> Play {
+fn hear(play: Play, byte: u8, reply: &mut [u8], space: &mut [u8]) -> Play {
     let board = play.board;
     let ports = play.ports;
     let n = within(play.store, space);
-    let k = within(play.reply, replies);
-    let heard = board.receive(byte, ports, &mut replies[0..k], &mut space[0..n]);
-    if heard.refusal != 0 {
-        show_refusal(b"B ", heard.refusal);
-    } else {
-        show_reply(replies, heard.len);
-    }
+    let heard = board.receive(byte, ports, &mut *reply, &mut space[0..n]);
+    show_heard(heard.refusal, reply, heard.len);
     let next = heard.board;
-    with_board(lending(play, STORE, REPLY), next)
+    called(play, next)
+}
+
+fn receive(play: Play, byte: u8, space: &mut [u8]) -> Play {
+    if play.reply == REPLY {
+        let mut usual = [0u8; 32];
+        return hear(play, byte, &mut usual, space);
+    }
+    let mut other = io::large_buffer();
+    let n = within(play.reply, &other);
+    hear(play, byte, &mut other[0..n], space)
 }
 
 fn clock(play: Play, space: &[u8]) -> Play {
@@ -74,13 +83,9 @@ fn clock(play: Play, space: &[u8]) -> Play {
     let n = within(play.store, space);
     let ticked = board.clock(&space[0..n]);
     let answer = ticked.answer;
-    if ticked.refusal != 0 {
-        show_refusal(b"C ", ticked.refusal);
-    } else {
-        show_answer(answer);
-    }
+    show_ticked(ticked.refusal, answer);
     let next = ticked.board;
-    with_board(lending(play, STORE, REPLY), next)
+    called(play, next)
 }
 
 fn clocks(start: Play, n: u32, space: &[u8]) -> Play {
@@ -94,23 +99,13 @@ fn clocks(start: Play, n: u32, space: &[u8]) -> Play {
     play
 }
 
-fn show_list(board: Board, store: &[u8]) {
-    let mut text = [0u8; 32768];
-    let listed = board.list(store, &mut text);
-    let refusal = listed.refusal;
-    match refusal {
-        0 => show_listing(&text, listed.len as usize),
-        71 => {
-            io::write_all(STDOUT_FILENO, b"L G\n");
-        }
-        _ => show_refusal(b"L ", refusal),
-    }
-}
-
 fn list(play: Play, space: &[u8]) -> Play {
+    let board = play.board;
     let n = within(play.store, space);
-    show_list(play.board, &space[0..n]);
-    lending(play, STORE, REPLY)
+    let mut text = [0u8; 32768];
+    let listed = board.list(&space[0..n], &mut text);
+    show_listing(listed.refusal, &text, listed.len as usize);
+    called(play, board)
 }
 
 // The host writes a byte of the store.
@@ -146,6 +141,15 @@ fn set_ports(play: Play, words: [u64; 5]) -> Play {
     next
 }
 
+// The number of the next line.
+fn following(number: u64) -> u64 {
+    if number < u64::MAX {
+        number + 1
+    } else {
+        number
+    }
+}
+
 // A wrong line prints its number.
 fn wrong(play: Play) -> Play {
     io::write_all(STDOUT_FILENO, b"? ");
@@ -167,45 +171,51 @@ fn set_field(play: Play, name: u64, word: u64) -> Play {
     wrong(play)
 }
 
-// One line.
-fn act(play: Play, row: Row, space: &mut [u8], replies: &mut [u8]) -> Play {
-    let letter = byte_of(row.command);
-    if !row.is_right(letter) {
-        return wrong(play);
-    }
+// A line that makes no call and leaves the store's bytes.
+fn prepare(play: Play, letter: u8, row: Row) -> Play {
     let words = row.words;
     let n = word_of(words[1]);
     match letter {
-        b'B' => receive(play, byte_of(words[1]), space, replies),
-        b'C' => clocks(play, n, space),
         b'H' => set_field(play, row.name, words[2]),
         b'I' => set_ports(play, words),
         b'K' => set_held(play, words),
-        b'L' => list(play, space),
         b'M' => lending(play, n as usize, play.reply),
         b'R' => lending(play, play.store, n as usize),
         b'S' => {
             show_state(play.board);
             play
         }
-        _ => poke(play, space, n as usize, byte_of(words[2])),
+        _ => wrong(play),
+    }
+}
+
+// One line.
+fn act(play: Play, row: Row, space: &mut [u8]) -> Play {
+    let words = row.words;
+    let n = word_of(words[1]);
+    let letter = row.letter();
+    match letter {
+        b'B' => receive(play, byte_of(words[1]), space),
+        b'C' => clocks(play, n, space),
+        b'L' => list(play, space),
+        b'W' => poke(play, space, n as usize, byte_of(words[2])),
+        _ => prepare(play, letter, row),
     }
 }
 
 // The line that was read, and the next one begins.
-fn end_line(play: Play, space: &mut [u8], replies: &mut [u8]) -> Play {
+fn end_line(play: Play, space: &mut [u8]) -> Play {
     let row = play.row;
-    let mut next = act(play, row.closed(), space, replies);
-    if next.number < u64::MAX {
-        next.number = next.number + 1;
-    }
+    let done = act(play, row.closed(), space);
+    let mut next = done;
     next.row = Row::new();
+    next.number = following(done.number);
     next
 }
 
-fn take_byte(play: Play, b: u8, space: &mut [u8], replies: &mut [u8]) -> Play {
+fn take_byte(play: Play, b: u8, space: &mut [u8]) -> Play {
     if b == b'\n' {
-        return end_line(play, space, replies);
+        return end_line(play, space);
     }
     let row = play.row;
     let mut next = play;
@@ -214,11 +224,11 @@ fn take_byte(play: Play, b: u8, space: &mut [u8], replies: &mut [u8]) -> Play {
 }
 
 // All bytes of a piece of input.
-fn take_all(start: Play, input: &[u8], space: &mut [u8], replies: &mut [u8]) -> Play {
+fn take_all(start: Play, input: &[u8], space: &mut [u8]) -> Play {
     let mut play = start;
     let mut i = 0;
     while i < input.len() {
-        let next = take_byte(play, input[i], &mut *space, &mut *replies);
+        let next = take_byte(play, input[i], &mut *space);
         play = next;
         i = i + 1;
     }
@@ -226,7 +236,7 @@ fn take_all(start: Play, input: &[u8], space: &mut [u8], replies: &mut [u8]) -> 
 }
 
 // One piece of input, or that no more follows.
-fn take_piece(play: Play, input: &mut [u8], space: &mut [u8], replies: &mut [u8]) -> Play {
+fn take_piece(play: Play, input: &mut [u8], space: &mut [u8]) -> Play {
     let got = libc::read(STDIN_FILENO, &mut *input);
     let n = io::count(got, input);
     if n == 0 {
@@ -234,12 +244,12 @@ fn take_piece(play: Play, input: &mut [u8], space: &mut [u8], replies: &mut [u8]
         next.more = false;
         return next;
     }
-    take_all(play, &input[..n], space, replies)
+    take_all(play, &input[..n], space)
 }
 
 // Everything that is read. A proved loop has to end, and nothing says that input does, so it counts its turns down from a number that no
 // run uses up.
-fn take_input(start: Play, space: &mut [u8], replies: &mut [u8]) -> Play {
+fn take_input(start: Play, space: &mut [u8]) -> Play {
     let mut input = io::large_buffer();
     let mut play = start;
     let mut turns = u64::MAX;
@@ -247,28 +257,38 @@ fn take_input(start: Play, space: &mut [u8], replies: &mut [u8]) -> Play {
         if !play.more {
             return play;
         }
-        let next = take_piece(play, &mut input, &mut *space, &mut *replies);
+        let next = take_piece(play, &mut input, &mut *space);
         play = next;
         turns = turns - 1;
     }
     play
 }
 
-fn main() {
-    let mut space = io::large_buffer();
-    let mut replies = io::large_buffer();
-    let start = Play {
-        board: Board::fresh(),
+// A last line without a line feed.
+fn finish(play: Play, space: &mut [u8]) {
+    let row = play.row;
+    if (row.fields == 0) & (row.packed == 0) {
+        return;
+    }
+    end_line(play, space);
+}
+
+fn start() -> Play {
+    let board = Board::fresh();
+    let row = Row::new();
+    Play {
+        board,
         ports: [0; 4],
         store: STORE,
         reply: REPLY,
-        row: Row::new(),
+        row,
         number: 1,
         more: true,
-    };
-    let end = take_input(start, &mut space, &mut replies);
-    let row = end.row;
-    if (row.fields != 0) | (row.packed != 0) {
-        end_line(end, &mut space, &mut replies);
     }
+}
+
+fn main() {
+    let mut space = io::large_buffer();
+    let end = take_input(start(), &mut space);
+    finish(end, &mut space);
 }

@@ -125,19 +125,33 @@ impl Row {
     }
 
     // Whether a closed row's fields are as many as its command asks, and in range. What `H` sets is for the board to say.
-    pub(crate) fn is_right(self, letter: u8) -> bool {
+    fn is_right(self, letter: u8) -> bool {
         let w = self.words;
         let n = self.fields;
+        let a = w[1];
+        let b = w[2];
+        let c = w[3];
         match letter {
-            b'B' => (n == 2) & (w[1] <= 255),
-            b'C' => (n == 2) & (w[1] <= 4294967295),
+            b'B' => (n == 2) & (a <= 255),
+            b'C' => (n == 2) & (a <= 4294967295),
             b'H' => n == 3,
-            b'I' => (n == 5) & (w[1] <= 255) & (w[2] <= 255) & (w[3] <= 255) & (w[4] <= 255),
-            b'K' => (n == 4) & (w[1] <= 65535) & (w[2] <= 65535) & (w[3] <= 255),
+            b'I' => (n == 5) & (a <= 255) & (b <= 255) & (c <= 255) & (w[4] <= 255),
+            b'K' => (n == 4) & (a <= 65535) & (b <= 65535) & (c <= 255),
             b'L' | b'S' => n == 1,
-            b'M' | b'R' => (n == 2) & (w[1] <= 65536),
-            b'W' => (n == 3) & (w[1] <= 16383) & (w[2] <= 255),
+            b'M' | b'R' => (n == 2) & (a <= 65536),
+            b'W' => (n == 3) & (a <= 16383) & (b <= 255),
             _ => false,
         }
+    }
+
+    // The letter of a closed row that is right, or 0.
+    pub(crate) fn letter(self) -> u8 {
+        if self.command < 256 {
+            let letter = self.command as u8;
+            if self.is_right(letter) {
+                return letter;
+            }
+        }
+        0
     }
 }

@@ -1,4 +1,4 @@
-// What is printed.
+// What is printed. Each function says whether its last write went well.
 ghost use Prim.Native.Nat.{_≤_};
 ghost use lib.ListN.{length};
 use board::Board;
@@ -22,40 +22,41 @@ pub(crate) fn within(n: usize, buf: &[u8]) -> usize
 }
 
 // Writes out the first `n` bytes.
-fn show_first(buf: &[u8], n: usize) {
+fn show_first(buf: &[u8], n: usize) -> bool {
     let k = within(n, buf);
-    io::write_all(STDOUT_FILENO, &buf[0..k]);
+    io::write_all(STDOUT_FILENO, &buf[0..k])
 }
 
-// A number and a line feed.
-fn show_last(n: u32) {
+// A text, and a number with the line feed behind it.
+fn show_with(before: &[u8], n: u32) -> bool {
     let mut text = [b'\n'; 12];
     let k = count::put_word(&mut text, n);
+    io::write_all(STDOUT_FILENO, before);
     if k < 12 {
-        show_first(&text, k + 1);
+        return show_first(&text, k + 1);
     }
+    false
 }
 
 // A name and a number behind it.
-fn show_named(name: &[u8], n: u32) {
+fn show_named(name: &[u8], n: u32) -> bool {
     io::write_all(STDOUT_FILENO, name);
-    io::print_decimal(STDOUT_FILENO, n as u64);
+    io::print_decimal(STDOUT_FILENO, n as u64)
 }
 
 // A space and the number of a count.
-fn show_count(c: u32) {
+fn show_count(c: u32) -> bool {
     if c < 8388608 {
-        show_named(b" -", 8388608 - c);
-    } else {
-        show_named(b" ", c - 8388608);
+        return show_named(b" -", 8388608 - c);
     }
+    show_named(b" ", c - 8388608)
 }
 
-fn show_point(name: &[u8], c: Counters) {
+fn show_point(name: &[u8], c: Counters) -> bool {
     io::write_all(STDOUT_FILENO, name);
     show_count(c.x);
     show_count(c.y);
-    show_count(c.z);
+    show_count(c.z)
 }
 
 fn sign_byte(s: Sign) -> u8 {
@@ -66,7 +67,7 @@ fn sign_byte(s: Sign) -> u8 {
     }
 }
 
-fn show_pulse(signs: Signs, speed: u16) {
+fn show_pulse(signs: Signs, speed: u16) -> bool {
     let sx = signs.x;
     let sy = signs.y;
     let sz = signs.z;
@@ -87,47 +88,38 @@ fn show_pulse(signs: Signs, speed: u16) {
         z,
         b' ',
     ];
-    io::write_all(STDOUT_FILENO, &bytes);
-    show_last(speed as u32);
+    show_with(&bytes, speed as u32)
 }
 
-fn show_send(b: u8) {
-    io::write_all(STDOUT_FILENO, b"C Send ");
-    show_last(b as u32);
-}
-
-// A clock call's answer.
-pub(crate) fn show_answer(answer: Answer) {
+fn show_answer(answer: Answer) -> bool {
     match answer {
         Answer::Pulse(signs, speed) => show_pulse(signs, speed),
-        Answer::Pause => {
-            io::write_all(STDOUT_FILENO, b"C Pause\n");
-        }
-        Answer::Send(b) => show_send(b),
-        Answer::Done => {
-            io::write_all(STDOUT_FILENO, b"C Done\n");
-        }
-        Answer::Nothing => {
-            io::write_all(STDOUT_FILENO, b"C Nothing\n");
-        }
+        Answer::Pause => io::write_all(STDOUT_FILENO, b"C Pause\n"),
+        Answer::Send(b) => show_with(b"C Send ", b as u32),
+        Answer::Done => io::write_all(STDOUT_FILENO, b"C Done\n"),
+        Answer::Nothing => io::write_all(STDOUT_FILENO, b"C Nothing\n"),
     }
 }
 
-// A call's letter and a refusal's number.
-pub(crate) fn show_refusal(letter: &[u8], refusal: u16) {
-    io::write_all(STDOUT_FILENO, letter);
-    show_last(refusal as u32);
+// A clock call: its refusal, or its answer.
+pub(crate) fn show_ticked(refusal: u16, answer: Answer) -> bool {
+    if refusal != 0 {
+        return show_with(b"C ", refusal as u32);
+    }
+    show_answer(answer)
 }
 
-// A reply.
-pub(crate) fn show_reply(reply: &[u8], n: usize) {
+// A byte received: its refusal, or its reply.
+pub(crate) fn show_heard(refusal: u16, reply: &[u8], n: usize) -> bool {
+    if refusal != 0 {
+        return show_with(b"B ", refusal as u32);
+    }
     if n == 0 {
-        io::write_all(STDOUT_FILENO, b"B -\n");
-        return;
+        return io::write_all(STDOUT_FILENO, b"B -\n");
     }
     io::write_all(STDOUT_FILENO, b"B ");
     show_first(reply, n);
-    io::write_all(STDOUT_FILENO, b"\n");
+    io::write_all(STDOUT_FILENO, b"\n")
 }
 
 fn put_byte(out: &mut [u8], at: usize, b: u8) -> usize {
@@ -165,36 +157,31 @@ fn put_listing(out: &mut [u8], text: &[u8]) -> usize {
 }
 
 // The lines of a listing, each behind `L `.
-pub(crate) fn show_listing(text: &[u8], n: usize) {
+fn show_lines(text: &[u8], n: usize) -> bool {
     let mut out = io::large_buffer();
     let k = within(n, text);
     let len = put_listing(&mut out, &text[0..k]);
-    show_first(&out, len);
+    show_first(&out, len)
 }
 
-fn show_job(job: Job) {
+// A listing: its refusal, or its lines.
+pub(crate) fn show_listing(refusal: u16, text: &[u8], n: usize) -> bool {
+    match refusal {
+        0 => show_lines(text, n),
+        71 => io::write_all(STDOUT_FILENO, b"L G\n"),
+        _ => show_with(b"L ", refusal as u32),
+    }
+}
+
+fn show_job(job: Job) -> bool {
     match job {
-        Job::Idle => {
-            io::write_all(STDOUT_FILENO, b" job Idle");
-        }
-        Job::Storing => {
-            io::write_all(STDOUT_FILENO, b" job Storing");
-        }
-        Job::Direct(_) => {
-            io::write_all(STDOUT_FILENO, b" job Direct");
-        }
-        Job::Ready => {
-            io::write_all(STDOUT_FILENO, b" job Ready");
-        }
-        Job::Moving(_) => {
-            io::write_all(STDOUT_FILENO, b" job Moving");
-        }
-        Job::Delay(_) => {
-            io::write_all(STDOUT_FILENO, b" job Delay");
-        }
-        Job::Wait(_, _) => {
-            io::write_all(STDOUT_FILENO, b" job Wait");
-        }
+        Job::Idle => io::write_all(STDOUT_FILENO, b" job Idle"),
+        Job::Storing => io::write_all(STDOUT_FILENO, b" job Storing"),
+        Job::Direct(_) => io::write_all(STDOUT_FILENO, b" job Direct"),
+        Job::Ready => io::write_all(STDOUT_FILENO, b" job Ready"),
+        Job::Moving(_) => io::write_all(STDOUT_FILENO, b" job Moving"),
+        Job::Delay(_) => io::write_all(STDOUT_FILENO, b" job Delay"),
+        Job::Wait(_, _) => io::write_all(STDOUT_FILENO, b" job Wait"),
     }
 }
 
@@ -202,26 +189,33 @@ fn digit_of(b: bool) -> u32 {
     if b { 1 } else { 0 }
 }
 
-fn show_engine(e: Engine, held: Held) {
+fn show_axes(e: Engine) -> bool {
     show_named(b"S axes ", e.axes as u32);
     show_point(b" position", e.at);
-    show_point(b" origin", e.origin);
+    show_point(b" origin", e.origin)
+}
+
+fn show_modes(e: Engine) -> bool {
     show_named(b" three ", digit_of(e.three));
-    show_named(b" output ", e.output as u32);
+    show_named(b" output ", e.output as u32)
+}
+
+fn show_held(held: Held) -> bool {
     show_named(b" used ", held.used as u32);
     show_named(b" records ", held.records as u32);
-    show_named(b" store_axes ", held.axes as u32);
+    show_named(b" store_axes ", held.axes as u32)
 }
 
 // The state as one line.
-pub(crate) fn show_state(board: Board) {
+pub(crate) fn show_state(board: Board) -> bool {
     let e = board.engine;
     let run = e.run;
     let job = run.job;
     let loops = run.loops;
-    show_engine(e, e.held);
+    show_axes(e);
+    show_modes(e);
+    show_held(e.held);
     show_job(job);
     show_named(b" standing ", digit_of(board.standing));
-    io::write_all(STDOUT_FILENO, b" loops ");
-    show_last(loops.depth as u32);
+    show_with(b" loops ", loops.depth as u32)
 }

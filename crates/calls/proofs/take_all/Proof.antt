@@ -1,5 +1,5 @@
--- `calls::take_all` is safe and ends. The invariant: `i` is at most the length of the input, which fits, and the two buffers keep their
--- lengths. The measure is what is left of the input. Assumes nothing.
+-- `calls::take_all` is safe and ends. The invariant: `i` is at most the length of the input, which fits, and the space keeps its
+-- length. The measure is what is left of the input. Assumes nothing.
 use Prim.Native.Nat.{_≤_, _<_, _-_}
 use mathlib.Core.Path.{_≡_}
 use lib.ListN.{length}
@@ -8,10 +8,10 @@ use Rattle.calls.proofs.take_all.Statement.{statement}
 use Rattle.calls.proofs.take_all.Tie as tie
 
 abbrev Inv-loop : tie.InvT-loop
-Inv-loop input space₀ replies₀ play₀ i₀ space replies play i = (i ≤ length input) × (length input < 18446744073709551616) × (length space ≡ length space₀) × (length replies ≡ length replies₀)
+Inv-loop input space₀ play₀ i₀ space play i = (i ≤ length input) × (length input < 18446744073709551616) × (length space ≡ length space₀)
 
 abbrev μ-loop : tie.MeasureT-loop
-μ-loop input space₀ replies₀ play₀ i₀ space replies play i = length input - i
+μ-loop input space₀ play₀ i₀ space play i = length input - i
 
 loop-holds : tie.Need-loop-holds Inv-loop μ-loop
 loop-holds c = search needs
@@ -34,9 +34,6 @@ loop-again c = search needs
 same-length : tie.Need-same-length Inv-loop μ-loop
 same-length c = search needs
 
-same-length-2 : tie.Need-same-length-2 Inv-loop μ-loop
-same-length-2 c = search needs
-
 returns : tie.Need-returns Inv-loop μ-loop
 returns c = search needs
 
@@ -53,5 +50,4 @@ take-all-spec =
     loop-less
     loop-again
     same-length
-    same-length-2
     returns)

@@ -3,7 +3,8 @@
 use std::io::{self, Read, Write};
 use std::process::{Command, Stdio};
 
-fn output(program: &str, input: &[u8]) -> io::Result<Vec<u8>> {
+/// What a program prints. One that fails is a difference, so the name of its part is added.
+fn output(part: &str, program: &str, input: &[u8]) -> io::Result<Vec<u8>> {
     let mut child = Command::new(program).stdin(Stdio::piped()).stdout(Stdio::piped()).spawn()?;
     let mut stdin = child.stdin.take().expect("a pipe was asked for");
     let input = input.to_vec();
@@ -11,7 +12,7 @@ fn output(program: &str, input: &[u8]) -> io::Result<Vec<u8>> {
     let mut out = child.wait_with_output()?;
     let _ = writer.join();
     if !out.status.success() {
-        out.stdout.extend_from_slice(format!("exit {}", out.status).as_bytes());
+        out.stdout.extend_from_slice(format!("{part}: {}", out.status).as_bytes());
     }
     Ok(out.stdout)
 }
@@ -24,7 +25,7 @@ struct Pair<'a> {
 impl Pair<'_> {
     fn differ(&self, parts: &[&[u8]]) -> io::Result<bool> {
         let input = parts.concat();
-        Ok(output(self.one, &input)? != output(self.other, &input)?)
+        Ok(output("one", self.one, &input)? != output("other", self.other, &input)?)
     }
 
     /// Leaves out ever smaller runs of parts as long as the programs still differ.
@@ -48,10 +49,10 @@ impl Pair<'_> {
 
     fn show(&self, input: &[u8]) -> io::Result<()> {
         println!("input: {}", input.escape_ascii());
-        let (a, b) = (output(self.one, input)?, output(self.other, input)?);
+        let (a, b) = (output("one", self.one, input)?, output("other", self.other, input)?);
         let (a, b) = (String::from_utf8_lossy(&a), String::from_utf8_lossy(&b));
         let (a, b): (Vec<&str>, Vec<&str>) = (a.lines().collect(), b.lines().collect());
-        let at = (0..).find(|&i| a.get(i) != b.get(i)).unwrap_or(0);
+        let at = (0..a.len().max(b.len())).find(|&i| a.get(i) != b.get(i)).unwrap_or(0);
         println!("line {}: one {:?}, other {:?}", at + 1, a.get(at), b.get(at));
         Ok(())
     }

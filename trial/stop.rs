@@ -191,7 +191,7 @@ fn check(count: usize) -> io::Result<()> {
 fn show(pair: &[Vec<&str>]) {
     let empty = Vec::new();
     let (a, b) = (&pair[0], pair.get(1).unwrap_or(&empty));
-    let at = (0..).find(|&i| a.get(i) != b.get(i)).unwrap_or(0);
+    let at = (0..a.len().max(b.len())).find(|&i| a.get(i) != b.get(i)).unwrap_or(0);
     println!("  answer {at}: unstopped {:?}, stopped {:?}", a.get(at), b.get(at));
 }
 

@@ -180,6 +180,7 @@ impl Board {
                 self.empty_store();
                 self.store_axes = self.axes;
                 self.job = Job::Storing;
+                self.clear_place();
             }
             b'k' => self.empty_store(),
             _ => return self.start(),

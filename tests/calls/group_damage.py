@@ -110,3 +110,6 @@ case("over_set", "the host says that the line is too long: 5 at its return, and 
 
 case("line_cut", "the host makes the line shorter: the bytes before are still there; longer, zeros are part of it",
      text("@0P1"), host("H len 3"), byte(13, report(0, 0, 0)), text("@0P"), host("H len 4"), byte(13, "5"), line("@0P", report(0, 0, 0)))
+
+case("storing_leaves_no_loop", "storing begins with no loop open, also where a host set one in an idle board",
+     line("@03", "0"), host("H depth 1", "H place 7"), line("@0i", "0"), state(axes=3, held=(0, 0, 3), job="Storing"))

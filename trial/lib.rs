@@ -2,6 +2,7 @@
 #![allow(unexpected_cfgs)] // the planted slips: see README.md
 
 pub mod board;
+pub mod by_value;
 pub mod check;
 pub mod line;
 pub mod lister;

@@ -19,7 +19,7 @@ impl Walk {
     /// Takes one byte and lets the clock run. False: the run isn't over at the limit.
     fn byte(&mut self, byte: u8) -> io::Result<bool> {
         let mut reply = [0u8; 32];
-        let received = self.board.receive(byte, [0; 4], &mut reply, &mut self.store);
+        let received = self.board.hear(byte, [0; 4], &mut reply, &mut self.store);
         self.reply(&reply[..received.unwrap_or(0)]);
         let calls = self.run()?;
         if calls == LIMIT && self.board.running() {
@@ -34,7 +34,7 @@ impl Walk {
     fn run(&mut self) -> io::Result<u32> {
         let mut calls = 0;
         while calls < LIMIT && self.board.running() {
-            let Ok(answer) = self.board.clock(&self.store) else { break };
+            let Ok(answer) = self.board.tick(&self.store) else { break };
             calls += 1;
             match answer {
                 Answer::Pulse(pulse) => self.pulse(pulse),

@@ -2,7 +2,7 @@
 use Prim.Native.Nat.{ℕ, zero, suc, _+_, _-_, _≤_}
 use mathlib.Core.Path.{_≡_, refl, ap, sym, _∙_}
 use mathlib.Core.Bool.{Bool, true, false, not, _&&_}
-use mathlib.Core.List.{List, [], _∷_, _++_, append-assoc}
+use mathlib.Core.List.{List, [], _∷_, _++_, append-assoc, append-nil}
 use native.Mathlib.Omega.{arith}
 use borrow.Rule.Slice.PartMut.{putMid}
 use lib.ListN.{length, take, drop, set, length-append, length-drop, take-append-drop}
@@ -19,7 +19,8 @@ use Rattle.board.specs.Laws.{hearing-sound, store-length, reply-short, never-re
 use Rattle.course.specs.declared.Ran.{Ran}
 use Rattle.course.specs.declared.Walk.{Walk}
 use Rattle.course.specs.Text.{replyText}
-use Rattle.course.specs.Run.{Course, course, allowed, Outcome, did, ran, running}
+use Rattle.course.specs.Run.{runsNow, Course, rests, course, allowed, Outcome, did, ran, running}
+use Rattle.course.specs.Portions.{course-off}
 use Rattle.course.specs.Walk.{noPorts, most, ready, Done, done, walk, further, nextDone}
 use Rattle.course.specs.Work.{Wrote, doneOf, same}
 use Rattle.course.proofs.Behind.{wrote-then}
@@ -179,6 +180,19 @@ module _ (byte : ℕ) (w : Walk) (store out : List ℕ) where
         let kc : m .calls ≡ 0 + c .calls = ap (λ (y : Outcome). y .result .calls) k ∙ omega arith in
         let ko = ap (λ (y : Outcome). y .result .over) k in
         (λ i. doneOf (record { walk = walk (kb i) (kc i) (ko i); len = z .long i }) (its-store i) (z .text i))
+        ∙ sym (went-next o e)
+
+    -- the whole portion of a byte after which nothing runs
+    pub next-still : {n : ℕ} {out2 : List ℕ} → Wrote (replyText (take (r .len) (drop 2 (putMid 2 (length out - 2) out reply)))) (putMid 2 (length out - 2) out reply) n out2
+        → runsNow (r .board) ≡ false → doneOf (record { walk = walk (r .board) 0 true; len = n }) store′ out2 ≡ nextDone byte w store out
+    next-still {n} {out2} f z =
+        let v : Wrote t out n out2 = framed out (s .reply) two its-out its-length f in
+        let y : runsNow (s .board) ≡ false = sym (ap runsNow its-board) ∙ z in
+        let k : rests (s .board) ≡ c = sym (course-off (s .store) (allowed most (drop (length t) out)) (s .board) y) in
+        let ko : true ≡ not (runsNow (s .board)) = sym (ap not y) in
+        (λ i. doneOf (record { walk = walk (its-board i) 0 (ko i); len = v .long i }) (its-store i) (v .text i))
+        ∙ ap (λ (x : List ℕ). done (further (rests (s .board)) 0) x (s .store) out) (sym (append-nil t))
+        ∙ ap (λ (x : Course). done (further x 0) (t ++ x .text) (s .store) out) k
         ∙ sym (went-next o e)
 
     -- the reply's line and the run's text lie in the buffer

@@ -15,6 +15,7 @@ use super::lines::put_head;
 use super::lines::put_limit;
 use super::lines::put_reply;
 use super::runs::run;
+use super::runs::runs_now;
 use board::Board;
 
 // The clock calls for each byte.
@@ -98,6 +99,17 @@ impl Walk {
         let heard = board.receive(byte, [0u8; 4], &mut out[2..], &mut *store);
         let n = put_reply(&mut *out, heard.len);
         let next = heard.board;
+        if !runs_now(next) {
+            let still = Walk {
+                board: next,
+                calls: 0,
+                over: true,
+            };
+            return Portion {
+                walk: still,
+                len: n,
+            };
+        }
         let ran = run(next, &*store, MOST, &mut out[n..]);
         let last = ran.board;
         let walk = Walk {

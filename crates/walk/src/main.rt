@@ -13,6 +13,12 @@ struct Stage {
     pub more: bool,
 }
 
+// How much of the buffer waits to be written, and whether every write went well: apart from the walk, which is large and would be copied.
+struct Pen {
+    pub at: usize,
+    pub fine: bool,
+}
+
 // No more than the buffer holds. Where the walk has come to never says more.
 fn within(n: usize, buf: &[u8]) -> usize
     ensures { λ r. ⌜ r ≤ length (now (buf .entry)) ⌝ }
@@ -41,34 +47,31 @@ fn flush(n: usize, out: &[u8]) -> bool {
 }
 
 // Room for a portion: where fewer than 64 bytes are left, the buffer is written out first.
-fn with_room(stage: Stage, out: &[u8]) -> Stage {
-    let at = within(stage.at, out);
-    if 64 <= out.len() - at {
-        return stage;
+fn with_room(at: usize, fine: bool, out: &[u8]) -> Pen {
+    let end = within(at, out);
+    if 64 <= out.len() - end {
+        return Pen { at: end, fine };
     }
-    let walk = stage.walk;
-    let written = flush(at, out);
-    Stage {
-        walk,
+    let written = flush(end, out);
+    Pen {
         at: 0,
-        fine: stage.fine & written,
-        more: stage.more,
+        fine: fine & written,
     }
 }
 
 // The next portion of a run.
 fn go_on(stage: Stage, store: &[u8], out: &mut [u8]) -> Stage {
-    let ready = with_room(stage, out);
-    let walk = ready.walk;
-    let at = within(ready.at, out);
+    let pen = with_room(stage.at, stage.fine, out);
+    let walk = stage.walk;
+    let at = within(pen.at, out);
     let portion = walk.go_on(store, &mut out[at..]);
     let next = portion.walk;
     let end = past(at, portion.len, out);
     Stage {
         walk: next,
         at: end,
-        fine: ready.fine,
-        more: ready.more,
+        fine: pen.fine,
+        more: stage.more,
     }
 }
 
@@ -90,23 +93,27 @@ fn finish_run(start: Stage, store: &[u8], out: &mut [u8]) -> Stage {
 
 // One byte and the first portion of its run.
 fn begin_run(stage: Stage, byte: u8, store: &mut [u8], out: &mut [u8]) -> Stage {
-    let ready = with_room(stage, out);
-    let walk = ready.walk;
-    let at = within(ready.at, out);
+    let pen = with_room(stage.at, stage.fine, out);
+    let walk = stage.walk;
+    let at = within(pen.at, out);
     let portion = walk.next(byte, &mut *store, &mut out[at..]);
     let next = portion.walk;
     let end = past(at, portion.len, out);
     Stage {
         walk: next,
         at: end,
-        fine: ready.fine,
-        more: ready.more,
+        fine: pen.fine,
+        more: stage.more,
     }
 }
 
 // One byte with its whole run.
 fn take_byte(stage: Stage, byte: u8, store: &mut [u8], out: &mut [u8]) -> Stage {
     let begun = begin_run(stage, byte, &mut *store, &mut *out);
+    let walk = begun.walk;
+    if walk.over {
+        return begun;
+    }
     finish_run(begun, store, out)
 }
 
@@ -162,12 +169,12 @@ fn take_input(start: Stage, store: &mut [u8], out: &mut [u8]) -> Stage {
 
 // The end of the output.
 fn finish(stage: Stage, out: &mut [u8]) {
-    let ready = with_room(stage, out);
-    if !ready.fine {
+    let pen = with_room(stage.at, stage.fine, out);
+    if !pen.fine {
         return;
     }
-    let last = ready.walk;
-    let from = within(ready.at, out);
+    let last = stage.walk;
+    let from = within(pen.at, out);
     let n = last.tail(&mut out[from..]);
     let end = past(from, n, out);
     flush(end, out);

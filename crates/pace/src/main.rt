@@ -1,0 +1,176 @@
+// `pace`: makes the calls that its input asks for and counts them, so that `bench/run` can measure the calls alone. Byte 0 asks for a
+// listing and byte 1 for 1,000 conversions of the sheet; any other is received, and clock calls follow it until one answers nothing.
+use board::Board;
+use engine::Answer;
+use libc::STDIN_FILENO;
+use libc::STDOUT_FILENO;
+use sheet::Axis;
+use sheet::Converted;
+use sheet::Rate;
+
+// The board, the calls made, and a sum over what they came to.
+struct Pace {
+    pub board: Board,
+    pub calls: u64,
+    pub sum: u64,
+}
+
+// What an answer adds to the sum; nothing adds 0 and no other does.
+fn weight(answer: Answer) -> u64 {
+    match answer {
+        Answer::Pulse(_, speed) => 3 + speed as u64,
+        Answer::Pause => 1,
+        Answer::Send(b) => 1 + b as u64,
+        Answer::Done => 2,
+        Answer::Nothing => 0,
+    }
+}
+
+fn plus(a: u64, b: u64) -> u64 {
+    std::num::wrapping_add_u64(a, b)
+}
+
+// Clock calls until one answers nothing, at most 100,000.
+fn run(start: Pace, store: &[u8]) -> Pace {
+    let mut pace = start;
+    let mut turns: u32 = 100000;
+    while 0 < turns {
+        let board = pace.board;
+        let ticked = board.clock(store);
+        let next = ticked.board;
+        let answer = ticked.answer;
+        let w = weight(answer);
+        let calls = plus(pace.calls, 1);
+        let sum = plus(pace.sum, w);
+        pace = Pace {
+            board: next,
+            calls,
+            sum,
+        };
+        if w == 0 {
+            return pace;
+        }
+        turns = turns - 1;
+    }
+    pace
+}
+
+fn receive(pace: Pace, byte: u8, store: &mut [u8]) -> Pace {
+    let mut reply = [0u8; 32];
+    let board = pace.board;
+    let heard = board.receive(byte, [0u8; 4], &mut reply, store);
+    let next = heard.board;
+    Pace {
+        board: next,
+        calls: plus(pace.calls, 1),
+        sum: plus(pace.sum, heard.len as u64),
+    }
+}
+
+fn list(pace: Pace, store: &[u8], text: &mut [u8]) -> Pace {
+    let board = pace.board;
+    let listed = board.list(store, text);
+    Pace {
+        board,
+        calls: plus(pace.calls, 1),
+        sum: plus(pace.sum, listed.len as u64),
+    }
+}
+
+// What a conversion adds to the sum.
+fn value(c: Converted) -> u64 {
+    if 1000 < c.value {
+        return 1;
+    }
+    c.refusal as u64
+}
+
+// A distance and a speed that no two turns share.
+fn convert(mm: f64) -> u64 {
+    let axis = Axis {
+        lead: 1.0 + mm / 7.0,
+        steps: 400.0,
+        gear: 1.5,
+    };
+    let d = sheet::distance(axis, mm);
+    let s = sheet::speed(axis, Rate::PerMinute(mm));
+    plus(value(d), value(s))
+}
+
+fn convert_all(pace: Pace) -> Pace {
+    let mut sum = pace.sum;
+    let mut mm = 0.37;
+    let mut turns: u32 = 500;
+    while 0 < turns {
+        let one = convert(mm);
+        let more = plus(sum, one);
+        sum = more;
+        mm = mm + 11.3;
+        turns = turns - 1;
+    }
+    let board = pace.board;
+    Pace {
+        board,
+        calls: plus(pace.calls, 1000),
+        sum,
+    }
+}
+
+fn take_byte(pace: Pace, byte: u8, store: &mut [u8], text: &mut [u8]) -> Pace {
+    if byte == 0 {
+        return list(pace, store, text);
+    }
+    if byte == 1 {
+        return convert_all(pace);
+    }
+    let heard = receive(pace, byte, &mut *store);
+    run(heard, store)
+}
+
+fn take_all(start: Pace, input: &[u8], store: &mut [u8], text: &mut [u8]) -> Pace {
+    let mut pace = start;
+    let mut i = 0;
+    while i < input.len() {
+        let next = take_byte(pace, input[i], &mut *store, &mut *text);
+        pace = next;
+        i = i + 1;
+    }
+    pace
+}
+
+// Nothing says that the input ends, so the turns count down from a number that no run uses up.
+fn take_input(start: Pace, store: &mut [u8], text: &mut [u8]) -> Pace {
+    let mut input = io::large_buffer();
+    let mut pace = start;
+    let mut turns = u64::MAX;
+    while 0 < turns {
+        let got = libc::read(STDIN_FILENO, &mut input);
+        let n = io::count(got, &input);
+        if n == 0 {
+            return pace;
+        }
+        let next = take_all(pace, &input[..n], &mut *store, &mut *text);
+        pace = next;
+        turns = turns - 1;
+    }
+    pace
+}
+
+fn show(n: u64, last: &[u8]) {
+    io::print_decimal(STDOUT_FILENO, n);
+    io::write_all(STDOUT_FILENO, last);
+}
+
+fn main() {
+    let mut store = [0u8; 16384];
+    let mut text = io::large_buffer();
+    let board = Board::fresh();
+    let start = Pace {
+        board,
+        calls: 0,
+        sum: 0,
+    };
+    let end = take_input(start, &mut store, &mut text);
+    show(end.calls, b" ");
+    show(end.sum, b"\n");
+}

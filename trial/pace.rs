@@ -1,0 +1,105 @@
+//! `pace`: makes the calls that its input asks for and counts them, for `bench/run`. Byte 0 asks for
+//! a listing, byte 1 for 1,000 conversions of the sheet; any other is received, and clock calls
+//! follow it until one answers nothing.
+
+use std::io::{self, Read};
+use trial::board::{Answer, Board};
+use trial::lister::TEXT;
+use trial::record::STORE;
+use trial::sheet::{self, Axis, Speed};
+
+const LIMIT: u32 = 100_000;
+
+struct Pace {
+    board: Board,
+    store: Vec<u8>,
+    text: Vec<u8>,
+    calls: u64,
+    sum: u64,
+}
+
+impl Pace {
+    fn count(&mut self, calls: u64, sum: u64) {
+        self.calls += calls;
+        self.sum = self.sum.wrapping_add(sum);
+    }
+
+    fn byte(&mut self, byte: u8) {
+        match byte {
+            0 => self.list(),
+            1 => self.convert_all(),
+            _ => {
+                self.receive(byte);
+                self.run();
+            }
+        }
+    }
+
+    fn receive(&mut self, byte: u8) {
+        let mut reply = [0u8; 32];
+        let len = self.board.hear(byte, [0; 4], &mut reply, &mut self.store).unwrap_or(0);
+        self.count(1, len as u64);
+    }
+
+    fn run(&mut self) {
+        for _ in 0..LIMIT {
+            let weight = match self.board.tick(&self.store) {
+                Ok(Answer::Pulse(pulse)) => 3 + pulse.speed as u64,
+                Ok(Answer::Pause) => 1,
+                Ok(Answer::Send(byte)) => 1 + byte as u64,
+                Ok(Answer::Done) => 2,
+                Ok(Answer::Nothing) | Err(_) => 0,
+            };
+            self.count(1, weight);
+            if weight == 0 {
+                return;
+            }
+        }
+    }
+
+    fn list(&mut self) {
+        let len = self.board.list(&self.store, &mut self.text).unwrap_or(0);
+        self.count(1, len as u64);
+    }
+
+    fn convert_all(&mut self) {
+        let mut mm = 0.37;
+        for _ in 0..500 {
+            let axis = Axis { lead: 1.0 + mm / 7.0, steps: 400.0, gear: 1.5 };
+            let distance = sheet::distance(axis, mm);
+            let speed = sheet::speed(axis, Speed::MmPerMinute(mm));
+            self.count(2, value(distance) + value(speed));
+            mm += 11.3;
+        }
+    }
+}
+
+/// What a conversion adds to the sum.
+fn value(converted: Result<i32, u8>) -> u64 {
+    match converted {
+        Ok(value) => (value > 1000) as u64,
+        Err(refusal) => refusal as u64,
+    }
+}
+
+fn main() -> io::Result<()> {
+    let mut pace = Pace {
+        board: Board::fresh(),
+        store: vec![0; STORE],
+        text: vec![0; TEXT],
+        calls: 0,
+        sum: 0,
+    };
+    let mut piece = vec![0u8; 1 << 16];
+    loop {
+        let got = io::stdin().lock().read(&mut piece)?;
+        if got == 0 {
+            break;
+        }
+        for &byte in &piece[..got] {
+            pace.byte(byte);
+        }
+    }
+    println!("{} {}", pace.calls, pace.sum);
+    Ok(())
+}

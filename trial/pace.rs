@@ -1,6 +1,6 @@
-//! `pace`: makes the calls that its input asks for and counts them, for `bench/run`. Byte 0 asks for
-//! a listing, byte 1 for 1,000 conversions of the sheet; any other is received, and clock calls
-//! follow it until one answers nothing.
+//! `pace`: makes the calls that its input asks for and counts them, for `bench/run`. It reads at most
+//! 65,536 bytes. Byte 0 asks for a listing, byte 1 for 1,000 conversions of the sheet; any other is
+//! received, and clock calls follow it until one answers nothing.
 
 use std::io::{self, Read};
 use trial::board::{Answer, Board};
@@ -83,22 +83,12 @@ fn value(converted: Result<i32, u8>) -> u64 {
 }
 
 fn main() -> io::Result<()> {
-    let mut pace = Pace {
-        board: Board::fresh(),
-        store: vec![0; STORE],
-        text: vec![0; TEXT],
-        calls: 0,
-        sum: 0,
-    };
-    let mut piece = vec![0u8; 1 << 16];
-    loop {
-        let got = io::stdin().lock().read(&mut piece)?;
-        if got == 0 {
-            break;
-        }
-        for &byte in &piece[..got] {
-            pace.byte(byte);
-        }
+    let mut pace =
+        Pace { board: Board::fresh(), store: vec![0; STORE], text: vec![0; TEXT], calls: 0, sum: 0 };
+    let mut input = Vec::new();
+    io::stdin().lock().take(65_536).read_to_end(&mut input)?;
+    for &byte in &input {
+        pace.byte(byte);
     }
     println!("{} {}", pace.calls, pace.sum);
     Ok(())

@@ -1,5 +1,6 @@
-// `pace`: makes the calls that its input asks for and counts them, so that `bench/run` can measure the calls alone. Byte 0 asks for a
-// listing and byte 1 for 1,000 conversions of the sheet; any other is received, and clock calls follow it until one answers nothing.
+// `pace`: makes the calls that its input asks for and counts them, so that `bench/run` can measure the calls alone. It reads at most
+// 65,536 bytes. Byte 0 asks for a listing and byte 1 for 1,000 conversions of the sheet; any other is received, and clock calls follow
+// it until one answers nothing.
 use board::Board;
 use engine::Answer;
 use libc::STDIN_FILENO;
@@ -138,24 +139,6 @@ fn take_all(start: Pace, input: &[u8], store: &mut [u8], text: &mut [u8]) -> Pac
     pace
 }
 
-// Nothing says that the input ends, so the turns count down from a number that no run uses up.
-fn take_input(start: Pace, store: &mut [u8], text: &mut [u8]) -> Pace {
-    let mut input = io::large_buffer();
-    let mut pace = start;
-    let mut turns = u64::MAX;
-    while 0 < turns {
-        let got = libc::read(STDIN_FILENO, &mut input);
-        let n = io::count(got, &input);
-        if n == 0 {
-            return pace;
-        }
-        let next = take_all(pace, &input[..n], &mut *store, &mut *text);
-        pace = next;
-        turns = turns - 1;
-    }
-    pace
-}
-
 fn show(n: u64, last: &[u8]) {
     io::print_decimal(STDOUT_FILENO, n);
     io::write_all(STDOUT_FILENO, last);
@@ -170,7 +153,9 @@ fn main() {
         calls: 0,
         sum: 0,
     };
-    let end = take_input(start, &mut store, &mut text);
+    let mut input = io::large_buffer();
+    let n = io::read_full(STDIN_FILENO, &mut input);
+    let end = take_all(start, &input[..n], &mut store, &mut text);
     show(end.calls, b" ");
     show(end.sum, b"\n");
 }

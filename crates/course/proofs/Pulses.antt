@@ -1,4 +1,4 @@
--- The loop over the pulses of a movement. Assumes nothing.
+-- The loop over the pulses of a phase. Assumes nothing.
 use Prim.Native.Nat.{ℕ, zero, suc, _+_, _-_, _*_, _<_, _≤_}
 use mathlib.Core.Path.{_≡_, refl, ap, sym, _∙_}
 use mathlib.Core.Bool.{Bool, true, false}
@@ -15,7 +15,8 @@ use Rattle.motion.specs.declared.Signs.{Signs}
 use Rattle.motion.specs.declared.Stepped.{Stepped}
 use Rattle.motion.specs.declared.Next.{Next}
 use Rattle.motion.specs.declared.Next.the-variants as next
-use Rattle.motion.specs.Next.{nextOf}
+use Rattle.motion.specs.Next.{withinOf, atPhase}
+use Rattle.motion.specs.Within.{within-rest}
 use Rattle.course.specs.Text.{pulseText}
 use Rattle.course.specs.Work.{Wrote}
 use Rattle.course.specs.Machine.{Way, stays, way, Left}
@@ -42,17 +43,20 @@ abbrev pub GKept : ℕ → Move → Counters → List ℕ → ℕ → Move → C
 GKept limit m₀ at₀ out₀ n m at out k = Kept glides glideOn glideSaid limit (here m₀ at₀) out₀ n (here m at) out k
 
 module _ (m : Move) (at : Counters) where
-  pub over : {x : Next} → x ≡ nextOf m at → x ≡ next.Over → glides (here m at) ≡ false
+  pub over : {x : Next} → x ≡ withinOf m at → x ≡ next.Over → glides (here m at) ≡ false
   unfolding glides
   over e p = rw (← e, p)
 
-  pub made : {s : Stepped} → nextOf m at ≡ next.Made s → glides (here m at) ≡ true
+  pub made : {s : Stepped} → withinOf m at ≡ next.Made s → glides (here m at) ≡ true
   unfolding glides
   made e = rw e
 
-  part : (k : ℕ) (s : Stepped) → nextOf m at ≡ next.Made s → 0 < k
+  part : (k : ℕ) (s : Stepped) → withinOf m at ≡ next.Made s → 0 < k
       → Part glides glideOn glideSaid k (here m at) (record { state = here (s .rest) (s .at); calls = 1; text = pulseText (s .signs) (s .speed) })
   part k s e h = rw e at (one-part glides glideOn glideSaid k (here m at) h (made e))
+
+same-kept : {limit n k : ℕ} {m₀ r t : Move} {at₀ at : Counters} {out₀ out : List ℕ} → r ≡ t → GKept limit m₀ at₀ out₀ n r at out k → GKept limit m₀ at₀ out₀ n t at out k
+same-kept e g = rw e at g
 
 module _ (limit : ℕ) (m₀ : Move) (at₀ : Counters) (out₀ : List ℕ) (n : ℕ) (m : Move) (at : Counters) (out : List ℕ) (k : ℕ) (i : GKept limit m₀ at₀ out₀ n m at out k) where
   pub last : way glides glideOn glideSaid (limit - n) (here m at) ≡ stays (here m at)
@@ -63,12 +67,18 @@ module _ (limit : ℕ) (m₀ : Move) (at₀ : Counters) (out₀ : List ℕ) (n :
   pub room : n < limit → 12 * limit ≤ length out₀ → 12 ≤ length out - k
   room h l = omega (arith, i .short, i .long)
 
-  pub turn : {x : Next} (s : Stepped) (ys : List ℕ) (j : ℕ) → x ≡ nextOf m at → x ≡ next.Made s → n < limit → 12 * limit ≤ length out₀ → s .speed ≤ 65535
+  turned : {x : Next} (s : Stepped) (ys : List ℕ) (j : ℕ) → x ≡ withinOf m at → x ≡ next.Made s → n < limit → 12 * limit ≤ length out₀ → s .speed ≤ 65535
       → Wrote (pulseText (s .signs) (s .speed)) (take (length out - k) (drop k out)) j ys
       → GKept limit m₀ at₀ out₀ (n + 1) (s .rest) (s .at) (putMid k (length out - k) out ys) (k + j)
-  turn s ys j e p h l v w =
+  turned s ys j e p h l v w =
       let r = room h l in
       let t = pulse-short (s .signs) (s .speed) v in
       kept-part glides glideOn glideSaid limit (here m₀ at₀) out₀ n (here m at) out k i
       (record { state = here (s .rest) (s .at); calls = 1; text = pulseText (s .signs) (s .speed) })
       (part m at (limit - n) s (sym e ∙ p) (omega arith)) (omega arith) ys j w (omega arith) (omega arith)
+
+  pub turn : {x : Next} (s : Stepped) (ys : List ℕ) (j : ℕ) → x ≡ withinOf m at → x ≡ next.Made s → n < limit → 12 * limit ≤ length out₀ → s .speed ≤ 65535
+      → Wrote (pulseText (s .signs) (s .speed)) (take (length out - k) (drop k out)) j ys
+      → GKept limit m₀ at₀ out₀ (n + 1) (atPhase m (m .phase) (s .rest .made)) (s .at) (putMid k (length out - k) out ys) (k + j)
+  turn s ys j e p h l v w =
+      same-kept (within-rest m at (sym e ∙ p)) (turned s ys j e p h l v w)

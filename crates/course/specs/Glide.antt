@@ -1,12 +1,13 @@
--- The pulses of a movement as a machine of its own, on the movement and the counters alone: the inner loop of a run.
+-- The pulses of a phase as a machine of its own, on the movement and the counters alone: the inner loop of a run.
 use Prim.Native.Nat.{ℕ}
-use mathlib.Core.Bool.{Bool, true, false}
+use mathlib.Core.Bool.{Bool}
 use mathlib.Core.List.{List, []}
 use Rattle.motion.specs.declared.Counters.{Counters}
 use Rattle.motion.specs.declared.Move.{Move}
 use Rattle.motion.specs.declared.Next.{Next}
 use Rattle.motion.specs.declared.Next.the-variants as next
-use Rattle.motion.specs.Next.{nextOf}
+use Rattle.motion.specs.Next.{withinOf}
+use Rattle.motion.specs.Within.{made}
 use Rattle.course.specs.declared.Glided.{Glided}
 use Rattle.course.specs.Text.{pulseText}
 use Rattle.course.specs.Machine.{Way, way, Left, leaves}
@@ -18,10 +19,6 @@ pub record Gone : Type 0 where
 abbrev pub here : Move → Counters → Gone
 here m at = record { rest = m; at = at }
 
-abbrev pub madeBy : Next → Bool
-madeBy (next.Made s) = true
-madeBy next.Over = false
-
 abbrev pub goneBy : Next → Gone → Gone
 goneBy (next.Made s) g = here (s .rest) (s .at)
 goneBy next.Over g = g
@@ -31,13 +28,13 @@ saidBy (next.Made s) = pulseText (s .signs) (s .speed)
 saidBy next.Over = []
 
 unfoldable pub glides : Gone → Bool
-glides g = madeBy (nextOf (g .rest) (g .at))
+glides g = made (withinOf (g .rest) (g .at))
 
 abbrev pub glideOn : Gone → Gone
-glideOn g = goneBy (nextOf (g .rest) (g .at)) g
+glideOn g = goneBy (withinOf (g .rest) (g .at)) g
 
 abbrev pub glideSaid : Gone → List ℕ
-glideSaid g = saidBy (nextOf (g .rest) (g .at))
+glideSaid g = saidBy (withinOf (g .rest) (g .at))
 
 abbrev pub glided : Glided → List ℕ → Left Gone
 glided r out = record { state = here (r .rest) (r .at); calls = r .calls; len = r .len; out = out }

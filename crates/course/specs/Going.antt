@@ -10,7 +10,8 @@ use Rattle.motion.specs.declared.Move.{Move}
 use Rattle.motion.specs.declared.Next.{Next}
 use Rattle.motion.specs.declared.Next.the-variants as next
 use Rattle.motion.specs.Phase.{movedAll}
-use Rattle.motion.specs.Next.{nextOf}
+use Rattle.motion.specs.Next.{nextOf, withinOf}
+use Rattle.motion.specs.Within.{made, within-next}
 use Rattle.record.specs.Places.{fetchOf}
 use Rattle.engine.specs.declared.Engine.{Engine}
 use Rattle.engine.specs.declared.Job.{Job}
@@ -21,7 +22,7 @@ use Rattle.engine.specs.Work.{next-moved}
 use Rattle.course.specs.declared.Went.{Went}
 use Rattle.course.specs.Text.{answerText}
 use Rattle.course.specs.Machine.{Way, stays, then, way, few, inner, then-none, Left, leaves}
-use Rattle.course.specs.Glide.{Gone, here, glides, glideOn, glideSaid, madeBy, goneBy, saidBy}
+use Rattle.course.specs.Glide.{Gone, here, glides, glideOn, glideSaid, goneBy, saidBy}
 
 abbrev pub tickNext : List ℕ → Engine → Engine
 tickNext store e = ticked nextOf (fetchOf (e .held) store) e .engine
@@ -61,23 +62,30 @@ abbrev Same : List ℕ → (Gone → Engine) → Gone → Type 0
 Same store put t = (runsOf (put t) ≡ true) × (tickNext store (put t) ≡ put (glideOn t)) × (tickSaid store (put t) ≡ glideSaid t)
 
 module _ (store : List ℕ) (e : Engine) (t : Gone) where
-  direct-by : (x : Next) → nextOf (t .rest) (t .at) ≡ x → madeBy x ≡ true
+  direct-by : (x : Next) → nextOf (t .rest) (t .at) ≡ x → made x ≡ true
       → (directly x (inDirect e t) .engine ≡ inDirect e (goneBy x t)) × (answerText (directly x (inDirect e t) .answer) ≡ saidBy x)
   direct-by (next.Made s) p q = (ap (λ (c : Counters). inDirect e (here (s .rest) c)) (sym (next-moved (t .rest) (t .at) s refl p)), refl)
   direct-by next.Over p q = let z : _≡_ {A = ℕ} 0 1 = cc in absurd (omega arith)
 
-  moving-by : (x : Next) → nextOf (t .rest) (t .at) ≡ x → madeBy x ≡ true
+  moving-by : (x : Next) → nextOf (t .rest) (t .at) ≡ x → made x ≡ true
       → (movingOn nextOf (fetchOf (e .held) store) x (inMoving e t) .engine ≡ inMoving e (goneBy x t)) × (answerText (movingOn nextOf (fetchOf (e .held) store) x (inMoving e t) .answer) ≡ saidBy x)
   moving-by (next.Made s) p q = (ap (λ (c : Counters). inMoving e (here (s .rest) c)) (sym (next-moved (t .rest) (t .at) s refl p)), refl)
   moving-by next.Over p q = let z : _≡_ {A = ℕ} 0 1 = cc in absurd (omega arith)
 
   same-direct : glides t ≡ true → Same store (inDirect e) t
   unfolding glides ticked runsOf
-  same-direct p = let d = direct-by (nextOf (t .rest) (t .at)) refl p in (refl, d .0, d .1)
+  same-direct p =
+      let q = within-next (t .rest) (t .at) p in
+      let d = direct-by (withinOf (t .rest) (t .at)) q p in
+      (refl, ap (λ (x : Next). directly x (inDirect e t) .engine) q ∙ d .0, ap (λ (x : Next). answerText (directly x (inDirect e t) .answer)) q ∙ d .1)
 
   same-moving : glides t ≡ true → Same store (inMoving e) t
   unfolding glides ticked runsOf
-  same-moving p = let d = moving-by (nextOf (t .rest) (t .at)) refl p in (refl, d .0, d .1)
+  same-moving p =
+      let q = within-next (t .rest) (t .at) p in
+      let d = moving-by (withinOf (t .rest) (t .at)) q p in
+      let f = fetchOf (e .held) store in
+      (refl, ap (λ (x : Next). movingOn nextOf f x (inMoving e t) .engine) q ∙ d .0, ap (λ (x : Next). answerText (movingOn nextOf f x (inMoving e t) .answer)) q ∙ d .1)
 
 -- ---- so the pulses are a part of the run
 

@@ -1,7 +1,8 @@
-// The pulses of a movement one after the other, on the movement and the counters alone.
+// The pulses of a phase one after the other, on the movement and the counters alone; the movement is only read.
 ghost use mathlib.Core.Path.{_≡_};
 ghost use Prim.Native.Nat.{_≤_, _*_};
 ghost use lib.ListN.{length};
+ghost use Rattle.motion.specs.Next.{atPhase};
 ghost use Rattle.course.specs.Glide.{glided, gliding};
 use super::Glided;
 use super::text::put_pulse;
@@ -9,38 +10,42 @@ use motion::Counters;
 use motion::Move;
 use motion::Next;
 
-// At most so many pulses, with twelve bytes of room for each.
+// A movement with so many pulses of its phase made, the counters, and what that took.
+fn glided_to(m: Move, made: u32, at: Counters, calls: u32, len: usize) -> Glided
+    ensures { λ r. ⌜ r ≡ record { rest = atPhase m (m .phase) made; at = at; calls = calls; len = len } ⌝ }
+{
+    let mut rest = m;
+    rest.made = made;
+    Glided {
+        rest,
+        at,
+        calls,
+        len,
+    }
+}
+
+// At most so many pulses of the phase under way, with twelve bytes of room for each.
 pub(crate) fn glide(start: Move, from: Counters, limit: u32, out: &mut [u8]) -> Glided
     requires { ⌜ 12 * limit ≤ length (now out) ⌝ }
     ensures { λ r. ⌜ (glided r (now (out .exit)) ≡ gliding limit start from (now (out .entry))) × (r .len ≤ 12 * r .calls) ⌝ }
 {
-    let mut m = start;
+    let mut made = start.made;
     let mut at = from;
     let mut n: u32 = 0;
     let mut k = 0;
     while n < limit {
-        let next = m.next(at);
+        let next = start.within(made, at);
         let Next::Made(s) = next else {
-            return Glided {
-                rest: m,
-                at,
-                calls: n,
-                len: k,
-            };
+            return glided_to(start, made, at, n, k);
         };
         let signs = s.signs;
         let rest = s.rest;
         let there = s.at;
         let j = put_pulse(&mut out[k..], signs, s.speed);
-        m = rest;
+        made = rest.made;
         at = there;
         k = k + j;
         n = n + 1;
     }
-    Glided {
-        rest: m,
-        at,
-        calls: n,
-        len: k,
-    }
+    glided_to(start, made, at, n, k)
 }

@@ -3,6 +3,7 @@
 use mathlib.Core.Path.{_≡_, sym, _∙_}
 use Rattle.motion.proofs.route.plan.Reads as plan
 use Rattle.motion.proofs.Move.next.Reads as next
+use Rattle.motion.proofs.Move.within.Reads as within
 use Rattle.motion.proofs.Move.left.Reads as left
 use Rattle.motion.proofs.Move.sound.Reads as sound
 use Rattle.motion.proofs.Move.resting.Reads as resting
@@ -12,6 +13,9 @@ plan-one κs a r r′ s s′ p q = p ∙ sym q
 
 pub next-one : (κs : _) (a : _) (r r′ : _) (s s′ : _) → next.Post κs a r s → next.Post κs a r′ s′ → r ≡ r′
 next-one κs a r r′ s s′ p q = p ∙ sym q
+
+pub within-one : (κs : _) (a : _) (r r′ : _) (s s′ : _) → within.Post κs a r s → within.Post κs a r′ s′ → r ≡ r′
+within-one κs a r r′ s s′ p q = p ∙ sym q
 
 pub left-one : (κs : _) (a : _) (r r′ : _) (s s′ : _) → left.Post κs a r s → left.Post κs a r′ s′ → r ≡ r′
 left-one κs a r r′ s s′ p q = p ∙ sym q

@@ -10,9 +10,8 @@ use Rattle.motion.specs.declared.Signs.{Signs}
 use Rattle.motion.specs.declared.Move.{Move}
 use Rattle.motion.specs.declared.Stepped.{Stepped}
 use Rattle.motion.specs.Phase.{pulses, signHere, movedAll}
-use Rattle.motion.specs.Next.{leg, fromOf, toOf, speedAt, atPhase, skipped, signsBy, stepped, nextBy, nextOf}
+use Rattle.motion.specs.Next.{leg, fromOf, toOf, speedAt, atPhase, signsBy, stepped, withinOf}
 use Rattle.motion.specs.declared.Next.the-variants.{Made, Over}
-use Rattle.motion.specs.Skip.{settled-here}
 use Rattle.motion.specs.Pulses.{pulses-small, most-x, most-y, most-z}
 
 -- products of the formula fit 64 bits
@@ -30,22 +29,15 @@ pub step-made : (m : Move) (at : Counters) {t : Counters} {s : Signs} {v n : ℕ
     → _≡_ {A = Stepped} (record { signs = s; speed = v; at = t; rest = r }) (stepped m at (signsBy signHere at (fromOf m) (toOf m) (m .made) (leg m)))
 step-made m at e p q r v = rw (q, r, v, p, e)
 
--- the next pulse by the test on where each axis stands
+-- the next pulse of a phase by the test on where each axis stands
 abbrev here : Move → Counters → Stepped
 here m at = stepped m at (signsBy signHere at (fromOf m) (toOf m) (m .made) (leg m))
 
-pub next-here : (m : Move) (at : Counters) {n : ℕ} {w : Stepped} → n ≡ leg m → m .made < n → w ≡ here m at → Made w ≡ nextOf m at
-unfolding nextOf nextBy
-next-here m at e h p =
-    let l : m .made < leg m = rw e at h in
-    rw (p, settled-here m l, lt-ltb (m .made) (leg m) l)
+module _ (m : Move) (at : Counters) {x : Move} {n : ℕ} (q : x ≡ m) (e : n ≡ leg x) where
+  pub within-made : {w : Stepped} → x .made < n → w ≡ here x at → Made w ≡ withinOf m at
+  unfolding withinOf
+  within-made h p = rw (p, ← q, ← e, lt-ltb (x .made) n h, e)
 
--- the same past phases without a pulse left
-module _ (m : Move) (at : Counters) {m1 m2 m3 : Move} {n : ℕ} (p1 : m1 ≡ skipped m) (p2 : m2 ≡ skipped m1) (p3 : m3 ≡ skipped m2) (e : n ≡ leg m3) where
-  pub next-after : {w : Stepped} → m3 .made < n → w ≡ here m3 at → Made w ≡ nextOf m at
-  unfolding nextOf nextBy
-  next-after h p = rw (p, ← p1, ← p2, ← p3, ← e, lt-ltb (m3 .made) n h, e)
-
-  pub next-over : n ≤ m3 .made → Over ≡ nextOf m at
-  unfolding nextOf nextBy
-  next-over h = rw (← p1, ← p2, ← p3, ← e, le-ltb (m3 .made) n h)
+  pub within-over : n ≤ x .made → Over ≡ withinOf m at
+  unfolding withinOf
+  within-over h = rw (← q, ← e, le-ltb (x .made) n h)

@@ -10,3 +10,4 @@ pub mod Plans
 pub mod Skip
 pub mod Onward
 pub mod Whole
+pub mod Within

@@ -79,6 +79,10 @@ pulseOf m at = nextBy (λ here from to k n. signAt k from to n) m at
 unfoldable pub nextOf : Move → Counters → Next
 nextOf m at = nextBy signHere m at
 
+-- the next pulse of the phase under way, or that it has none left
+unfoldable pub withinOf : Move → Counters → Next
+withinOf m at = pick (ltb (m .made) (leg m)) (Made (stepped m at (signsBy signHere at (fromOf m) (toOf m) (m .made) (leg m)))) Over
+
 -- the pulses of the phases after the one under way
 unfoldable pub afterOf : Move → ℕ
 afterOf m =

@@ -2,7 +2,7 @@
 ghost use mathlib.Core.Path.{_≡_};
 ghost use Prim.Native.Nat.{_<_, _+_, _-_};
 ghost use Rattle.motion.specs.Phase.{signHere, moved, movedAll};
-ghost use Rattle.motion.specs.Next.{fromOf, toOf, leg, speedAt, atPhase, skipped, signsBy, stepped, nextOf, leftOf, afterOf};
+ghost use Rattle.motion.specs.Next.{fromOf, toOf, leg, speedAt, atPhase, skipped, settled, signsBy, stepped, nextOf, withinOf, leftOf, afterOf};
 ghost use Rattle.motion.specs.Room.{room, hasRoom};
 use super::Counters;
 use super::Move;
@@ -156,20 +156,35 @@ impl Move {
         }
     }
 
-    // The next pulse, or that none is left.
-    pub fn next(self, at: Counters) -> Next
-        ensures { λ r. ⌜ r ≡ nextOf self at ⌝ }
+    // The movement at the first phase that has a pulse left.
+    fn settle(self) -> Move
+        ensures { λ r. ⌜ r ≡ settled self ⌝ }
     {
-        let here = self.leg();
-        if self.made < here {
-            return Next::Made(self.step(at, here));
+        if self.made < self.leg() {
+            return self;
         }
-        let m = self.skip().skip().skip();
+        self.skip().skip().skip()
+    }
+
+    // The pulse after `made` of the phase under way, or that none is left of it. The movement is only read, so a loop over a phase need
+    // not copy it.
+    pub fn within(self, made: u32, at: Counters) -> Next
+        ensures { λ r. ⌜ r ≡ withinOf (atPhase self (self .phase) made) at ⌝ }
+    {
+        let m = self.at_phase(self.phase, made);
         let n = m.leg();
         if m.made < n {
             return Next::Made(m.step(at, n));
         }
         Next::Over
+    }
+
+    // The next pulse, or that none is left.
+    pub fn next(self, at: Counters) -> Next
+        ensures { λ r. ⌜ r ≡ nextOf self at ⌝ }
+    {
+        let m = self.settle();
+        m.within(m.made, at)
     }
 
     // The pulses of the phases after the one under way.

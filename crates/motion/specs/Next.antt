@@ -64,12 +64,13 @@ signsBy rule at from to k n = record {
 abbrev pub stepped : Move → Counters → Signs → Stepped
 stepped m at s = record { signs = s; speed = speedAt m (m .made + 1); at = movedAll at s; rest = atPhase m (m .phase) (m .made + 1) }
 
+-- the next pulse of the phase under way, or that it has none left
+abbrev pub withinBy : SignRule → Move → Counters → Next
+withinBy rule m at = pick (ltb (m .made) (leg m)) (Made (stepped m at (signsBy rule at (fromOf m) (toOf m) (m .made) (leg m)))) Over
+
 -- the next pulse of a movement, or that it has none left
 unfoldable pub nextBy : SignRule → Move → Counters → Next
-nextBy rule m at =
-    pick (ltb (settled m .made) (leg (settled m)))
-    (Made (stepped (settled m) at (signsBy rule at (fromOf (settled m)) (toOf (settled m)) (settled m .made) (leg (settled m)))))
-    Over
+nextBy rule m at = withinBy rule (settled m) at
 
 -- by 01's formula: the rule that the board and every promise cite
 unfoldable pub pulseOf : Move → Counters → Next
@@ -79,9 +80,9 @@ pulseOf m at = nextBy (λ here from to k n. signAt k from to n) m at
 unfoldable pub nextOf : Move → Counters → Next
 nextOf m at = nextBy signHere m at
 
--- the next pulse of the phase under way, or that it has none left
+-- by the same test, of the phase under way
 unfoldable pub withinOf : Move → Counters → Next
-withinOf m at = pick (ltb (m .made) (leg m)) (Made (stepped m at (signsBy signHere at (fromOf m) (toOf m) (m .made) (leg m)))) Over
+withinOf m at = withinBy signHere m at
 
 -- the pulses of the phases after the one under way
 unfoldable pub afterOf : Move → ℕ

@@ -160,7 +160,8 @@ impl Move {
     fn settle(self) -> Move
         ensures { λ r. ⌜ r ≡ settled self ⌝ }
     {
-        if self.made < self.leg() {
+        let here = self.leg();
+        if self.made < here {
             return self;
         }
         self.skip().skip().skip()

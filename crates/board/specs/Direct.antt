@@ -22,21 +22,6 @@ use Rattle.board.specs.State.{board, noLine, lineDone, Said, said}
 
 -- ---- what each letter asks. A and M are a record's `0` and `m`, n and N its `n`, z its `z`.
 
-abbrev pub codeFor : Letter → ℕ
-codeFor letter.Relative = 48
-codeFor letter.Absolute = 109
-codeFor letter.Origin = 110
-codeFor letter.Zero = 110
-codeFor letter.Three = 122
-codeFor letter.Wrong = 0
-codeFor letter.Axes = 0
-codeFor letter.Position = 0
-codeFor letter.Input = 0
-codeFor letter.Output = 0
-codeFor letter.Store = 0
-codeFor letter.Empty = 0
-codeFor letter.Start = 0
-
 abbrev pub isWrong : Letter → Bool
 isWrong letter.Wrong = true
 isWrong letter.Axes = false

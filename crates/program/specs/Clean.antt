@@ -5,7 +5,7 @@ use mathlib.Core.Path.{_≡_, refl, sym, _∙_, subst}
 use native.Mathlib.Omega.{arith}
 use native.Mathlib.Nat.{zero-add}
 use borrow.Author.Tests.{ltb-false, leb-true, eqb-true, eqb-false, le-leb}
-use lib.Dec.{ltb, leb, eqb, T}
+use lib.Dec.{ltb, leb, eqb}
 use Rattle.count.specs.Pick.{pick}
 use Rattle.count.specs.Truth.{never, and-parts, both}
 use Rattle.program.specs.declared.Verdict.{Verdict}
@@ -15,10 +15,6 @@ use Rattle.program.specs.Flow.{Flow}
 use Rattle.program.specs.Flow as flow
 
 -- ---- tests
-pub true-T : {b : Bool} → T b → b ≡ true
-true-T {b = true} t = refl
-true-T {b = false} t = absurd t
-
 pub and-false : {a b : Bool} → a && b ≡ false → a ≡ true → b ≡ false
 and-false {a = true} e t = e
 and-false {a = false} e t = never t

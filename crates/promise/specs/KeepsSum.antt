@@ -41,12 +41,6 @@ off-3 true true r l e = rw e
 off-3 true false r l e = refl
 off-3 false o r l e = refl
 
-off-4 : (i o r l : Bool) → l ≡ false → i && o && r && l ≡ false
-off-4 true true true l e = e
-off-4 true true false l e = refl
-off-4 true false r l e = refl
-off-4 false o r l e = refl
-
 module _ (a : Axis) (b : Board) where
   -- the return sets the axis to zero, by its reply
   abbrev pub sets : Said → Bool

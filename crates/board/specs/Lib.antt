@@ -3,10 +3,4 @@ pub mod Direct
 pub mod Storing
 pub mod Receive
 pub mod Calls
-pub mod Work
-pub mod Puts
-pub mod Stores
-pub mod Obeys
-pub mod Hears
-pub mod Fair
-pub mod Laws
+pub mod work

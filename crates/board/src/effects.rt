@@ -3,7 +3,7 @@ ghost use mathlib.Core.Path.{_≡_};
 ghost use Prim.Native.Nat.{_%_};
 ghost use lib.ListN.{getD};
 ghost use Rattle.board.specs.State.{board, noLine};
-ghost use Rattle.board.specs.Work.{spokeOf, repliedWith, begunWith, startedBy, affected, obeyed};
+ghost use Rattle.board.specs.work.Work.{spokeOf, repliedWith, begunWith, startedBy, affected, obeyed};
 use crate::Board;
 use crate::Line;
 use crate::Saying;

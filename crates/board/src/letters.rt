@@ -1,7 +1,7 @@
 // What each letter asks of its line, and the first fault of a line outside storing.
 ghost use mathlib.Core.Path.{_≡_};
 ghost use Rattle.board.specs.Direct.{isWrong, heardStanding, needsAxes};
-ghost use Rattle.board.specs.Work.{countFault, axesFault, inputFault, outputFault, numbersFault, lineFault};
+ghost use Rattle.board.specs.work.Work.{countFault, axesFault, inputFault, outputFault, numbersFault, lineFault};
 use line::Direct;
 use line::Letter;
 

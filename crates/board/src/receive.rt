@@ -4,7 +4,7 @@ ghost use Prim.Native.Nat.{_≤_};
 ghost use Rattle.engine.specs.State.{heard};
 ghost use Rattle.board.specs.State.{board, gathered, withLine};
 ghost use Rattle.board.specs.Receive.{isStoring, holdsBy, endsBy, returned, gathering, earOf, ordinary, hearing};
-ghost use Rattle.board.specs.Work.{spokeOf, spoke, stopSpoke, breakSpoke, resetSpoke, gathersBy, waitsBy};
+ghost use Rattle.board.specs.work.Work.{spokeOf, spoke, stopSpoke, breakSpoke, resetSpoke, gathersBy, waitsBy};
 use crate::Board;
 use crate::Line;
 use crate::Saying;

@@ -4,7 +4,7 @@ ghost use mathlib.Core.List.{[], _∷_, _++_};
 ghost use Prim.Native.Nat.{_+_, _≤_};
 ghost use lib.ListN.{length, take, drop};
 ghost use Rattle.count.specs.Text.{written, report, twoHex};
-ghost use Rattle.board.specs.Work.{bytesOf, putOf, textOf, receivedOf};
+ghost use Rattle.board.specs.work.Work.{bytesOf, putOf, textOf, receivedOf};
 use crate::Received;
 use crate::Saying;
 use crate::Spoke;

@@ -7,7 +7,7 @@ ghost use Rattle.program.specs.Program.{isSound};
 ghost use Rattle.line.specs.Lines.{storedOf};
 ghost use Rattle.board.specs.State.{textOf};
 ghost use Rattle.board.specs.Storing.{recordOf, recordSaid, endSaid, storedSaid};
-ghost use Rattle.board.specs.Work.{spoke, keptSaid};
+ghost use Rattle.board.specs.work.Work.{spoke, keptSaid};
 use crate::Board;
 use crate::Spoke;
 use line::Code;

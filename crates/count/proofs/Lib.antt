@@ -2,3 +2,4 @@ pub mod Table
 pub mod Signed
 pub mod Only
 pub mod Examples
+pub mod laws

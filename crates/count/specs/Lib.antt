@@ -1,10 +1,6 @@
 pub mod Pick
-pub mod Truth
 pub mod Paper
 pub mod Numbers
 pub mod Ranges
 pub mod Text
-pub mod Laws
-pub mod Lists
 pub mod Words
-pub mod Digits

@@ -8,9 +8,9 @@ use borrow.Rule.Slice.PartMut.{putMid}
 use lib.ListN.{length, take, drop, set, length-append}
 use lib.Seq.{take-at, drop-at, drop-drop}
 use Rattle.count.specs.Text.{Written, written, wrote}
-use Rattle.count.specs.Digits.{wrote-long}
-use Rattle.count.specs.Lists.{rest, to-end, set-front, drop-one}
-use Rattle.course.specs.Work.{Wrote}
+use Rattle.count.proofs.laws.Digits.{wrote-long}
+use Rattle.count.proofs.laws.Lists.{rest, to-end, set-front, drop-one}
+use Rattle.course.specs.work.Work.{Wrote}
 
 -- a text, and another where it ends
 pub wrote-then : {s t u o l : List ℕ} {k j : ℕ} → Wrote t s k o → Wrote u (take (length o - k) (drop k o)) j l

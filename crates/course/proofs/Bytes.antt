@@ -8,21 +8,22 @@ use borrow.Rule.Slice.PartMut.{putMid}
 use lib.ListN.{length, take, drop, set, length-append, length-drop, take-append-drop}
 use lib.Seq.{length-take-le, take-at, drop-at, drop-drop, drop-append-add, set-split}
 use Rattle.count.specs.Pick.{pick}
-use Rattle.count.specs.Lists.{rest, to-end}
+use Rattle.count.proofs.laws.Lists.{rest, to-end}
 use Rattle.board.specs.declared.Board.{Board}
 use Rattle.board.specs.declared.Received.{Received}
 use Rattle.board.specs.State.{Said, sound}
 use Rattle.board.specs.Receive.{hearing}
 use Rattle.board.specs.Calls as calls
 use Rattle.board.specs.Calls.{receiving, answered}
-use Rattle.board.specs.Laws.{hearing-sound, store-length, reply-short, never-refused}
+use Rattle.board.proofs.laws.Laws.{hearing-sound, store-length, reply-short, never-refused}
 use Rattle.course.specs.declared.Ran.{Ran}
 use Rattle.course.specs.declared.Walk.{Walk}
 use Rattle.course.specs.Text.{replyText}
 use Rattle.course.specs.Run.{runsNow, Course, rests, course, allowed, Outcome, did, ran, running}
-use Rattle.course.specs.Portions.{course-off}
+use Rattle.course.proofs.laws.Portions.{course-off}
 use Rattle.course.specs.Walk.{noPorts, most, ready, Done, done, walk, further, nextDone}
-use Rattle.course.specs.Work.{Wrote, doneOf, same}
+use Rattle.course.specs.Walk.{doneOf}
+use Rattle.course.specs.work.Work.{Wrote, same}
 use Rattle.course.proofs.Behind.{wrote-then}
 use Rattle.course.proofs.Outcomes.{unrefused}
 use Rattle.course.proofs.Portions.{pick-yes, pick-no, ready-parts}

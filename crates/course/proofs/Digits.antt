@@ -7,9 +7,9 @@ use lib.ListN.{length, take, drop}
 use lib.Seq.{drop-drop}
 use borrow.Rule.Slice.PartMut.{putMid}
 use Rattle.count.specs.Text.{digits}
-use Rattle.count.specs.Digits.{digits-small, digits-large}
-use Rattle.count.specs.Lists.{rest, to-end}
-use Rattle.course.specs.Work.{Wrote}
+use Rattle.count.proofs.laws.Digits.{digits-small, digits-large}
+use Rattle.count.proofs.laws.Lists.{rest, to-end}
+use Rattle.course.specs.work.Work.{Wrote}
 
 abbrev d : ℕ → ℕ
 d n = 48 + n % 10

@@ -7,3 +7,4 @@ pub mod Behind
 pub mod Portions
 pub mod Bytes
 pub mod Only
+pub mod laws

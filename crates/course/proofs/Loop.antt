@@ -7,9 +7,10 @@ use native.Mathlib.Omega.{arith}
 use borrow.Rule.Slice.PartMut.{putMid}
 use lib.ListN.{length, take, drop, length-drop, length-append, take-append-drop}
 use lib.Seq.{length-take-le, take-at, drop-at, drop-drop}
-use Rattle.count.specs.Lists.{rest, to-end}
-use Rattle.course.specs.Work.{Wrote}
-use Rattle.course.specs.Machine.{Way, stays, then, way, way-step, then-then, then-none, then-stays, Left, leaves}
+use Rattle.count.proofs.laws.Lists.{rest, to-end}
+use Rattle.course.specs.work.Work.{Wrote}
+use Rattle.course.proofs.laws.Machine.{way-step, then-then, then-none, then-stays}
+use Rattle.course.specs.work.Machine.{Way, stays, then, way, Left, leaves}
 
 module _ {S : Type 0} (on : S → Bool) (next : S → S) (said : S → List ℕ) where
   -- g is a part of the way from s

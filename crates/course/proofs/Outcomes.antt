@@ -13,10 +13,10 @@ use Rattle.board.specs.State.{sound}
 use Rattle.course.specs.declared.Ran.{Ran}
 use Rattle.course.specs.declared.Went.{Went}
 use Rattle.course.specs.Run.{runsNow, Course, course, allowed, Outcome, did, ran, running}
-use Rattle.course.specs.Work.{stood}
-use Rattle.course.specs.Machine.{Left, Way, leaves}
-use Rattle.course.specs.Going.{goWay, wentOf}
-use Rattle.course.specs.Boards.{withEngine, onBoard, course-is-go, stands}
+use Rattle.course.specs.work.Work.{stood}
+use Rattle.course.specs.work.Machine.{Left, Way, leaves}
+use Rattle.course.specs.work.Going.{goWay, wentOf}
+use Rattle.course.proofs.laws.Boards.{withEngine, onBoard, course-is-go, stands}
 
 module _ (limit : ℕ) (b : Board) (store out : List ℕ) where
   pub refused-102 : (length store ≡ 16384 → ⊥) → did (stood 102 b) out ≡ running limit b store out

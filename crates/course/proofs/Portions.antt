@@ -10,17 +10,18 @@ use lib.ListN.{length}
 use borrow.Author.Tests.{eqb-true, leb-true}
 use Rattle.count.specs.Pick.{pick}
 use Rattle.count.specs.Text.{written, wrote}
-use Rattle.count.specs.Digits.{wrote-long}
-use Rattle.count.specs.Truth.{and-parts}
+use Rattle.count.proofs.laws.Digits.{wrote-long}
+use Rattle.count.proofs.laws.Truth.{and-parts}
 use Rattle.board.specs.declared.Board.{Board}
 use Rattle.board.specs.State.{sound}
 use Rattle.course.specs.declared.Ran.{Ran}
 use Rattle.course.specs.declared.Walk.{Walk}
 use Rattle.course.specs.Text.{limitText, endText}
 use Rattle.course.specs.Run.{course, allowed, Outcome, did, refused, ran, running}
-use Rattle.course.specs.Portions.{course-few}
+use Rattle.course.proofs.laws.Portions.{course-few}
 use Rattle.course.specs.Walk.{most, ready, Done, done, walk, further, onDone, tailDone}
-use Rattle.course.specs.Work.{Wrote, doneOf, same}
+use Rattle.course.specs.Walk.{doneOf}
+use Rattle.course.specs.work.Work.{Wrote, same}
 use Rattle.course.proofs.Outcomes.{unrefused}
 
 -- a text that was written into a part of at least so many bytes

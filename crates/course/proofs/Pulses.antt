@@ -7,8 +7,8 @@ use native.Mathlib.Omega.{arith}
 use borrow.Rule.Slice.PartMut.{putMid}
 use lib.ListN.{length, take, drop, length-drop, length-append}
 use Rattle.count.specs.Text.{decimal, digits}
-use Rattle.count.specs.Digits.{decimal-more, decimal-long}
-use Rattle.count.specs.Lists.{rest}
+use Rattle.count.proofs.laws.Digits.{decimal-more, decimal-long}
+use Rattle.count.proofs.laws.Lists.{rest}
 use Rattle.motion.specs.declared.Counters.{Counters}
 use Rattle.motion.specs.declared.Move.{Move}
 use Rattle.motion.specs.declared.Signs.{Signs}
@@ -16,11 +16,11 @@ use Rattle.motion.specs.declared.Stepped.{Stepped}
 use Rattle.motion.specs.declared.Next.{Next}
 use Rattle.motion.specs.declared.Next.the-variants as next
 use Rattle.motion.specs.Next.{withinOf, atPhase}
-use Rattle.motion.specs.Within.{within-rest}
+use Rattle.motion.proofs.laws.Within.{within-rest}
 use Rattle.course.specs.Text.{pulseText}
-use Rattle.course.specs.Work.{Wrote}
-use Rattle.course.specs.Machine.{Way, stays, way, Left}
-use Rattle.course.specs.Glide.{Gone, here, glides, glideOn, glideSaid, gliding}
+use Rattle.course.specs.work.Work.{Wrote}
+use Rattle.course.specs.work.Machine.{Way, stays, way, Left}
+use Rattle.course.specs.work.Glide.{Gone, here, glides, glideOn, glideSaid, gliding}
 use Rattle.course.proofs.Loop.{Part, one-part, Kept, kept-first, kept-last, kept-part}
 
 -- ---- a line of a pulse has at most twelve bytes

@@ -19,11 +19,12 @@ use Rattle.engine.specs.Tick.{ticked, runsOf}
 use Rattle.course.specs.declared.Went.{Went}
 use Rattle.course.specs.declared.Glided.{Glided}
 use Rattle.course.specs.Text.{answerText}
-use Rattle.course.specs.Work.{Wrote}
-use Rattle.course.specs.Machine.{Way, stays, way, Left, leaves}
-use Rattle.course.specs.Glide as G
-use Rattle.course.specs.Glide.{Gone, here, glides, glideOn, glideSaid}
-use Rattle.course.specs.Going.{tickNext, tickSaid, goWay, inDirect, inMoving, glideJob, wentOf, glide-joins, glide-few}
+use Rattle.course.specs.work.Work.{Wrote}
+use Rattle.course.specs.work.Machine.{Way, stays, way, Left, leaves}
+use Rattle.course.specs.work.Glide as G
+use Rattle.course.specs.work.Glide.{Gone, here, glides, glideOn, glideSaid}
+use Rattle.course.proofs.laws.Going.{glide-joins, glide-few}
+use Rattle.course.specs.work.Going.{tickNext, tickSaid, goWay, inDirect, inMoving, glideJob, wentOf}
 use Rattle.course.proofs.Loop.{Part, one-part, Kept, kept-part}
 
 abbrev pub RKept : List ℕ → ℕ → Engine → List ℕ → ℕ → Engine → List ℕ → ℕ → Type 0

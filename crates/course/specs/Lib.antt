@@ -1,10 +1,4 @@
 pub mod Text
 pub mod Run
 pub mod Walk
-pub mod Portions
-pub mod Work
-pub mod Machine
-pub mod Glide
-pub mod Going
-pub mod Boards
-pub mod Ends
+pub mod work

@@ -53,6 +53,10 @@ pub record Done : Type 0 where
 abbrev pub done : Walk → List ℕ → List ℕ → List ℕ → Done
 done w text store out = record { portion = record { walk = w; len = length text }; store = store; out = text ++ drop (length text) out }
 
+-- a portion with what was lent afterwards
+abbrev pub doneOf : Portion → List ℕ → List ℕ → Done
+doneOf p store out = record { portion = p; store = store; out = out }
+
 abbrev pub walk : Board → ℕ → Bool → Walk
 walk b calls over = record { board = b; calls = calls; over = over }
 

@@ -3,7 +3,7 @@ ghost use mathlib.Core.Path.{_≡_};
 ghost use Prim.Native.Nat.{_≤_, _*_};
 ghost use lib.ListN.{length};
 ghost use Rattle.motion.specs.Next.{atPhase};
-ghost use Rattle.course.specs.Glide.{glided, gliding};
+ghost use Rattle.course.specs.work.Glide.{glided, gliding};
 use super::Glided;
 use super::text::put_pulse;
 use motion::Counters;

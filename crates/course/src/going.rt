@@ -2,8 +2,8 @@
 ghost use mathlib.Core.Path.{_≡_};
 ghost use Prim.Native.Nat.{_≤_, _*_};
 ghost use lib.ListN.{length};
-ghost use Rattle.course.specs.Machine.{leaves};
-ghost use Rattle.course.specs.Going.{wentOf, glideJob, goWay};
+ghost use Rattle.course.specs.work.Machine.{leaves};
+ghost use Rattle.course.specs.work.Going.{wentOf, glideJob, goWay};
 use super::Went;
 use super::glide::glide;
 use super::text::put_answer;

@@ -3,7 +3,7 @@ ghost use mathlib.Core.Path.{_≡_};
 ghost use Prim.Native.Nat.{_/_, min};
 ghost use lib.ListN.{length};
 ghost use Rattle.course.specs.Run.{runsNow, allowed, did, running};
-ghost use Rattle.course.specs.Work.{stood};
+ghost use Rattle.course.specs.work.Work.{stood};
 use super::Ran;
 use super::going::go;
 use board::Board;

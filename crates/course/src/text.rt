@@ -5,7 +5,7 @@ ghost use Prim.Native.Nat.{_≤_, _<_, _+_, _%_};
 ghost use lib.ListN.{length, drop};
 ghost use Rattle.count.specs.Text.{digits};
 ghost use Rattle.course.specs.Text.{signByte, pulseText, answerText};
-ghost use Rattle.course.specs.Work.{Wrote};
+ghost use Rattle.course.specs.work.Work.{Wrote};
 use engine::Answer;
 use motion::Sign;
 use motion::Signs;

@@ -1,12 +1,4 @@
 pub mod State
 pub mod Tick
 pub mod Sound
-pub mod Work
-pub mod Cases
-pub mod Facts
-pub mod Laws
-pub mod Kept
-pub mod Lines
-pub mod Fetches
-pub mod Accepted
-pub mod Runs
+pub mod work

@@ -8,7 +8,7 @@ ghost use Rattle.motion.specs.Plan.{asked, planOf};
 ghost use Rattle.program.specs.Onward.{onwardOf};
 ghost use Rattle.engine.specs.State.{withRun, withThree, running, originOf};
 ghost use Rattle.engine.specs.Tick.{told, finished, failed, onTo, moving, movingBy, afterPause, delaying, leading, performed};
-ghost use Rattle.engine.specs.Work.{Fits};
+ghost use Rattle.engine.specs.work.Work.{Fits};
 use super::Answer;
 use super::Engine;
 use super::Job;

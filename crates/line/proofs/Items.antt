@@ -11,12 +11,13 @@ use lib.IntN.{ℤ}
 use lib.ListN.{length, drop, set, length-append, length-drop}
 use Rattle.count.specs.Pick.{pick}
 use Rattle.count.specs.Numbers.{word, withSign}
-use Rattle.count.specs.Words.{pad, pad-put}
+use Rattle.count.proofs.laws.Words.{pad-put}
+use Rattle.count.specs.Words.{pad}
 use Rattle.line.specs.declared.numbers.Item.{Item}
 use Rattle.line.specs.declared.numbers.Item.the-variants.{Last, More, Wrong}
 use Rattle.line.specs.declared.numbers.Items.{Items}
 use Rattle.line.specs.Numbers.{Size, size, no-size, digitsBehind, digitsOf, Number, is, no-number, plus, minus, numberOf, onto, parted, Numbers, are, wrong, and-then, itemsOf, numbersOf}
-use Rattle.line.specs.Reading.{reading, itemFrom, items}
+use Rattle.line.specs.work.Reading.{reading, itemFrom, items}
 
 -- ---- 1 to 8 digits, digit by digit: d of them were read, of the size v
 

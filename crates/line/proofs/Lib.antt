@@ -2,3 +2,4 @@ pub mod Digits
 pub mod Shapes
 pub mod Items
 pub mod Only
+pub mod laws

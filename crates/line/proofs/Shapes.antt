@@ -8,7 +8,7 @@ use borrow.Author.Tests.{ne-eqb}
 use lib.Dec.{eqb}
 use lib.ListN.{length, getD, drop}
 use Rattle.count.specs.Pick.{pick}
-use Rattle.count.specs.Lists.{next}
+use Rattle.count.proofs.laws.Lists.{next}
 use Rattle.line.specs.declared.Direct.{Direct}
 use Rattle.line.specs.declared.Code.{Code}
 use Rattle.line.specs.declared.Code.the-variants as code
@@ -16,7 +16,7 @@ use Rattle.line.specs.declared.Letter.{Letter}
 use Rattle.line.specs.declared.Letter.the-variants as letter
 use Rattle.line.specs.Numbers.{Numbers, are, wrong, numbersOf}
 use Rattle.line.specs.Lines.{behind, letterOf, direct, byLetter, afterAddress, directOf, codeOf, stored, byCode, storedOf}
-use Rattle.line.specs.Reading.{spaced, items, lettered, withLetter, withCode}
+use Rattle.line.specs.work.Reading.{spaced, items, lettered, withLetter, withCode}
 
 -- ---- at most one space and then numbers
 

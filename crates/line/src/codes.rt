@@ -4,7 +4,7 @@ ghost use Prim.Native.Nat.{_≤_};
 ghost use lib.ListN.{length, drop};
 ghost use Rattle.line.specs.Numbers.{wrong};
 ghost use Rattle.line.specs.Lines.{codeOf, byCode, stored, storedOf};
-ghost use Rattle.line.specs.Reading.{withCode};
+ghost use Rattle.line.specs.work.Reading.{withCode};
 use crate::Code;
 use crate::Stored;
 use crate::numbers;

@@ -2,7 +2,7 @@
 ghost use mathlib.Core.Path.{_≡_};
 ghost use Rattle.line.specs.Numbers.{wrong};
 ghost use Rattle.line.specs.Lines.{letterOf, direct, directOf};
-ghost use Rattle.line.specs.Reading.{lettered, withLetter};
+ghost use Rattle.line.specs.work.Reading.{lettered, withLetter};
 use crate::Direct;
 use crate::Letter;
 use crate::numbers;

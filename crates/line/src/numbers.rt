@@ -4,7 +4,7 @@ ghost use Prim.Native.Nat.{_≤_};
 ghost use lib.ListN.{length, set, drop};
 ghost use Rattle.line.specs.Numbers.{numbersOf, wrong};
 ghost use Rattle.line.specs.Lines.{behind};
-ghost use Rattle.line.specs.Reading.{reading, itemFrom, spaced, items};
+ghost use Rattle.line.specs.work.Reading.{reading, itemFrom, spaced, items};
 
 // A number's word: the last of its line, or one with a comma behind it and the byte where the next number begins.
 pub(crate) enum Item {

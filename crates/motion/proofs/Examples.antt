@@ -16,7 +16,7 @@ use Rattle.motion.specs.declared.Next.the-variants.{Made}
 use Rattle.motion.specs.Phase.{pulses, steps, signAt}
 use Rattle.motion.specs.Plan.{asked, goal, goalX, goalY, goalZ1, goalZ2, firstSpeed, laterSpeed, route, goingTo, planOf, plannedPaper}
 use Rattle.motion.specs.Next.{fromOf, toOf, speedAt, skipped, nextBy, pulseOf, afterOf, leftOf, nextPaper}
-use Rattle.motion.specs.Whole.{pulsesOf, allPulses}
+use Rattle.motion.proofs.laws.Whole.{pulsesOf, allPulses}
 
 abbrev at : ℤ → ℤ → ℤ → Counters
 at x y z = record { x = count x; y = count y; z = count z }

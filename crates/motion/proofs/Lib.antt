@@ -3,3 +3,4 @@ pub mod Standing
 pub mod Routes
 pub mod Only
 pub mod Examples
+pub mod laws

@@ -9,12 +9,12 @@ use Rattle.count.specs.Pick.{pick}
 use Rattle.count.specs.Ranges.{rightSpeeds}
 use Rattle.count.specs.declared.Placed.{Placed}
 use Rattle.count.specs.declared.Placed.the-variants as placed
-use Rattle.count.specs.Truth.{and-right}
+use Rattle.count.proofs.laws.Truth.{and-right}
 use Rattle.motion.specs.declared.Move.{Move}
 use Rattle.motion.specs.declared.Planned.the-variants.{Going, Outside}
 use Rattle.motion.specs.Plan.{Asked, goalX, goalY, goalZ1, goalZ2, movesZ2, onFrom, firstSpeed, laterSpeed, route, goingTo}
 use Rattle.motion.specs.Sound.{speedRight}
-use Rattle.motion.specs.Plans.{first-right, second-right, third-right}
+use Rattle.motion.proofs.laws.Plans.{first-right, second-right, third-right}
 
 -- a movement from its resting points and speeds
 pub route-made : (q : Asked) (x y z1 z2 : ℕ) {z v1 w1 v2 w2 v3 w3 : ℕ} → z ≡ pick (q .three) z1 (q .at .z) → v1 ≡ w1 → w1 ≡ firstSpeed q x y

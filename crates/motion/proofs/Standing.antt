@@ -12,10 +12,10 @@ use Rattle.motion.specs.declared.Counters.{Counters}
 use Rattle.motion.specs.declared.Move.{Move}
 use Rattle.motion.specs.Phase.{steps, countAfter, pulses}
 use Rattle.motion.specs.Next.{fromOf, toOf, leg, afterOf}
-use Rattle.motion.specs.Axis.{below, above, steps-empty, steps-at-most}
-use Rattle.motion.specs.Pulses.{pulses-small}
+use Rattle.motion.proofs.laws.Axis.{below, above, steps-empty, steps-at-most}
+use Rattle.motion.proofs.laws.Pulses.{pulses-small}
 use Rattle.motion.specs.Sound.{inRange}
-use Rattle.motion.specs.Passed.{ranges-of, leg-x, leg-y, leg-z}
+use Rattle.motion.proofs.laws.Passed.{ranges-of, leg-x, leg-y, leg-z}
 
 -- s is the quotient of x by m exactly if m·s ≤ x < m·s + m
 quot-test : (x m s : ℕ) → 0 < m → leb (m * s) x && ltb x (m * s + m) ≡ eqb s (x / m)

@@ -12,7 +12,7 @@ use Rattle.motion.specs.declared.Stepped.{Stepped}
 use Rattle.motion.specs.Phase.{pulses, signHere, movedAll}
 use Rattle.motion.specs.Next.{leg, fromOf, toOf, speedAt, atPhase, signsBy, stepped, withinOf}
 use Rattle.motion.specs.declared.Next.the-variants.{Made, Over}
-use Rattle.motion.specs.Pulses.{pulses-small, most-x, most-y, most-z}
+use Rattle.motion.proofs.laws.Pulses.{pulses-small, most-x, most-y, most-z}
 
 -- products of the formula fit 64 bits
 pub product : (k a p q : ℕ) → k ≤ p → a ≤ q → k * a ≤ p * q

@@ -2,12 +2,4 @@ pub mod Phase
 pub mod Plan
 pub mod Next
 pub mod Sound
-pub mod Room
-pub mod Axis
-pub mod Pulses
-pub mod Passed
-pub mod Plans
-pub mod Skip
-pub mod Onward
-pub mod Whole
-pub mod Within
+pub mod work

@@ -3,7 +3,7 @@ ghost use mathlib.Core.Path.{_≡_};
 ghost use Prim.Native.Nat.{_<_, _+_, _-_};
 ghost use Rattle.motion.specs.Phase.{signHere, moved, movedAll};
 ghost use Rattle.motion.specs.Next.{fromOf, toOf, leg, speedAt, atPhase, skipped, settled, signsBy, stepped, nextOf, withinOf, leftOf, afterOf};
-ghost use Rattle.motion.specs.Room.{room, hasRoom};
+ghost use Rattle.motion.specs.work.Room.{room, hasRoom};
 use super::Counters;
 use super::Move;
 use super::Next;

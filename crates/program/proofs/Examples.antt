@@ -15,7 +15,7 @@ use Rattle.count.specs.Ranges.{inOffset, inBack, inLoop, inZero, inSwitch}
 use Rattle.program.specs.Check.{outside, early, meets, overlaps, holds, holders, strays, letter, checked, verdictPaper}
 use Rattle.program.specs.Program.{aimOf, checkOf, verdictOf}
 use Rattle.program.specs.Onward.{noLoops, inside, again, opens, looped, aimed, onwardOf, goingPaper}
-use Rattle.program.specs.Run.{Stands, begin, runOf, turnsOf}
+use Rattle.program.proofs.laws.Run.{Stands, begin, runOf, turnsOf}
 
 -- `z1`, `3 number,offset` with the offset as a word: -1 is 4,294,967,295
 abbrev pub other : Record

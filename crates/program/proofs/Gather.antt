@@ -10,19 +10,21 @@ use lib.Dec.{ltb, eqb}
 use lib.ListN.{length, getD, drop, set, replicate, length-append, length-drop}
 use lib.Seq.{drop-drop}
 use Rattle.count.specs.Pick.{pick}
-use Rattle.count.specs.Words.{pad, pad-put}
+use Rattle.count.proofs.laws.Words.{pad-put}
+use Rattle.count.specs.Words.{pad}
 use Rattle.record.specs.declared.Held.{Held}
 use Rattle.record.specs.declared.Record.{Record}
 use Rattle.record.specs.declared.Fetched.{Fetched}
 use Rattle.record.specs.Bytes.{Fetch, Got, End, Wrong, front, lengthOf, made}
 use Rattle.record.specs.Places.{inUse, recordAt, answered, Records, are, none-are, onto, then, recordsFrom, recordsOf}
-use Rattle.record.specs.Walk.{front-stands}
+use Rattle.record.proofs.laws.Walk.{front-stands}
 use Rattle.program.specs.declared.Verdict.{Verdict}
 use Rattle.program.specs.declared.Verdict.the-variants.{Unreadable}
 use Rattle.program.specs.Check.{checked}
 use Rattle.program.specs.Program.{Aim, goes, jumps, waits, loops, aimOf, isLoop, isTurn, offsetOf, aimAt, loopAt, turnAt, farAt, checkOf, verdictOn, verdictOf}
-use Rattle.program.specs.Work.{loopIn, turnIn, farIn}
-use Rattle.program.specs.Decode.{kindOf, kept, kept-same}
+use Rattle.program.specs.work.Work.{loopIn, turnIn, farIn}
+use Rattle.program.proofs.laws.Decode.{kept-same}
+use Rattle.program.specs.work.Decode.{kindOf, kept}
 
 abbrev pub found : Fetch → (Record → Verdict) → Verdict
 found (Got r) f = f r

@@ -3,3 +3,4 @@ pub mod Steps
 pub mod Gather
 pub mod Only
 pub mod Examples
+pub mod laws

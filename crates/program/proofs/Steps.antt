@@ -4,7 +4,7 @@ use mathlib.Core.Path.{_≡_, sym, _∙_}
 use mathlib.Core.Bool.{Bool, true, _&&_}
 use lib.Dec.{ltb, eqb}
 use borrow.Author.Tests.{ltb-true}
-use Rattle.count.specs.Truth.{and-left}
+use Rattle.count.proofs.laws.Truth.{and-left}
 use Rattle.program.specs.declared.Loops.{Loops}
 use Rattle.program.specs.Onward.{lastOf}
 

@@ -6,7 +6,8 @@ use native.Mathlib.Omega.{arith}
 use native.Mathlib.Numerals.{sub-one, add-one}
 use borrow.Author.Tests.{eq-eqb, ne-eqb}
 use Rattle.program.specs.Check.{some, tally, mark, meets, overlaps, letter, faultFrom, checked}
-use Rattle.program.specs.Work.{spans, heldBy, straysBy, letterBy, Lists, letter-same}
+use Rattle.program.proofs.laws.Work.{letter-same}
+use Rattle.program.specs.work.Work.{spans, heldBy, straysBy, letterBy, Lists}
 use borrow.Author.Tests.{eqb-true, eqb-false}
 use lib.Dec.{eqb}
 use lib.ListN.{length, getD, set}

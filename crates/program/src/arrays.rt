@@ -4,7 +4,7 @@ ghost use mathlib.Core.Bool.{cond};
 ghost use Prim.Native.Nat.{_+_, _≤_};
 ghost use lib.ListN.{getD};
 ghost use Rattle.program.specs.Check.{tally, meets, overlaps, early, outside, checked, mark};
-ghost use Rattle.program.specs.Work.{loopIn, turnIn, farIn, spans, heldBy, straysBy, letterBy, Lists};
+ghost use Rattle.program.specs.work.Work.{loopIn, turnIn, farIn, spans, heldBy, straysBy, letterBy, Lists};
 use crate::Verdict;
 
 fn byte_at(s: &[u8], i: u16) -> u8

@@ -2,7 +2,7 @@
 ghost use mathlib.Core.Path.{_≡_};
 ghost use lib.ListN.{length, take};
 ghost use Rattle.program.specs.Program.{aimOf, verdictOf};
-ghost use Rattle.program.specs.Decode.{kindOf, clip, kept};
+ghost use Rattle.program.specs.work.Decode.{kindOf, clip, kept};
 use crate::Verdict;
 use crate::arrays::check_arrays;
 use record::Held;

@@ -7,7 +7,7 @@ ghost use lib.ListN.{set};
 ghost use Rattle.count.specs.Numbers.{signed};
 ghost use Rattle.count.specs.Ranges.{nth};
 ghost use Rattle.program.specs.Onward.{onwardOf, aimed, looped, again, opens, opened, lastOf, counter, to, wrong, went};
-ghost use Rattle.program.specs.Target.{leads};
+ghost use Rattle.program.specs.work.Target.{leads};
 ghost use Rattle.program.specs.declared.Going.the-variants.{Waits};
 use crate::Going;
 use crate::Loop;

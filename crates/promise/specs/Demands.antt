@@ -17,7 +17,7 @@ use Rattle.record.specs.declared.Record.{Record}
 use Rattle.record.specs.Places.{recordsOf, inUse}
 use Rattle.record.specs.Places.Records.{are}
 use Rattle.record.specs.Listing.{listText}
-use Rattle.record.specs.Below.{Below}
+use Rattle.record.specs.Bytes.{Below}
 use Rattle.program.specs.Program.{accepted}
 use Rattle.engine.specs.declared.Job.{Job}
 use Rattle.engine.specs.declared.Job.the-variants as job

@@ -1,9 +1,9 @@
 -- Demand 2 in its smallest form: a machine that a host reads as a board does what the definitions say of that board.
 use Prim.Native.Nat.{ℕ}
 use mathlib.Core.List.{List}
-use mathlib.Core.Path.{_≡_, refl}
+use mathlib.Core.Path.{_≡_}
 use Rattle.board.specs.Calls.{receiving, clocking}
-use Rattle.promise.specs.Machine.{Machine, Lent, heardBy, clockedBy, ours}
+use Rattle.promise.specs.Machine.{Machine, Lent, heardBy, clockedBy}
 
 -- demand 2: what a byte and a clock call come to is what the definitions say of the board that a host reads
 pub record Follows (m : Machine) : Type 0 where
@@ -13,6 +13,3 @@ pub record Follows (m : Machine) : Type 0 where
       m .board ((m .hear v ports l s) .0) ≡ receiving v ports (m .board s) (l .reply) (l .store) .result .board
   pub ticks : (store : List ℕ) (s : m .State) → (m .tick store s) .1 ≡ clockedBy (clocking (m .board s) store)
   pub ticked : (store : List ℕ) (s : m .State) → m .board ((m .tick store s) .0) ≡ clocking (m .board s) store .board
-
-pub ours-follows : Follows ours
-ours-follows = record { hears = λ v ports l s. refl; heard = λ v ports l s. refl; ticks = λ store s. refl; ticked = λ store s. refl }

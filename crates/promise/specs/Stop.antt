@@ -19,7 +19,7 @@ use Rattle.board.specs.State.{board, noLine, textOf, sound}
 use Rattle.board.specs.Direct.{replyOf}
 use Rattle.promise.specs.Machine.{Machine, Heard, lent}
 use Rattle.promise.specs.Demands.{isWaiting}
-use Rattle.promise.specs.Guard.{Each, reached, shown, Along, keptOf}
+use Rattle.promise.specs.Steps.{Each, reached, shown, Along, keptOf}
 
 -- ---- schedules: received bytes with their ports and clock calls. Each is lent a reply buffer and the one store, as the call before it
 -- left it.

@@ -9,7 +9,7 @@ use lib.IntN.{ℤ}
 use Rattle.count.specs.Pick.{pick}
 use Rattle.count.specs.Paper.{Paper}
 use Rattle.promise.specs.Machine.{Machine}
-use Rattle.promise.specs.Guard.{Each}
+use Rattle.promise.specs.Steps.{Each}
 use Rattle.promise.specs.Stop.{Step, Mildly, Unstopped, over, unsped, speedsOf, Place, boardAt, last, answers, counted, taken, Begun, StopChangesNothing, StopsCanBeLeftOut, StopHolds, StopElseDoesNothing, StartGoesOn, StopAndStart}
 
 -- of a list of answers those with a number: 1 the pulses, 3 the sent characters

@@ -12,7 +12,7 @@ use Rattle.count.specs.Numbers.{value, count, half}
 use Rattle.count.specs.Paper.{Paper, says}
 use Rattle.sheet.specs.declared.Rate.the-variants.{PerMinute}
 use Rattle.sheet.specs.Sheet.{float, minusFloat, found, distanceOf, speedOf}
-use Rattle.sheet.specs.Examples.{axis}
+use Rattle.sheet.specs.Sheet.{axis}
 use Rattle.engine.specs.State.{paper, zeroes, nothingHeld, idle}
 use Rattle.board.specs.declared.Board.{Board}
 use Rattle.board.specs.State.{board, noLine}

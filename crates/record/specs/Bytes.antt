@@ -1,6 +1,6 @@
 -- A record as bytes and back (01, "Store", sentence 1): mark 0xD7 0x2B, code byte, count of numbers, each number as four bytes, lowest
 -- first, two's complement.
-use Prim.Native.Nat.{ℕ, zero, suc, _+_, _*_, _/_, _%_}
+use Prim.Native.Nat.{ℕ, zero, suc, _+_, _*_, _/_, _%_, _<_}
 use mathlib.Core.List.{List, [], _∷_, _++_}
 use mathlib.Core.Bool.{Bool, _&&_}
 use lib.ListN.{length, getD, take, drop}
@@ -65,3 +65,7 @@ front axes s =
     (ifRight axes (made (getD s 2 0) (wordsOf (getD s 3 0) (drop 4 s))))
     Wrong)
     Wrong)
+
+-- the bytes of a store are below 256, the words of a record below 2 ^ 32: every element of a list is below n
+pub record Below (n : ℕ) (l : List ℕ) : Type 0 where
+  pub at : (j : ℕ) → getD l j 0 < n

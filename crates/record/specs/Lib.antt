@@ -3,13 +3,4 @@ pub mod Bytes
 pub mod Places
 pub mod Keep
 pub mod Listing
-pub mod Work
-pub mod Walk
-pub mod Put
-pub mod Below
-pub mod Right
-pub mod Stored
-pub mod Faultless
-pub mod Lines
-pub mod Writing
-pub mod Told
+pub mod work

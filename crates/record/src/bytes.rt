@@ -4,7 +4,7 @@ ghost use Prim.Native.Nat.{_+_, _*_, _≤_, _<_};
 ghost use lib.ListN.{length, take};
 ghost use Rattle.count.specs.Words.{pad};
 ghost use Rattle.record.specs.Bytes.{wordAt, wordsOf, front};
-ghost use Rattle.record.specs.Work.{headOf};
+ghost use Rattle.record.specs.work.Work.{headOf};
 ghost use Rattle.record.specs.Places.{recordAt, answered, none};
 use super::Fetched;
 use super::Found;

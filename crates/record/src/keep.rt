@@ -5,7 +5,7 @@ ghost use Prim.Native.Nat.{min, _+_, _*_, _≤_};
 ghost use lib.ListN.{length, take, drop};
 ghost use Rattle.record.specs.Bytes.{bytes4, numBytes};
 ghost use Rattle.record.specs.Keep.{storing, hasRoom, storeOf};
-ghost use Rattle.record.specs.Put.{headBytes};
+ghost use Rattle.record.specs.work.Put.{headBytes};
 use super::Held;
 use super::Kept;
 use super::Record;

@@ -6,7 +6,7 @@ ghost use Prim.Native.Nat.{_+_, _≤_};
 ghost use lib.ListN.{length, take, drop};
 ghost use Rattle.record.specs.Places.{recordsFrom, isList};
 ghost use Rattle.record.specs.Listing.{lineText, listText, telling, listOf};
-ghost use Rattle.record.specs.Writing.{itemText, lineLeft, listIn};
+ghost use Rattle.record.specs.work.Writing.{itemText, lineLeft, listIn};
 use super::Held;
 use super::Listed;
 use super::Record;

@@ -4,3 +4,4 @@ pub mod Pattern
 pub mod Sign
 pub mod Range
 pub mod Only
+pub mod laws

@@ -11,7 +11,7 @@ use lib.Ieee.Fits.{down-pos}
 use lib.Ieee.Exact.{HasValue, odd-sign}
 use lib.Ieee.Nearest.{div-same}
 use Rattle.sheet.specs.Sheet.{halfUp, near}
-use Rattle.sheet.specs.Work.{capped}
+use Rattle.sheet.specs.work.Work.{capped}
 
 -- ---- a half more, rounded down, of a fraction a / c
 

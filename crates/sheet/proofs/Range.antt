@@ -11,10 +11,10 @@ use mir.Syntax.{w32, w64}
 use mir.Val.{SFits, toZ, ofZ}
 use mir.ValLaws.{toZ-pos, toZ-ofZ}
 use borrow.Author.Tests.{leb-true, leb-false, le-leb, lt-leb}
-use Rattle.count.specs.Truth.{and-left}
+use Rattle.count.proofs.laws.Truth.{and-left}
 use Rattle.sheet.specs.declared.Converted.{Converted}
 use Rattle.sheet.specs.Sheet.{near, signed, refused, wholeSteps, wholeSpeed, rounded}
-use Rattle.sheet.specs.Work.{cappedWhole}
+use Rattle.sheet.specs.work.Work.{cappedWhole}
 
 -- what refuses every size from 2 ^ 24 up answers the same of a size and of the size cut there
 cut : (f : ℕ → Converted) → ((k : ℕ) → 16777216 ≤ k → f k ≡ refused 203) → (k : ℕ) → f k ≡ f (min k 16777216)

@@ -9,7 +9,7 @@ use lib.Ieee.Bits.{ofBits-toBits}
 use lib.Ieee.Compare.{differs-from-itself}
 use lib.Ieee.Exact.{HasValue, odd-sign}
 use Rattle.sheet.specs.Sheet.{signed}
-use Rattle.sheet.specs.Work.{capped, cappedWhole}
+use Rattle.sheet.specs.work.Work.{capped, cappedWhole}
 use Rattle.sheet.proofs.Pattern.{ofBits-is}
 
 pub only-nan : (x : Float) → ne x x ≡ true → x ≡ nan

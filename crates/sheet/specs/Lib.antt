@@ -1,4 +1,2 @@
 pub mod Sheet
-pub mod Work
-pub mod Laws
-pub mod Examples
+pub mod work

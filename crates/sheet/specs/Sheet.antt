@@ -17,6 +17,10 @@ float n d = round binary64 false n d
 unfoldable pub minusFloat : ℕ → ℕ → Float
 minusFloat n d = round binary64 true n d
 
+-- an axis of whole numbers
+abbrev pub axis : ℕ → ℕ → ℕ → Axis
+axis l s g = record { lead = float l 1; steps = float s 1; gear = float g 1 }
+
 -- ---- 01, "The sheet", sentence 1: the lead, the steps per turn and the gear ratio are each from 0.001 to 1,000,000
 
 -- from lo to hi, both included; not-a-number is on neither side of any float (sentence 4)

@@ -3,7 +3,7 @@ ghost use mathlib.Core.Path.{_≡_};
 ghost use Prim.Native.Nat.{_^_};
 ghost use lib.Ieee.{binary64, ofBits};
 ghost use Rattle.sheet.specs.Sheet.{axisRight, distanceRight, rateRight, between, distanceFloat, speedFloat, halfUp, wholeSteps, wholeSpeed, distanceSteps, speedSteps, refused, distanceOf, speedOf};
-ghost use Rattle.sheet.specs.Work.{Room, capped, cappedWhole};
+ghost use Rattle.sheet.specs.work.Work.{Room, capped, cappedWhole};
 
 // What an axis is, each a 64-bit float.
 pub struct Axis {

@@ -1,7 +1,7 @@
 -- `count::add` meets its contract: each return by the tests that led there. Assumes nothing.
 use mathlib.Core.Path.{sym}
 use borrow.Author.Tests.{lt-ltb, le-ltb}
-use Rattle.count.specs.Laws.{added-low, added-high, added-below}
+use Rattle.count.proofs.laws.Laws.{added-low, added-high, added-below}
 use borrow.Author.Needs.{needs}
 use Rattle.count.proofs.add.Statement.{statement}
 use Rattle.count.proofs.add.Tie as tie

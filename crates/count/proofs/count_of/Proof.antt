@@ -1,7 +1,7 @@
 -- `count::count_of` meets its contract. Assumes nothing.
 use mathlib.Core.Path.{sym}
 use native.Mathlib.Omega.{arith}
-use Rattle.count.specs.Laws.{placed-low, placed-high, placed-outside}
+use Rattle.count.proofs.laws.Laws.{placed-low, placed-high, placed-outside}
 use borrow.Author.Needs.{needs}
 use Rattle.count.proofs.count_of.Statement.{statement}
 use Rattle.count.proofs.count_of.Tie as tie

@@ -1,7 +1,7 @@
 -- `count::count_word` meets its contract. Assumes nothing.
 use mathlib.Core.Path.{sym}
 use native.Mathlib.Omega.{arith}
-use Rattle.count.specs.Laws.{word-value-low, word-value-high}
+use Rattle.count.proofs.laws.Laws.{word-value-low, word-value-high}
 use borrow.Author.Needs.{needs}
 use Rattle.count.proofs.count_word.Statement.{statement}
 use Rattle.count.proofs.count_word.Tie as tie

@@ -2,7 +2,7 @@
 use mathlib.Core.Path.{sym}
 use native.Mathlib.Omega.{arith}
 use Rattle.count.specs.Numbers.{word}
-use Rattle.count.specs.Laws.{word-minus, word-plus}
+use Rattle.count.proofs.laws.Laws.{word-minus, word-plus}
 use borrow.Author.Needs.{needs}
 use Rattle.count.proofs.word_of.Statement.{statement}
 use Rattle.count.proofs.word_of.Tie as tie

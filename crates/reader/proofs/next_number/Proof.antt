@@ -5,7 +5,7 @@ use mathlib.Core.Bool.{Bool, true, false, not, _&&_, _||_}
 use mathlib.Core.List.{List}
 use lib.Dec.{eqb}
 use lib.ListN.{length, drop, getD, drop-of-length-le}
-use Rattle.count.specs.Lists.{next}
+use Rattle.count.proofs.laws.Lists.{next}
 use Rattle.reader.specs.Reader.{isDigit, withDigit, number, reading, numberAt}
 use borrow.Author.Needs.{needs}
 use Rattle.reader.proofs.next_number.Statement.{statement}

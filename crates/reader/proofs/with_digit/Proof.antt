@@ -1,6 +1,6 @@
 -- `reader::with_digit` meets its contract: by its tests. Assumes nothing.
 use Rattle.count.specs.Pick.{tests}
-use Rattle.count.specs.Truth.{and-false}
+use Rattle.count.proofs.laws.Truth.{and-false}
 use Rattle.reader.specs.Reader.{withDigit}
 use borrow.Author.Needs.{needs}
 use Rattle.reader.proofs.with_digit.Statement.{statement}

@@ -6,7 +6,7 @@ use lib.Dec.{T, leb}
 use lib.Ieee.{binary64, toBits, ofBits}
 use borrow.Author.Tests.{le-leb, lt-leb}
 use Rattle.sheet.specs.Sheet.{signed}
-use Rattle.sheet.specs.Work.{cappedWhole}
+use Rattle.sheet.specs.work.Work.{cappedWhole}
 use Rattle.sheet.proofs.Range.{plus-fits, plus-back, minus-fits, minus-back}
 use Rattle.sheet.proofs.Sign.{only-nan, no-nan, from-pattern, capped-small}
 use Rattle.sheet.proofs.nearest.Statement.{statement}

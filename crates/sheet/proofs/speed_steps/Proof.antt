@@ -6,7 +6,7 @@ use mir.Val.{toZ, ofZ}
 use mir.ValLaws.{toZ-ofZ}
 use lib.Ieee.{Float, binary64, div, ofBits}
 use Rattle.sheet.specs.Sheet.{speedSteps, wholeSpeed, rounded}
-use Rattle.sheet.specs.Work.{cappedWhole}
+use Rattle.sheet.specs.work.Work.{cappedWhole}
 use Rattle.sheet.proofs.Numbers.{sixty}
 use Rattle.sheet.proofs.Range.{capped-back, speed-by}
 use borrow.Author.Needs.{needs}

@@ -1,6 +1,6 @@
 -- `board::Board::begin` meets its contract. Assumes nothing.
 use borrow.Author.Tests.{eq-eqb, ne-eqb}
-use Rattle.board.specs.Work.{begunWith}
+use Rattle.board.specs.work.Work.{begunWith}
 use borrow.Author.Needs.{needs}
 use Rattle.board.proofs.Board.begin.Statement.{statement}
 use Rattle.board.proofs.Board.begin.Tie as tie

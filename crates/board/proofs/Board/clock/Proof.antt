@@ -2,7 +2,7 @@
 use mathlib.Core.Path.{sym, _∙_}
 use borrow.Author.Tests.{eq-eqb, ne-eqb, not-false}
 use Rattle.board.specs.Calls.{clocking}
-use Rattle.board.specs.Hears.{clocked-so}
+use Rattle.board.proofs.laws.Hears.{clocked-so}
 use borrow.Author.Needs.{needs}
 use Rattle.board.proofs.Board.clock.Statement.{statement}
 use Rattle.board.proofs.Board.clock.Tie as tie

@@ -1,5 +1,5 @@
 -- `board::Board::end_line` meets its contract. Assumes nothing.
-use Rattle.board.specs.Hears.{return-over, return-stored, return-direct}
+use Rattle.board.proofs.laws.Hears.{return-over, return-stored, return-direct}
 use borrow.Author.Needs.{needs}
 use Rattle.board.proofs.Board.end_line.Statement.{statement}
 use Rattle.board.proofs.Board.end_line.Tie as tie

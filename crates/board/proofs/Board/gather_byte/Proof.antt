@@ -1,5 +1,5 @@
 -- `board::Board::gather_byte` meets its contract. Assumes nothing.
-use Rattle.board.specs.Hears.{gather-return, gather-byte}
+use Rattle.board.proofs.laws.Hears.{gather-return, gather-byte}
 use borrow.Author.Needs.{needs}
 use Rattle.board.proofs.Board.gather_byte.Statement.{statement}
 use Rattle.board.proofs.Board.gather_byte.Tie as tie

@@ -1,5 +1,5 @@
 -- `board::Board::hear` meets its contract. Assumes nothing.
-use Rattle.board.specs.Hears.{hear-stop, hear-reset, hear-break, hear-ordinary}
+use Rattle.board.proofs.laws.Hears.{hear-stop, hear-reset, hear-break, hear-ordinary}
 use borrow.Author.Needs.{needs}
 use Rattle.board.proofs.Board.hear.Statement.{statement}
 use Rattle.board.proofs.Board.hear.Tie as tie

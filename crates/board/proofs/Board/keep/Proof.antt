@@ -1,5 +1,5 @@
 -- `board::Board::keep` meets its contract. Assumes nothing.
-use Rattle.board.specs.Stores.{not-kept}
+use Rattle.board.proofs.laws.Stores.{not-kept}
 use borrow.Author.Needs.{needs}
 use Rattle.board.proofs.Board.keep.Statement.{statement}
 use Rattle.board.proofs.Board.keep.Tie as tie

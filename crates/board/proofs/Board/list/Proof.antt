@@ -2,7 +2,7 @@
 use mathlib.Core.Path.{sym, _∙_}
 use borrow.Author.Tests.{eq-eqb, ne-eqb, not-false}
 use Rattle.board.specs.Calls.{listing}
-use Rattle.board.specs.Hears.{listed-so}
+use Rattle.board.proofs.laws.Hears.{listed-so}
 use borrow.Author.Needs.{needs}
 use Rattle.board.proofs.Board.list.Statement.{statement}
 use Rattle.board.proofs.Board.list.Tie as tie

@@ -1,6 +1,6 @@
 -- `board::Board::obey` meets its contract. Assumes nothing.
 use borrow.Author.Tests.{eq-eqb, ne-eqb}
-use Rattle.board.specs.Work.{obeyed}
+use Rattle.board.specs.work.Work.{obeyed}
 use borrow.Author.Needs.{needs}
 use Rattle.board.proofs.Board.obey.Statement.{statement}
 use Rattle.board.proofs.Board.obey.Tie as tie

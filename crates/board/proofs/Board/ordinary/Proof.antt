@@ -1,5 +1,5 @@
 -- `board::Board::ordinary` meets its contract. Assumes nothing.
-use Rattle.board.specs.Hears.{ear-gathers, ear-waits, ear-drops}
+use Rattle.board.proofs.laws.Hears.{ear-gathers, ear-waits, ear-drops}
 use borrow.Author.Needs.{needs}
 use Rattle.board.proofs.Board.ordinary.Statement.{statement}
 use Rattle.board.proofs.Board.ordinary.Tie as tie

@@ -1,5 +1,5 @@
 -- `board::Board::quit` meets its contract. Assumes nothing.
-use Rattle.board.specs.Work.{breakSpoke}
+use Rattle.board.specs.work.Work.{breakSpoke}
 use borrow.Author.Needs.{needs}
 use Rattle.board.proofs.Board.quit.Statement.{statement}
 use Rattle.board.proofs.Board.quit.Tie as tie

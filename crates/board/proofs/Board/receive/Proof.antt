@@ -2,7 +2,7 @@
 use mathlib.Core.Path.{sym, _∙_}
 use borrow.Author.Tests.{lt-ltb, le-ltb, eq-eqb, ne-eqb, not-false}
 use Rattle.board.specs.Calls.{receiving}
-use Rattle.board.specs.Hears.{sound-line, received-so}
+use Rattle.board.proofs.laws.Hears.{sound-line, received-so}
 use borrow.Author.Needs.{needs}
 use Rattle.board.proofs.Board.receive.Statement.{statement}
 use Rattle.board.proofs.Board.receive.Tie as tie

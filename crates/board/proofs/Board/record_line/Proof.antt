@@ -2,7 +2,7 @@
 use mathlib.Core.Path.{sym, _∙_}
 use native.Mathlib.Omega.{arith}
 use Rattle.board.specs.Storing.{recordOf}
-use Rattle.board.specs.Stores.{record-refused, record-kept, count-small}
+use Rattle.board.proofs.laws.Stores.{record-refused, record-kept, count-small}
 use borrow.Author.Needs.{needs}
 use Rattle.board.proofs.Board.record_line.Statement.{statement}
 use Rattle.board.proofs.Board.record_line.Tie as tie

@@ -1,6 +1,6 @@
 -- `board::Board::start` meets its contract. Assumes nothing.
 use borrow.Author.Tests.{eq-eqb, ne-eqb}
-use Rattle.board.specs.Work.{startedBy}
+use Rattle.board.specs.work.Work.{startedBy}
 use borrow.Author.Needs.{needs}
 use Rattle.board.proofs.Board.start.Statement.{statement}
 use Rattle.board.proofs.Board.start.Tie as tie

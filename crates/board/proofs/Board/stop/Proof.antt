@@ -1,5 +1,5 @@
 -- `board::Board::stop` meets its contract. Assumes nothing.
-use Rattle.board.specs.Work.{stopSpoke}
+use Rattle.board.specs.work.Work.{stopSpoke}
 use borrow.Author.Needs.{needs}
 use Rattle.board.proofs.Board.stop.Statement.{statement}
 use Rattle.board.proofs.Board.stop.Tie as tie

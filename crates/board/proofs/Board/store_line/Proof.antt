@@ -1,6 +1,6 @@
 -- `board::Board::store_line` meets its contract. Assumes nothing.
 use Rattle.board.specs.State.{textOf}
-use Rattle.board.specs.Stores.{code-right, stored-wrong, stored-record, stored-end}
+use Rattle.board.proofs.laws.Stores.{code-right, stored-wrong, stored-record, stored-end}
 use borrow.Author.Needs.{needs}
 use Rattle.board.proofs.Board.store_line.Statement.{statement}
 use Rattle.board.proofs.Board.store_line.Tie as tie

@@ -1,6 +1,6 @@
 -- `board::letters::axes_fault` meets its contract. Assumes nothing.
 use borrow.Author.Tests.{eq-eqb, ne-eqb}
-use Rattle.board.specs.Work.{axesFault}
+use Rattle.board.specs.work.Work.{axesFault}
 use Rattle.board.proofs.letters.axes_fault.Statement.{statement}
 use Rattle.board.proofs.letters.axes_fault.Tie as tie
 

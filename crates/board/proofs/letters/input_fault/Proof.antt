@@ -1,6 +1,6 @@
 -- `board::letters::input_fault` meets its contract. Assumes nothing.
 use borrow.Author.Tests.{eq-eqb, ne-eqb}
-use Rattle.board.specs.Work.{inputFault}
+use Rattle.board.specs.work.Work.{inputFault}
 use borrow.Author.Needs.{needs}
 use Rattle.board.proofs.letters.input_fault.Statement.{statement}
 use Rattle.board.proofs.letters.input_fault.Tie as tie

@@ -1,5 +1,5 @@
 -- `board::letters::line_fault` meets its contract. Assumes nothing.
-use Rattle.board.specs.Work.{lineFault}
+use Rattle.board.specs.work.Work.{lineFault}
 use borrow.Author.Needs.{needs}
 use Rattle.board.proofs.letters.line_fault.Statement.{statement}
 use Rattle.board.proofs.letters.line_fault.Tie as tie

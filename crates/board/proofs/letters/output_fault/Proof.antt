@@ -1,6 +1,6 @@
 -- `board::letters::output_fault` meets its contract. Assumes nothing.
 use borrow.Author.Tests.{eq-eqb, ne-eqb}
-use Rattle.board.specs.Work.{outputFault}
+use Rattle.board.specs.work.Work.{outputFault}
 use borrow.Author.Needs.{needs}
 use Rattle.board.proofs.letters.output_fault.Statement.{statement}
 use Rattle.board.proofs.letters.output_fault.Tie as tie

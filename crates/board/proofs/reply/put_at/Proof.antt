@@ -1,5 +1,5 @@
 -- `board::reply::put_at` meets its contract. Assumes nothing.
-use Rattle.board.specs.Puts.{report-put}
+use Rattle.board.proofs.laws.Puts.{report-put}
 use borrow.Author.Needs.{needs}
 use Rattle.board.proofs.reply.put_at.Statement.{statement}
 use Rattle.board.proofs.reply.put_at.Tie as tie

@@ -1,5 +1,5 @@
 -- `board::reply::put_one` meets its contract. Assumes nothing.
-use Rattle.board.specs.Puts.{one-put}
+use Rattle.board.proofs.laws.Puts.{one-put}
 use borrow.Author.Needs.{needs}
 use Rattle.board.proofs.reply.put_one.Statement.{statement}
 use Rattle.board.proofs.reply.put_one.Tie as tie

@@ -1,5 +1,5 @@
 -- `board::reply::put_port` meets its contract. Assumes nothing.
-use Rattle.board.specs.Puts.{port-put}
+use Rattle.board.proofs.laws.Puts.{port-put}
 use borrow.Author.Needs.{needs}
 use Rattle.board.proofs.reply.put_port.Statement.{statement}
 use Rattle.board.proofs.reply.put_port.Tie as tie

@@ -1,5 +1,5 @@
 -- `board::reply::put_positions` meets its contract. Assumes nothing.
-use Rattle.board.specs.Puts.{kept-one, kept-two, kept-three, positions-put}
+use Rattle.board.proofs.laws.Puts.{kept-one, kept-two, kept-three, positions-put}
 use native.Mathlib.Omega.{arith}
 use mathlib.Core.List.{[]}
 use lib.ListN.{length-set}

@@ -2,7 +2,7 @@
 use mathlib.Core.Path.{sym}
 use native.Mathlib.Omega.{arith}
 use Rattle.count.specs.Numbers.{in24}
-use Rattle.count.specs.Laws.{within-both}
+use Rattle.count.proofs.laws.Laws.{within-both}
 use Rattle.count.proofs.ranges.is_24.Statement.{statement}
 use Rattle.count.proofs.ranges.is_24.Tie as tie
 

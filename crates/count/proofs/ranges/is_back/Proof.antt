@@ -2,7 +2,7 @@
 use mathlib.Core.Path.{sym}
 use native.Mathlib.Omega.{arith}
 use Rattle.count.specs.Ranges.{inBack}
-use Rattle.count.specs.Laws.{within-down}
+use Rattle.count.proofs.laws.Laws.{within-down}
 use Rattle.count.proofs.ranges.is_back.Statement.{statement}
 use Rattle.count.proofs.ranges.is_back.Tie as tie
 

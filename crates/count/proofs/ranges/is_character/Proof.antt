@@ -2,7 +2,7 @@
 use mathlib.Core.Path.{sym}
 use native.Mathlib.Omega.{arith}
 use Rattle.count.specs.Ranges.{inCharacter}
-use Rattle.count.specs.Laws.{within-up}
+use Rattle.count.proofs.laws.Laws.{within-up}
 use Rattle.count.proofs.ranges.is_character.Statement.{statement}
 use Rattle.count.proofs.ranges.is_character.Tie as tie
 

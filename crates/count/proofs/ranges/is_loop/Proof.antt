@@ -2,7 +2,7 @@
 use mathlib.Core.Path.{sym}
 use native.Mathlib.Omega.{arith}
 use Rattle.count.specs.Ranges.{inLoop}
-use Rattle.count.specs.Laws.{within-up}
+use Rattle.count.proofs.laws.Laws.{within-up}
 use Rattle.count.proofs.ranges.is_loop.Statement.{statement}
 use Rattle.count.proofs.ranges.is_loop.Tie as tie
 

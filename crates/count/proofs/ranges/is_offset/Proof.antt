@@ -2,7 +2,7 @@
 use mathlib.Core.Path.{sym}
 use native.Mathlib.Omega.{arith}
 use Rattle.count.specs.Ranges.{inOffset}
-use Rattle.count.specs.Laws.{within-both}
+use Rattle.count.proofs.laws.Laws.{within-both}
 use Rattle.count.proofs.ranges.is_offset.Statement.{statement}
 use Rattle.count.proofs.ranges.is_offset.Tie as tie
 

@@ -2,7 +2,7 @@
 use mathlib.Core.Path.{sym}
 use native.Mathlib.Omega.{arith}
 use Rattle.count.specs.Ranges.{inSwitch}
-use Rattle.count.specs.Laws.{within-zero}
+use Rattle.count.proofs.laws.Laws.{within-zero}
 use Rattle.count.proofs.ranges.is_switch.Statement.{statement}
 use Rattle.count.proofs.ranges.is_switch.Tie as tie
 

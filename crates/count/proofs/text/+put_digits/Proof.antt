@@ -6,8 +6,8 @@ use native.Mathlib.Omega.{arith}
 use lib.ListN.{length, length-append}
 use Rattle.count.specs.Text.{digits}
 use lib.Seq.{sets-eq}
-use Rattle.count.specs.Lists.{put-behind}
-use Rattle.count.specs.Digits.{digits-small, digits-large, digits-long}
+use Rattle.count.proofs.laws.Lists.{put-behind}
+use Rattle.count.proofs.laws.Digits.{digits-small, digits-large, digits-long}
 use borrow.Author.Needs.{needs}
 use Prim.Native.Nat.{ℕ, _<_}
 use borrow.Fn.Kinds.{In}

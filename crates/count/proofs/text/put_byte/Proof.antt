@@ -6,7 +6,7 @@ use mathlib.Core.List.{[], _∷_}
 use lib.Seq.{sets-eq}
 use lib.ListN.{length}
 use Rattle.count.specs.Text.{written, twoHex}
-use Rattle.count.specs.Digits.{hexes-two, wrote-short, wrote-long}
+use Rattle.count.proofs.laws.Digits.{hexes-two, wrote-short, wrote-long}
 use borrow.Author.Needs.{needs}
 use Rattle.count.proofs.text.put_byte.Statement.{statement}
 use Rattle.count.proofs.text.put_byte.Tie as tie

@@ -6,8 +6,8 @@ use lib.IntN.{negsuc}
 use lib.ListN.{length}
 use Rattle.count.specs.Numbers.{half, value}
 use Rattle.count.specs.Text.{written, shown}
-use Rattle.count.specs.Laws.{sub-pos, sub-neg}
-use Rattle.count.specs.Digits.{wrote-short, wrote-long}
+use Rattle.count.proofs.laws.Laws.{sub-pos, sub-neg}
+use Rattle.count.proofs.laws.Digits.{wrote-short, wrote-long}
 use borrow.Author.Needs.{needs}
 use Rattle.count.proofs.text.put_count.Statement.{statement}
 use Rattle.count.proofs.text.put_count.Tie as tie

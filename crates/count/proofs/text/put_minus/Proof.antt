@@ -8,8 +8,8 @@ use lib.IntN.{negsuc}
 use lib.ListN.{length, take, drop, set}
 use borrow.Rule.Slice.PartMut.{putMid}
 use Rattle.count.specs.Text.{digits, shown}
-use Rattle.count.specs.Lists.{rest, set-front, drop-one}
-use Rattle.count.specs.Digits.{digits-most}
+use Rattle.count.proofs.laws.Lists.{rest, set-front, drop-one}
+use Rattle.count.proofs.laws.Digits.{digits-most}
 use borrow.Author.Needs.{needs}
 use Rattle.count.proofs.text.put_minus.Statement.{statement}
 use Rattle.count.proofs.text.put_minus.Tie as tie

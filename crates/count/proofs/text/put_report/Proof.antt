@@ -6,7 +6,7 @@ use mathlib.Core.List.{[], _∷_}
 use lib.Seq.{sets-eq}
 use lib.ListN.{length, length-set}
 use Rattle.count.specs.Text.{written, report}
-use Rattle.count.specs.Digits.{hexes-six, wrote-short, wrote-long}
+use Rattle.count.proofs.laws.Digits.{hexes-six, wrote-short, wrote-long}
 use borrow.Author.Needs.{needs}
 use Rattle.count.proofs.text.put_report.Statement.{statement}
 use Rattle.count.proofs.text.put_report.Tie as tie

@@ -5,8 +5,8 @@ use native.Mathlib.Omega.{arith}
 use lib.ListN.{length}
 use Rattle.count.specs.Numbers.{half}
 use Rattle.count.specs.Text.{written, shown}
-use Rattle.count.specs.Laws.{signed-low, signed-high}
-use Rattle.count.specs.Digits.{wrote-short, wrote-long}
+use Rattle.count.proofs.laws.Laws.{signed-low, signed-high}
+use Rattle.count.proofs.laws.Digits.{wrote-short, wrote-long}
 use borrow.Author.Needs.{needs}
 use Rattle.count.proofs.text.put_word.Statement.{statement}
 use Rattle.count.proofs.text.put_word.Tie as tie

@@ -5,7 +5,7 @@ use native.Mathlib.Nat.{mod-eq-of-lt}
 use native.Mathlib.Omega.{arith}
 use Rattle.count.specs.Numbers.{half, full}
 use Rattle.count.specs.Text.{twos24}
-use Rattle.count.specs.Laws.{sub-pos, sub-neg}
+use Rattle.count.proofs.laws.Laws.{sub-pos, sub-neg}
 use borrow.Author.Needs.{needs}
 use Rattle.count.proofs.text.twos_24.Statement.{statement}
 use Rattle.count.proofs.text.twos_24.Tie as tie

@@ -6,7 +6,7 @@ use borrow.Author.Tests.{not-true, not-false}
 use Rattle.course.specs.declared.Portion.{Portion}
 use Rattle.course.specs.Run.{running}
 use Rattle.course.specs.Walk.{walk, ready}
-use Rattle.course.specs.Work.{doneOf}
+use Rattle.course.specs.Walk.{doneOf}
 use Rattle.course.proofs.Portions.{on-over, on-unready, on-made, run-few}
 use borrow.Author.Needs.{needs}
 use Rattle.course.proofs.Walk.go_on.Statement.{statement}

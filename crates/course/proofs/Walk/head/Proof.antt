@@ -1,6 +1,6 @@
 -- `course::Walk::head` meets its contract. Assumes nothing.
 use mathlib.Core.Path.{sym}
-use Rattle.count.specs.Digits.{wrote-short}
+use Rattle.count.proofs.laws.Digits.{wrote-short}
 use Rattle.course.specs.Text.{headText}
 use Rattle.course.specs.Walk.{headDone}
 use Rattle.course.proofs.Portions.{written-of}

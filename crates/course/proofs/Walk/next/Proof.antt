@@ -8,7 +8,7 @@ use lib.ListN.{length}
 use borrow.Author.Tests.{not-true, not-false}
 use Rattle.course.specs.declared.Portion.{Portion}
 use Rattle.course.specs.Walk.{walk, ready}
-use Rattle.course.specs.Work.{doneOf}
+use Rattle.course.specs.Walk.{doneOf}
 use Rattle.course.proofs.Portions.{ready-parts}
 use Rattle.course.proofs.Bytes.{next-on, next-unready, next-made, next-still, framed-here, reply-fits, line-fits, run-fits, mid-long}
 use borrow.Author.Needs.{needs}

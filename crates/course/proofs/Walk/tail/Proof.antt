@@ -1,6 +1,6 @@
 -- `course::Walk::tail` meets its contract. Assumes nothing.
 use mathlib.Core.Path.{sym}
-use Rattle.count.specs.Digits.{wrote-short}
+use Rattle.count.proofs.laws.Digits.{wrote-short}
 use Rattle.course.specs.Walk.{tailDone}
 use Rattle.course.proofs.Behind.{wrote-then}
 use Rattle.course.proofs.Portions.{tail-over, tail-on}

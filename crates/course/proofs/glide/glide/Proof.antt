@@ -5,8 +5,8 @@ use native.Mathlib.Omega.{arith}
 use lib.ListN.{length}
 use Rattle.motion.specs.Next.{atPhase}
 use Rattle.course.specs.declared.Glided.{Glided}
-use Rattle.course.specs.Machine.{way-off, way-none}
-use Rattle.course.specs.Glide.{here, glides, glideOn, glideSaid, glided}
+use Rattle.course.proofs.laws.Machine.{way-off, way-none}
+use Rattle.course.specs.work.Glide.{here, glides, glideOn, glideSaid, glided}
 use Rattle.course.proofs.Loop.{kept-first}
 use Rattle.course.proofs.Pulses.{GKept, pulse-short, behind-long, over, last, room, turn}
 use borrow.Author.Needs.{needs}

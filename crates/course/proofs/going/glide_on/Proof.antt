@@ -1,6 +1,6 @@
 -- `course::glide_on` meets its contract: the pulses of a movement, or none. Assumes nothing.
 use mathlib.Core.Path.{refl}
-use Rattle.course.specs.Going.{glideJob}
+use Rattle.course.specs.work.Going.{glideJob}
 use Rattle.course.proofs.Turns.{stays-left, direct-left, moving-left}
 use borrow.Author.Needs.{needs}
 use Rattle.course.proofs.going.glide_on.Statement.{statement}

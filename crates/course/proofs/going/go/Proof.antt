@@ -7,8 +7,8 @@ use borrow.Author.Tests.{not-true, not-false}
 use borrow.Rule.Slice.PartMut.{putMid}
 use lib.ListN.{length}
 use Rattle.engine.specs.Tick.{runsOf}
-use Rattle.course.specs.Machine.{way-off, way-none}
-use Rattle.course.specs.Going.{tickNext, tickSaid}
+use Rattle.course.proofs.laws.Machine.{way-off, way-none}
+use Rattle.course.specs.work.Going.{tickNext, tickSaid}
 use Rattle.course.proofs.Loop.{kept-first, kept-last}
 use Rattle.course.proofs.Pulses.{behind-long}
 use Rattle.course.proofs.Turns.{RKept, turned, gone}

@@ -6,8 +6,8 @@ use borrow.Rule.Slice.PartMut.{putMid}
 use lib.ListN.{length, set}
 use Rattle.count.specs.Numbers.{value}
 use Rattle.count.specs.Text.{shown}
-use Rattle.count.specs.Digits.{shown-most}
-use Rattle.course.specs.Work.{Wrote}
+use Rattle.count.proofs.laws.Digits.{shown-most}
+use Rattle.course.specs.work.Work.{Wrote}
 use Rattle.course.proofs.Behind.{byte-before}
 use borrow.Author.Needs.{needs}
 use Rattle.course.proofs.lines.put_field.Statement.{statement}

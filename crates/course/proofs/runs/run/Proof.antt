@@ -5,8 +5,8 @@ use mathlib.Core.Bool.{not}
 use borrow.Author.Tests.{not-true, not-false}
 use Rattle.course.specs.declared.Ran.{Ran}
 use Rattle.course.specs.Run.{allowed, did}
-use Rattle.course.specs.Machine.{leaves}
-use Rattle.course.specs.Going.{goWay}
+use Rattle.course.specs.work.Machine.{leaves}
+use Rattle.course.specs.work.Going.{goWay}
 use Rattle.course.proofs.Outcomes.{refused-102, refused-103, rests-there, went}
 use borrow.Author.Needs.{needs}
 use Rattle.course.proofs.runs.run.Statement.{statement}

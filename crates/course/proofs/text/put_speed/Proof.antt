@@ -4,7 +4,7 @@ use mathlib.Core.List.{List, [], _∷_, _++_}
 use native.Mathlib.Omega.{arith}
 use lib.ListN.{length, drop, length-set}
 use lib.Seq.{sets-eq}
-use Rattle.course.specs.Work.{Wrote}
+use Rattle.course.specs.work.Work.{Wrote}
 use Rattle.course.proofs.Digits.{digits1, digits2, digits3, digits4, digits5}
 use borrow.Author.Needs.{needs}
 use Rattle.course.proofs.text.put_speed.Statement.{statement}

@@ -1,5 +1,5 @@
 -- `engine::Engine::delay` meets its contract. Assumes nothing.
-use Rattle.engine.specs.Work.{delay-on}
+use Rattle.engine.proofs.laws.Work.{delay-on}
 use borrow.Author.Needs.{needs}
 use Rattle.engine.proofs.Engine.delay.Statement.{statement}
 use Rattle.engine.proofs.Engine.delay.Tie as tie

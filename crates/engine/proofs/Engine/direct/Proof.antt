@@ -1,5 +1,5 @@
 -- `engine::Engine::direct` meets its contract. Assumes nothing.
-use Rattle.engine.specs.Work.{next-moved}
+use Rattle.engine.proofs.laws.Work.{next-moved}
 use borrow.Author.Needs.{needs}
 use Rattle.engine.proofs.Engine.direct.Statement.{statement}
 use Rattle.engine.proofs.Engine.direct.Tie as tie

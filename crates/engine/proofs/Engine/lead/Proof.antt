@@ -1,6 +1,6 @@
 -- `engine::Engine::lead` meets its contract. Assumes nothing.
 use native.Mathlib.Omega.{arith}
-use Rattle.engine.specs.Work.{awaited-small}
+use Rattle.engine.proofs.laws.Work.{awaited-small}
 use borrow.Author.Needs.{needs}
 use Rattle.engine.proofs.Engine.lead.Statement.{statement}
 use Rattle.engine.proofs.Engine.lead.Tie as tie

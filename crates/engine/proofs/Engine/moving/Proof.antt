@@ -1,5 +1,5 @@
 -- `engine::Engine::moving` meets its contract. Assumes nothing.
-use Rattle.engine.specs.Work.{next-moved}
+use Rattle.engine.proofs.laws.Work.{next-moved}
 use borrow.Author.Needs.{needs}
 use Rattle.engine.proofs.Engine.moving.Statement.{statement}
 use Rattle.engine.proofs.Engine.moving.Tie as tie

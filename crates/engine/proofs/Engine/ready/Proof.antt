@@ -1,8 +1,8 @@
 -- `engine::Engine::ready` meets its contract. Assumes nothing.
 use Rattle.record.specs.Places.{fetchOf}
-use Rattle.engine.specs.Work.{got, got-end, got-wrong}
+use Rattle.engine.proofs.laws.Work.{got, got-end, got-wrong}
 use native.Mathlib.Omega.{arith}
-use Rattle.engine.specs.Work.{ready-fits}
+use Rattle.engine.proofs.laws.Work.{ready-fits}
 use borrow.Author.Needs.{needs}
 use Rattle.engine.proofs.Engine.ready.Statement.{statement}
 use Rattle.engine.proofs.Engine.ready.Tie as tie

@@ -1,6 +1,6 @@
 -- `engine::records::after_pause` meets its contract. Assumes nothing.
 use mathlib.Core.Path.{sym}
-use Rattle.engine.specs.Work.{pause-on}
+use Rattle.engine.proofs.laws.Work.{pause-on}
 use borrow.Author.Needs.{needs}
 use Rattle.engine.proofs.records.after_pause.Statement.{statement}
 use Rattle.engine.proofs.records.after_pause.Tie as tie

@@ -3,11 +3,11 @@ use mathlib.Core.Path.{_≡_, ap, sym, _∙_}
 use mathlib.Core.List.{_∷_}
 use mathlib.Core.Bool.{true, false}
 use lib.ListN.{getD, drop}
-use Rattle.count.specs.Lists.{next}
+use Rattle.count.proofs.laws.Lists.{next}
 use Rattle.line.specs.declared.Letter.the-variants.{Axes}
 use Rattle.line.specs.Numbers.{numbersOf}
 use Rattle.line.specs.Lines.{behind, letterOf, direct, directOf}
-use Rattle.line.specs.Reading.{lettered}
+use Rattle.line.specs.work.Reading.{lettered}
 use Rattle.line.proofs.Shapes.{with-letter-is, direct-short, direct-first, direct-second, direct-third, by-letter}
 use borrow.Author.Needs.{needs}
 use Rattle.line.proofs.letters.direct_line.Statement.{statement}

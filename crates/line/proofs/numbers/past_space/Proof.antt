@@ -1,8 +1,8 @@
 -- `line::past_space` meets its contract: past one space. Assumes nothing.
 use borrow.Author.Tests.{ne-eqb}
 use lib.ListN.{drop-of-length-le}
-use Rattle.count.specs.Lists.{next}
-use Rattle.line.specs.Reading.{spaced}
+use Rattle.count.proofs.laws.Lists.{next}
+use Rattle.line.specs.work.Reading.{spaced}
 use borrow.Author.Needs.{needs}
 use Rattle.line.proofs.numbers.past_space.Statement.{statement}
 use Rattle.line.proofs.numbers.past_space.Tie as tie

@@ -4,7 +4,7 @@ use Prim.Native.Nat.{_<_, _≤_}
 use native.Mathlib.Omega.{arith}
 use lib.ListN.{length, drop-of-length-le}
 use Rattle.line.specs.Lines.{behind}
-use Rattle.line.specs.Reading.{items}
+use Rattle.line.specs.work.Reading.{items}
 use Rattle.line.proofs.Shapes.{behind-spaced, spaced-in}
 use borrow.Author.Needs.{needs}
 use Rattle.line.proofs.numbers.read_behind.Statement.{statement}

@@ -4,8 +4,8 @@ use mathlib.Core.Path.{_≡_, sym, _∙_}
 use native.Mathlib.Omega.{arith}
 use lib.ListN.{length, drop, drop-of-length-le}
 use Rattle.count.specs.Pick.{tests}
-use Rattle.count.specs.Lists.{next}
-use Rattle.line.specs.Reading.{reading}
+use Rattle.count.proofs.laws.Lists.{next}
+use Rattle.line.specs.work.Reading.{reading}
 use Rattle.line.proofs.Digits.{eight, digit-more}
 use borrow.Author.Needs.{needs}
 use Rattle.line.proofs.numbers.read_digits.Statement.{statement}

@@ -2,8 +2,8 @@
 use mathlib.Core.Path.{_∙_}
 use borrow.Author.Tests.{ne-eqb}
 use lib.ListN.{drop-of-length-le}
-use Rattle.count.specs.Lists.{next}
-use Rattle.line.specs.Reading.{reading, itemFrom}
+use Rattle.count.proofs.laws.Lists.{next}
+use Rattle.line.specs.work.Reading.{reading, itemFrom}
 use borrow.Author.Needs.{needs}
 use Rattle.line.proofs.numbers.read_number.Statement.{statement}
 use Rattle.line.proofs.numbers.read_number.Tie as tie

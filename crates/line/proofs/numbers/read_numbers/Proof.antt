@@ -4,7 +4,7 @@ use mathlib.Core.Path.{_≡_, refl, sym, _∙_}
 use native.Mathlib.Omega.{arith}
 use lib.ListN.{length, drop, length-set}
 use Rattle.line.specs.Numbers.{numbersOf, parted}
-use Rattle.line.specs.Reading.{items}
+use Rattle.line.specs.work.Reading.{items}
 use Rattle.line.proofs.Items.{itemsFrom, from-start, turn, ahead}
 use borrow.Author.Needs.{needs}
 use Rattle.line.proofs.numbers.read_numbers.Statement.{statement}

@@ -2,7 +2,7 @@
 use native.Mathlib.Omega.{arith}
 use borrow.Author.Tests.{ne-eqb}
 use Rattle.motion.specs.Next.{afterOf}
-use Rattle.motion.specs.Pulses.{pulses-small}
+use Rattle.motion.proofs.laws.Pulses.{pulses-small}
 use borrow.Author.Needs.{needs}
 use Rattle.motion.proofs.Move.after.Statement.{statement}
 use Rattle.motion.proofs.Move.after.Tie as tie

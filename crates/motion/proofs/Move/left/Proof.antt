@@ -2,7 +2,7 @@
 use native.Mathlib.Omega.{arith}
 use Rattle.motion.proofs.Standing.{after-small}
 use Rattle.motion.specs.Next.{leftOf, fromOf, toOf}
-use Rattle.motion.specs.Pulses.{pulses-small}
+use Rattle.motion.proofs.laws.Pulses.{pulses-small}
 use borrow.Author.Needs.{needs}
 use Rattle.motion.proofs.Move.left.Statement.{statement}
 use Rattle.motion.proofs.Move.left.Tie as tie

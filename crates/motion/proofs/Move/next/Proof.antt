@@ -2,7 +2,7 @@
 use mathlib.Core.Path.{sym, ap, _∙_}
 use Rattle.motion.specs.declared.Move.{Move}
 use Rattle.motion.specs.Next.{withinOf}
-use Rattle.motion.specs.Within.{next-settled}
+use Rattle.motion.proofs.laws.Within.{next-settled}
 use borrow.Author.Needs.{needs}
 use Rattle.motion.proofs.Move.next.Statement.{statement}
 use Rattle.motion.proofs.Move.next.Tie as tie

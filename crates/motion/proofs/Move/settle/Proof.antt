@@ -1,7 +1,7 @@
 -- `motion::Move::settle` meets its contract. Assumes nothing.
 use mathlib.Core.Path.{sym, ap, _∙_}
 use Rattle.motion.specs.Next.{skipped}
-use Rattle.motion.specs.Skip.{settled-here}
+use Rattle.motion.proofs.laws.Skip.{settled-here}
 use borrow.Author.Needs.{needs}
 use Rattle.motion.proofs.Move.settle.Statement.{statement}
 use Rattle.motion.proofs.Move.settle.Tie as tie

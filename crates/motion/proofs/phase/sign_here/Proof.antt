@@ -5,7 +5,7 @@ use native.Mathlib.Omega.{arith}
 use borrow.Author.Tests.{lt-ltb, le-ltb}
 use Rattle.motion.specs.declared.Sign.the-variants.{Minus, Rest, Plus}
 use Rattle.motion.specs.Phase.{signHere}
-use Rattle.motion.specs.Room.{room-of}
+use Rattle.motion.proofs.laws.Room.{room-of}
 use Rattle.motion.proofs.Work.{product}
 use borrow.Author.Needs.{needs}
 use Rattle.motion.proofs.phase.sign_here.Statement.{statement}

@@ -41,7 +41,7 @@ use denote.Triple.Clauses.{ensured, lasts}
 use denote.Exit.{yes}
 use Rattle.motion.specs.declared.Counters.{Counters}
 use Rattle.motion.specs.declared.Signs.{Signs}
-use Rattle.motion.specs.Room.{hasRoom}
+use Rattle.motion.specs.work.Room.{hasRoom}
 use Rattle.motion.specs.Phase.{movedAll}
 use Rattle.motion.proofs.Counters as T
 use Rattle.motion.proofs.Counters.Laws as T′

@@ -1,7 +1,7 @@
 -- `motion::route::plan` meets its contract. Assumes nothing.
 use mathlib.Core.Path.{sym, _∙_}
 use Rattle.count.specs.Ranges.{rightDistances, rightSpeeds}
-use Rattle.count.specs.Truth.{and-right}
+use Rattle.count.proofs.laws.Truth.{and-right}
 use Rattle.motion.specs.Plan.{planOf}
 use borrow.Author.Needs.{needs}
 use Rattle.motion.proofs.route.plan.Statement.{statement}

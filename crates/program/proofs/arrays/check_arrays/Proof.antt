@@ -4,7 +4,7 @@ use mathlib.Core.Path.{_≡_}
 use native.Mathlib.Omega.{arith}
 use lib.ListN.{length, length-set}
 use Rattle.program.specs.Check.{tally}
-use Rattle.program.specs.Work.{loopIn, Lists}
+use Rattle.program.specs.work.Work.{loopIn, Lists}
 use Rattle.program.proofs.Walks.{lists-all, lists-none, lists-more, count-all, count-more}
 use borrow.Author.Needs.{needs}
 use Rattle.program.proofs.arrays.check_arrays.Statement.{statement}

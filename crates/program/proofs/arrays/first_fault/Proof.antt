@@ -3,7 +3,7 @@ use Prim.Native.Nat.{_+_, _-_}
 use mathlib.Core.Path.{_≡_}
 use native.Mathlib.Omega.{arith}
 use Rattle.program.specs.Check.{checked, faultFrom}
-use Rattle.program.specs.Work.{loopIn, turnIn, farIn}
+use Rattle.program.specs.work.Work.{loopIn, turnIn, farIn}
 use Rattle.program.proofs.Walks.{from-start, from-hit, from-on, from-end, quick-letter}
 use borrow.Author.Needs.{needs}
 use Rattle.program.proofs.arrays.first_fault.Statement.{statement}

@@ -5,8 +5,8 @@ use mathlib.Core.Path.{_≡_}
 use native.Mathlib.Omega.{arith}
 use lib.ListN.{getD}
 use Rattle.program.specs.Check.{tally}
-use Rattle.program.specs.Work.{farIn}
-use Rattle.program.specs.Work.{heldBy, spans}
+use Rattle.program.specs.work.Work.{farIn}
+use Rattle.program.specs.work.Work.{heldBy, spans}
 use Rattle.program.proofs.Walks.{tally-down, tally-end, heldBy-start, spans-at}
 use Rattle.program.proofs.arrays.held_by.Statement.{statement}
 use Rattle.program.proofs.arrays.held_by.Tie as tie

@@ -1,7 +1,7 @@
 -- `program::letter_by` meets its contract. Assumes nothing.
 use borrow.Author.Needs.{needs}
 use borrow.Author.Tests.{lt-ltb, le-ltb}
-use Rattle.program.specs.Work.{letterBy}
+use Rattle.program.specs.work.Work.{letterBy}
 use Rattle.program.proofs.arrays.letter_by.Statement.{statement}
 use Rattle.program.proofs.arrays.letter_by.Tie as tie
 

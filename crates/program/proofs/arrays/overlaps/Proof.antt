@@ -2,7 +2,7 @@
 use borrow.Author.Needs.{needs}
 use mathlib.Core.Path.{_≡_, sym}
 use Rattle.program.specs.Check.{some, overlaps, meets}
-use Rattle.program.specs.Work.{loopIn, farIn}
+use Rattle.program.specs.work.Work.{loopIn, farIn}
 use Rattle.program.proofs.Walks.{some-hit, some-miss, some-end, overlaps-start, overlaps-not}
 use Rattle.program.proofs.arrays.overlaps.Statement.{statement}
 use Rattle.program.proofs.arrays.overlaps.Tie as tie

@@ -1,6 +1,6 @@
 -- `program::spans` meets its contract. Assumes nothing.
 use borrow.Author.Needs.{needs}
-use Rattle.program.specs.Work.{spans}
+use Rattle.program.specs.work.Work.{spans}
 use Rattle.program.proofs.arrays.spans.Statement.{statement}
 use Rattle.program.proofs.arrays.spans.Tie as tie
 

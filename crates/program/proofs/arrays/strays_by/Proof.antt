@@ -5,8 +5,8 @@ use mathlib.Core.Path.{_≡_, sym}
 use mathlib.Core.Bool.{not, Bool·beq}
 use lib.ListN.{getD}
 use Rattle.program.specs.Check.{some}
-use Rattle.program.specs.Work.{turnIn, farIn}
-use Rattle.program.specs.Work.{straysBy, spans}
+use Rattle.program.specs.work.Work.{turnIn, farIn}
+use Rattle.program.specs.work.Work.{straysBy, spans}
 use Rattle.program.proofs.Walks.{some-hit, some-miss, some-end, straysBy-start, straysBy-not, spans-at, differ}
 use Rattle.program.proofs.arrays.strays_by.Statement.{statement}
 use Rattle.program.proofs.arrays.strays_by.Tie as tie

@@ -1,6 +1,6 @@
 -- `program::clip` meets its contract. Assumes nothing.
 use borrow.Author.Tests.{lt-ltb, le-ltb}
-use Rattle.program.specs.Decode.{clip}
+use Rattle.program.specs.work.Decode.{clip}
 use borrow.Author.Needs.{needs}
 use Rattle.program.proofs.ending.clip.Statement.{statement}
 use Rattle.program.proofs.ending.clip.Tie as tie

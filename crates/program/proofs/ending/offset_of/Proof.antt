@@ -1,7 +1,7 @@
 -- `program::offset_of` meets its contract. Assumes nothing.
 use borrow.Author.Tests.{eq-eqb, ne-eqb}
 use mathlib.Core.Path.{_∙_}
-use Rattle.program.specs.Decode.{kept}
+use Rattle.program.specs.work.Decode.{kept}
 use borrow.Author.Needs.{needs}
 use Rattle.program.proofs.ending.offset_of.Statement.{statement}
 use Rattle.program.proofs.ending.offset_of.Tie as tie

@@ -1,7 +1,7 @@
 -- `program::aimed` meets its contract. Assumes nothing.
 use borrow.Author.Tests.{lt-ltb, le-ltb, eq-eqb, ne-eqb}
 use mathlib.Core.Path.{sym, _∙_}
-use Rattle.program.specs.Target.{aimed-in, aimed-out}
+use Rattle.program.proofs.laws.Target.{aimed-in, aimed-out}
 use borrow.Author.Needs.{needs}
 use Rattle.program.proofs.running.aimed.Statement.{statement}
 use Rattle.program.proofs.running.aimed.Tie as tie

@@ -1,7 +1,7 @@
 -- `program::target_of` meets its contract. Assumes nothing.
 use mathlib.Core.Path.{sym, _∙_}
 use borrow.Author.Tests.{le-leb, lt-leb}
-use Rattle.program.specs.Target.{leads-up, leads-below, leads-down}
+use Rattle.program.proofs.laws.Target.{leads-up, leads-below, leads-down}
 use borrow.Author.Needs.{needs}
 use Rattle.program.proofs.running.target_of.Statement.{statement}
 use Rattle.program.proofs.running.target_of.Tie as tie

@@ -2,7 +2,7 @@
 use native.Mathlib.Omega.{arith}
 use borrow.Author.Tests.{le-ltb}
 use Rattle.count.specs.Pick.{tests}
-use Rattle.record.specs.Work.{headOf}
+use Rattle.record.specs.work.Work.{headOf}
 use borrow.Author.Needs.{needs}
 use Rattle.record.proofs.bytes.head.Statement.{statement}
 use Rattle.record.proofs.bytes.head.Tie as tie

@@ -4,7 +4,7 @@ use mathlib.Core.Path.{_≡_, _∙_}
 use native.Mathlib.Omega.{arith}
 use Rattle.count.specs.Words.{pad}
 use Rattle.record.specs.Bytes.{wordsOf}
-use Rattle.record.specs.Work.{read-more}
+use Rattle.record.proofs.laws.Work.{read-more}
 use borrow.Author.Needs.{needs}
 use Rattle.record.proofs.bytes.read_numbers.Statement.{statement}
 use Rattle.record.proofs.bytes.read_numbers.Tie as tie

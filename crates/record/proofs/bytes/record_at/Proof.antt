@@ -1,7 +1,7 @@
 -- `record::record_at` meets its contract. Assumes nothing.
 use mathlib.Core.Path.{ap, sym, _∙_}
 use Rattle.record.specs.Places.{answered}
-use Rattle.record.specs.Work.{at-past, at-part, part-within}
+use Rattle.record.proofs.laws.Work.{at-past, at-part, part-within}
 use borrow.Author.Needs.{needs}
 use Rattle.record.proofs.bytes.record_at.Statement.{statement}
 use Rattle.record.proofs.bytes.record_at.Tie as tie

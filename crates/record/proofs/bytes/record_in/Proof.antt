@@ -2,7 +2,7 @@
 use mathlib.Core.Path.{ap, sym, _∙_}
 use native.Mathlib.Omega.{arith}
 use Rattle.record.specs.Places.{answered}
-use Rattle.record.specs.Work.{head-room, front-none, front-wrong, front-right}
+use Rattle.record.proofs.laws.Work.{head-room, front-none, front-wrong, front-right}
 use borrow.Author.Needs.{needs}
 use Rattle.record.proofs.bytes.record_in.Statement.{statement}
 use Rattle.record.proofs.bytes.record_in.Tie as tie

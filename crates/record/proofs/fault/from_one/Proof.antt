@@ -1,7 +1,7 @@
 -- `record::from_one` meets its contract. Assumes nothing.
 use mathlib.Core.Path.{sym}
 use native.Mathlib.Omega.{arith}
-use Rattle.count.specs.Laws.{within-up}
+use Rattle.count.proofs.laws.Laws.{within-up}
 use Rattle.record.proofs.fault.from_one.Statement.{statement}
 use Rattle.record.proofs.fault.from_one.Tie as tie
 

@@ -6,7 +6,7 @@ use native.Mathlib.Omega.{arith}
 use lib.ListN.{length, take, drop}
 use borrow.Rule.Slice.PartMut.{same-len-mid}
 use Rattle.record.specs.Bytes.{numBytes}
-use Rattle.record.specs.Put.{put-more}
+use Rattle.record.proofs.laws.Put.{put-more}
 use borrow.Author.Needs.{needs}
 use Rattle.record.proofs.keep.put_numbers.Statement.{statement}
 use Rattle.record.proofs.keep.put_numbers.Tie as tie

@@ -4,7 +4,7 @@ use mathlib.Core.Path.{refl}
 use native.Mathlib.Omega.{arith}
 use lib.ListN.{length}
 use borrow.Rule.Slice.PartMut.{putMid}
-use Rattle.record.specs.Put.{record-put}
+use Rattle.record.proofs.laws.Put.{record-put}
 use borrow.Author.Needs.{needs}
 use Rattle.record.proofs.keep.put_record.Statement.{statement}
 use Rattle.record.proofs.keep.put_record.Tie as tie

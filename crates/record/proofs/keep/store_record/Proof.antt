@@ -3,7 +3,7 @@ use mathlib.Core.Path.{_≡_, sym, _∙_}
 use native.Mathlib.Omega.{arith}
 use borrow.Author.Tests.{not-true, not-false}
 use lib.ListN.{length}
-use Rattle.record.specs.Put.{room-so, kept-not, kept-so}
+use Rattle.record.proofs.laws.Put.{room-so, kept-not, kept-so}
 use borrow.Author.Needs.{needs}
 use Rattle.record.proofs.keep.store_record.Statement.{statement}
 use Rattle.record.proofs.keep.store_record.Tie as tie

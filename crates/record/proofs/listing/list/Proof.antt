@@ -3,9 +3,9 @@ use Prim.Native.Nat.{_≤_}
 use mathlib.Core.Path.{sym, _∙_}
 use native.Mathlib.Omega.{arith}
 use borrow.Author.Tests.{not-true, not-false}
-use Rattle.record.specs.Below.{Below}
-use Rattle.record.specs.Walk.{end-part}
-use Rattle.record.specs.Told.{told-103, told-106, told-71, told-0, told-list, told-room, records-part}
+use Rattle.record.specs.Bytes.{Below}
+use Rattle.record.proofs.laws.Walk.{end-part}
+use Rattle.record.proofs.laws.Told.{told-103, told-106, told-71, told-0, told-list, told-room, records-part}
 use borrow.Author.Needs.{needs}
 use Rattle.record.proofs.listing.list.Statement.{statement}
 use Rattle.record.proofs.listing.list.Tie as tie

@@ -1,6 +1,6 @@
 -- `record::put_item` meets its contract. Assumes nothing.
 use native.Mathlib.Omega.{arith}
-use Rattle.record.specs.Writing.{item-first, item-later, item-most}
+use Rattle.record.proofs.laws.Writing.{item-first, item-later, item-most}
 use borrow.Author.Needs.{needs}
 use Rattle.record.proofs.listing.put_item.Statement.{statement}
 use Rattle.record.proofs.listing.put_item.Tie as tie

@@ -2,7 +2,8 @@
 use mathlib.Core.Path.{_≡_}
 use native.Mathlib.Omega.{arith}
 use lib.ListN.{length, take}
-use Rattle.record.specs.Writing.{lineLeft, front-behind, line-as, tail-long}
+use Rattle.record.proofs.laws.Writing.{front-behind, line-as, tail-long}
+use Rattle.record.specs.work.Writing.{lineLeft}
 use borrow.Author.Needs.{needs}
 use Rattle.record.proofs.listing.put_line.Statement.{statement}
 use Rattle.record.proofs.listing.put_line.Tie as tie

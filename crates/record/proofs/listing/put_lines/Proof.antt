@@ -5,11 +5,12 @@ use mathlib.Core.Bool.{true}
 use mathlib.Core.List.{[], _∷_}
 use native.Mathlib.Omega.{arith}
 use lib.ListN.{length, drop, set, length-drop, length-set}
-use Rattle.count.specs.Lists.{rest}
+use Rattle.count.proofs.laws.Lists.{rest}
 use Rattle.record.specs.Places.{recordsFrom, isList}
 use Rattle.record.specs.Listing.{listText}
-use Rattle.record.specs.Walk.{step-room}
-use Rattle.record.specs.Writing.{Writing, listIn, write-one, write-left, write-end, lines-turn, lines-done}
+use Rattle.record.proofs.laws.Walk.{step-room}
+use Rattle.record.proofs.laws.Writing.{Writing, write-one, write-left, write-end, lines-turn, lines-done}
+use Rattle.record.specs.work.Writing.{listIn}
 use borrow.Author.Needs.{needs}
 use Rattle.record.proofs.listing.put_lines.Statement.{statement}
 use Rattle.record.proofs.listing.put_lines.Tie as tie

@@ -2,8 +2,9 @@
 use Prim.Native.Nat.{_≤_, _+_, _-_}
 use native.Mathlib.Omega.{arith}
 use lib.ListN.{getD, take, drop, length-drop}
-use Rattle.count.specs.Lists.{rest}
-use Rattle.record.specs.Writing.{Writing, itemText, write-one, write-part, write-left, write-end, lineLeft, tail-next, tail-done, tail-long, item-most}
+use Rattle.count.proofs.laws.Lists.{rest}
+use Rattle.record.proofs.laws.Writing.{Writing, write-one, write-part, write-left, write-end, tail-next, tail-done, tail-long, item-most}
+use Rattle.record.specs.work.Writing.{itemText, lineLeft}
 use borrow.Author.Needs.{needs}
 use Rattle.record.proofs.listing.put_tail.Statement.{statement}
 use Rattle.record.proofs.listing.put_tail.Tie as tie

@@ -2,7 +2,7 @@
 use native.Mathlib.Omega.{arith}
 use Rattle.count.specs.Pick.{tests}
 use Rattle.record.specs.Places.{spotOf}
-use Rattle.record.specs.Walk.{end-part, spot-here}
+use Rattle.record.proofs.laws.Walk.{end-part, spot-here}
 use borrow.Author.Needs.{needs}
 use Rattle.record.proofs.places.find.Statement.{statement}
 use Rattle.record.proofs.places.find.Tie as tie

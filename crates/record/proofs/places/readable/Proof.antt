@@ -1,7 +1,7 @@
 -- `record::readable` meets its contract. Assumes nothing.
 use mathlib.Core.Path.{ap, sym, _∙_}
 use native.Mathlib.Omega.{arith}
-use Rattle.record.specs.Walk.{endsAt, end-part, readable-here}
+use Rattle.record.proofs.laws.Walk.{endsAt, end-part, readable-here}
 use borrow.Author.Needs.{needs}
 use Rattle.record.proofs.places.readable.Statement.{statement}
 use Rattle.record.proofs.places.readable.Tie as tie

@@ -4,7 +4,7 @@ use mathlib.Core.Path.{_≡_, sym, _∙_}
 use native.Mathlib.Omega.{arith}
 use lib.ListN.{length}
 use Rattle.record.specs.Places.{spotFrom}
-use Rattle.record.specs.Walk.{step-wrong, step-on, step-room}
+use Rattle.record.proofs.laws.Walk.{step-wrong, step-on, step-room}
 use borrow.Author.Needs.{needs}
 use Rattle.record.proofs.places.walk.Statement.{statement}
 use Rattle.record.proofs.places.walk.Tie as tie

@@ -1,0 +1,160 @@
+-- The code's way through one byte, and through a call, is the definition's. Assumes nothing.
+use Prim.Native.Nat.{ℕ, _≤_}
+use mathlib.Core.Path.{_≡_, refl, sym, ap, _∙_}
+use mathlib.Core.Bool.{Bool, true, false, not, _&&_, _||_}
+use mathlib.Core.List.{List, [], _++_}
+use borrow.Author.Tests.{eq-eqb, ne-eqb, le-ltb, leb-true}
+use lib.Dec.{leb}
+use lib.ListN.{length, drop}
+use Rattle.count.specs.Pick.{pick}
+use Rattle.count.proofs.laws.Truth.{and-left, and-right}
+use Rattle.motion.specs.Next.{nextOf, pulseOf}
+use Rattle.record.specs.Places.{fetchOf}
+use Rattle.record.specs.Listing.{Telling, listOf}
+use Rattle.line.specs.declared.Direct.{Direct}
+use Rattle.line.specs.Lines.{directOf, storedOf}
+use Rattle.engine.specs.declared.Job.{Job}
+use Rattle.engine.specs.declared.Job.the-variants as job
+use Rattle.engine.specs.declared.Told.{Told}
+use Rattle.engine.specs.State.{heard, ceased}
+use Rattle.engine.specs.Sound.{soundOf}
+use Rattle.engine.specs.Tick.{ticked}
+use Rattle.engine.proofs.laws.Laws.{rules-agree}
+use Rattle.board.specs.declared.Board.{Board}
+use Rattle.board.specs.declared.Received.{Received}
+use Rattle.board.specs.declared.Saying.the-variants as saying
+use Rattle.board.specs.declared.Spoke.{Spoke}
+use Rattle.board.specs.State.{board, textOf, gathered, withLine, Said, said, sound}
+use Rattle.board.specs.Storing.{storedSaid}
+use Rattle.board.specs.Receive.{gathers, earBy, earOf, isStoring, holdsBy, endsBy, returned, gathering, ordinary, stopped, broken, resetSaid, hearing}
+use Rattle.board.specs.Calls.{did, answered, receiving, wentOn, clocking, listing}
+use Rattle.board.specs.work.Work as work
+use Rattle.board.specs.work.Work.{spoke, spokeOf, repliedWith, obeyed, receivedOf, stopSpoke, breakSpoke, resetSpoke, gathersBy, waitsBy}
+use Rattle.board.proofs.laws.Obeys.{obey-so}
+
+pub spoke-as : (store : List ℕ) {r s : Spoke} → r ≡ s → spoke r store ≡ spoke s store
+spoke-as store e = ap (λ (x : Spoke). spoke x store) e
+
+-- ---- the carriage return
+
+module _ (ports : List ℕ) (b : Board) (store : List ℕ) where
+  pub return-over : b .line .over ≡ true → {r : Spoke} → r ≡ repliedWith b (b .engine) 53 → spoke r store ≡ returned ports b store
+  unfolding returned
+  return-over h p = spoke-as store p ∙ rw h
+
+  module _ (o : b .line .over ≡ false) {g : Bool} (e : g ≡ isStoring (b .engine .run .job)) where
+    pub return-stored : g && not (b .standing) ≡ true → {x : Said} → x ≡ storedSaid (storedOf (textOf (b .line))) b store → x ≡ returned ports b store
+    unfolding returned
+    return-stored h p = p ∙ rw (o, ← e, h)
+
+    pub return-direct : g && not (b .standing) ≡ false → {d : Direct} → d ≡ directOf (textOf (b .line)) → {r : Spoke} → r ≡ obeyed d ports b
+        → spoke r store ≡ returned ports b store
+    unfolding returned
+    return-direct h q p = spoke-as store p ∙ sym (obey-so _ ports b store) ∙ rw (o, ← e, h, ← q)
+
+-- ---- an ordinary byte
+
+module _ (byte : ℕ) (ports : List ℕ) (b : Board) (store : List ℕ) where
+  pub gather-return : byte ≡ 13 → {x : Said} → x ≡ returned ports b store → x ≡ gathering byte ports b store
+  unfolding gathering
+  gather-return h p = p ∙ rw (eq-eqb byte 13 h)
+
+  pub gather-byte : (byte ≡ 13 → ⊥) → {r : Spoke} → r ≡ spokeOf (withLine b (gathered byte (b .line))) saying.Silent
+      → spoke r store ≡ gathering byte ports b store
+  unfolding gathering
+  gather-byte h p = spoke-as store p ∙ rw (ne-eqb byte 13 h)
+
+  abbrev waited : Said
+  waited = said (board (heard byte (b .engine)) (b .standing) (b .line)) [] store
+
+  ear-by : (s : Bool) (j : Job)
+      → ordinary (pick s gathers (earBy j)) byte ports b store ≡ pick (s || gathersBy j) (gathering byte ports b store) (pick (waitsBy j) waited (said b [] store))
+  ear-by true j = refl
+  ear-by false job.Idle = refl
+  ear-by false job.Storing = refl
+  ear-by false (job.Direct m) = refl
+  ear-by false job.Ready = refl
+  ear-by false (job.Moving m) = refl
+  ear-by false (job.Delay q) = refl
+  ear-by false (job.Wait c t) = refl
+
+  pub ear-so : ordinary (earOf b) byte ports b store
+      ≡ pick (b .standing || gathersBy (b .engine .run .job)) (gathering byte ports b store) (pick (waitsBy (b .engine .run .job)) waited (said b [] store))
+  unfolding earOf
+  ear-so = ear-by (b .standing) (b .engine .run .job)
+
+  module _ {g : Bool} (e : g ≡ gathersBy (b .engine .run .job)) where
+    pub ear-gathers : b .standing || g ≡ true → {x : Said} → x ≡ gathering byte ports b store → x ≡ ordinary (earOf b) byte ports b store
+    ear-gathers h p = p ∙ sym (ear-so ∙ rw (← e, h))
+
+    module _ (o : b .standing || g ≡ false) {w : Bool} (f : w ≡ waitsBy (b .engine .run .job)) where
+      pub ear-waits : w ≡ true → {r : Spoke} → r ≡ spokeOf (board (heard byte (b .engine)) (b .standing) (b .line)) saying.Silent
+          → spoke r store ≡ ordinary (earOf b) byte ports b store
+      ear-waits h p = spoke-as store p ∙ sym (ear-so ∙ rw (← e, o, ← f, h))
+
+      pub ear-drops : w ≡ false → {r : Spoke} → r ≡ spokeOf b saying.Silent → spoke r store ≡ ordinary (earOf b) byte ports b store
+      ear-drops h p = spoke-as store p ∙ sym (ear-so ∙ rw (← e, o, ← f, h))
+
+  -- ---- the control codes
+
+  by-pick : (t : Bool) (x y : Spoke) → spoke (pick t x y) store ≡ pick t (spoke x store) (spoke y store)
+  by-pick true x y = refl
+  by-pick false x y = refl
+
+  stop-so : spoke (stopSpoke b) store ≡ stopped b store
+  unfolding stopSpoke stopped
+  stop-so =
+      by-pick (holdsBy (b .engine .run .job) && not (b .standing)) (spokeOf (board (b .engine) true (b .line)) (saying.One 70)) (spokeOf b saying.Silent)
+
+  break-so : spoke (breakSpoke b) store ≡ broken b store
+  unfolding breakSpoke broken
+  break-so =
+      by-pick (endsBy (b .engine .run .job) || b .standing) (spokeOf (board (ceased (b .engine)) false (b .line)) (saying.One 70)) (spokeOf b saying.Silent)
+
+  pub hear-stop : byte ≡ 253 → {r : Spoke} → r ≡ stopSpoke b → spoke r store ≡ hearing byte ports b store
+  unfolding hearing
+  hear-stop h p = spoke-as store p ∙ stop-so ∙ rw (eq-eqb byte 253 h)
+
+  module _ (n : byte ≡ 253 → ⊥) where
+    pub hear-reset : byte ≡ 254 → {r : Spoke} → r ≡ resetSpoke b → spoke r store ≡ hearing byte ports b store
+    unfolding hearing resetSaid
+    hear-reset h p = spoke-as store p ∙ rw (ne-eqb byte 253 n, eq-eqb byte 254 h)
+
+    module _ (m : byte ≡ 254 → ⊥) where
+      pub hear-break : byte ≡ 255 → {r : Spoke} → r ≡ breakSpoke b → spoke r store ≡ hearing byte ports b store
+      unfolding hearing
+      hear-break h p = spoke-as store p ∙ break-so ∙ rw (ne-eqb byte 253 n, ne-eqb byte 254 m, eq-eqb byte 255 h)
+
+      pub hear-ordinary : (byte ≡ 255 → ⊥) → {x : Said} → x ≡ ordinary (earOf b) byte ports b store → x ≡ hearing byte ports b store
+      unfolding hearing
+      hear-ordinary h p = p ∙ rw (ne-eqb byte 253 n, ne-eqb byte 254 m, ne-eqb byte 255 h)
+
+-- ---- the calls
+
+pub sound-engine : (b : Board) → sound b ≡ true → soundOf (b .engine) ≡ true
+unfolding sound
+sound-engine b h = and-left (soundOf (b .engine)) (leb (b .line .len) 80) h
+
+pub sound-line : (b : Board) → sound b ≡ true → b .line .len ≤ 80
+unfolding sound
+sound-line b h = leb-true (b .line .len) 80 (and-right (soundOf (b .engine)) (leb (b .line .len) 80) h)
+
+pub received-so : (byte : ℕ) (ports : List ℕ) (b : Board) (reply store : List ℕ) → 32 ≤ length reply → length store ≡ 16384 → sound b ≡ true
+    → (s : Spoke) {store′ reply′ : List ℕ} {r : Received} → spoke s store′ ≡ hearing byte ports b store → r ≡ receivedOf s
+    → reply′ ≡ work.textOf s ++ drop (length (work.textOf s)) reply → did r reply′ store′ ≡ receiving byte ports b reply store
+unfolding receiving
+received-so byte ports b reply store l m h s {store′} {reply′} {r} e p q =
+    let z : did r reply′ store′ ≡ answered (spoke s store′) reply = rw (p, q) in
+    z ∙ ap (λ (x : Said). answered x reply) e ∙ rw (le-ltb (length reply) 32 l, eq-eqb (length store) 16384 m, h)
+
+pub clocked-so : (b : Board) (store : List ℕ) → length store ≡ 16384 → sound b ≡ true → b .standing ≡ false
+    → {t : Told} → t ≡ ticked nextOf (fetchOf (b .engine .held) store) (b .engine) → wentOn b t ≡ clocking b store
+unfolding clocking
+clocked-so b store l h s {t} e =
+    let p : t ≡ ticked pulseOf (fetchOf (b .engine .held) store) (b .engine) = e ∙ rules-agree (fetchOf (b .engine .held) store) (b .engine) (sound-engine b h) in
+    ap (λ (x : Told). wentOn b x) p ∙ rw (eq-eqb (length store) 16384 l, h, s)
+
+pub listed-so : (b : Board) (store text : List ℕ) → length store ≡ 16384 → sound b ≡ true → {x : Telling} → x ≡ listOf (b .engine .held) store text
+    → x ≡ listing b store text
+unfolding listing
+listed-so b store text l h p = p ∙ rw (eq-eqb (length store) 16384 l, h)

@@ -1,0 +1,221 @@
+-- The code's way through a line outside storing is the definition's: the table's rows one after the other, then the effect. Assumes nothing.
+use Prim.Native.Nat.{ℕ, _%_, _<_}
+use mathlib.Core.Path.{_≡_, refl, sym, ap, _∙_}
+use mathlib.Core.Bool.{Bool, true, false, not, _&&_, _||_}
+use mathlib.Core.List.{List, [], _∷_}
+use native.Mathlib.Nat.{mod-eq-of-lt}
+use native.Mathlib.Omega.{arith}
+use borrow.Author.Tests.{eqb-true, leb-true}
+use lib.Dec.{eqb, leb}
+use lib.IntN.{pos}
+use lib.ListN.{getD}
+use Rattle.count.specs.Pick.{pick}
+use Rattle.count.specs.Numbers.{within, signed}
+use Rattle.count.specs.Ranges.{inPort, inByte, inZero, nth}
+use Rattle.count.proofs.laws.Laws.{within-up, within-zero}
+use Rattle.count.proofs.laws.Truth.{and-left, and-right}
+use Rattle.motion.specs.declared.Planned.{Planned}
+use Rattle.motion.specs.declared.Planned.the-variants as planned
+use Rattle.motion.specs.Plan.{asked, planOf}
+use Rattle.record.specs.Fault.{isCode, countRight, axesRight, rangesRight, speedsRight, faultOf}
+use Rattle.line.specs.declared.Letter.{Letter}
+use Rattle.line.specs.declared.Letter.the-variants as letter
+use Rattle.line.specs.declared.Direct.{Direct}
+use Rattle.engine.specs.declared.Engine.{Engine}
+use Rattle.engine.specs.declared.Begun.{Begun}
+use Rattle.engine.specs.State.{axesOf, originOf, zeroOf, withOutput, started, begunBy, beginOf}
+use Rattle.engine.specs.Sound.{axesKnown}
+use Rattle.board.specs.declared.Board.{Board}
+use Rattle.board.specs.State.{board, noLine, lineDone, Said, said}
+use Rattle.board.specs.Direct.{isWrong, heardStanding, needsAxes, countFits, axesFit, rangesFit, speedsFit, isOutside, restsOutside, isStart, first, replyOf, effect, effectOf, started-with, accepted, directSaid}
+use Rattle.board.specs.declared.Saying.the-variants as saying
+use Rattle.board.specs.work.Work.{spoke, spokeOf, repliedWith, silentWith, begunWith, startedBy, affected, obeyed, axesFault, inputFault, outputFault, numbersFault, lineFault}
+use Rattle.board.proofs.laws.Stores.{four}
+
+-- ---- the rows of the table
+
+-- 7, 3, 1 and D of each letter, with what comes behind them
+numbers-so : (k : Letter) (axes n : ℕ) (l : List ℕ) (o : ℕ)
+    → pick (not (countFits k axes n)) 55 (pick (not (axesFit k axes l)) 51 (pick (not (rangesFit k axes l)) 49 (pick (not (speedsFit k axes l)) 68 o)))
+    ≡ pick (eqb (numbersFault k axes n l) 48) o (numbersFault k axes n l)
+unfolding faultOf isCode axesRight rangesRight speedsRight axesFault inputFault outputFault
+numbers-so letter.Wrong axes n l o = refl
+numbers-so letter.Axes axes n l o = four (eqb n 1) (eqb (getD l 0 0) 1 || eqb (getD l 0 0) 3 || eqb (getD l 0 0) 7) true true o
+numbers-so letter.Relative axes n l o = four (countRight axes 48 n) true (rangesRight axes 48 l) (speedsRight axes 48 l) o
+numbers-so letter.Absolute axes n l o = four (countRight axes 109 n) true (rangesRight axes 109 l) (speedsRight axes 109 l) o
+numbers-so letter.Origin axes n l o = four (countRight axes 110 n) (axesRight axes 110 l) true true o
+numbers-so letter.Zero axes n l o = four (countRight axes 110 n) (axesRight axes 110 l) true true o
+numbers-so letter.Three axes n l o = four (countRight axes 122 n) true (rangesRight axes 122 l) true o
+numbers-so letter.Position axes n l o = four (eqb n 0) true true true o
+numbers-so letter.Input axes n l o = four (eqb n 1) true (inPort (nth l 0)) true o
+numbers-so letter.Output axes n l o = four (eqb n 2) true (inZero (nth l 0) && inByte (nth l 1)) true o
+numbers-so letter.Store axes n l o = four (eqb n 0) true true true o
+numbers-so letter.Empty axes n l o = four (eqb n 0) true true true o
+numbers-so letter.Start axes n l o = four (eqb n 0) true true true o
+
+-- 5, W and 4 before them
+three : (a b c : Bool) (f o : ℕ) → pick a 53 (pick b 87 (pick c 52 (pick (eqb f 48) o f)))
+    ≡ pick (eqb (pick a 53 (pick b 87 (pick c 52 f))) 48) o (pick a 53 (pick b 87 (pick c 52 f)))
+three true b c f o = refl
+three false true c f o = refl
+three false false true f o = refl
+three false false false f o = refl
+
+-- 9, 8 and G behind them
+abbrev restOf : Letter → Engine → Bool → List ℕ → ℕ
+restOf k e s l =
+    pick (restsOutside k e l) 57
+    (pick (isStart k && not s && eqb (e .held .records) 0) 56
+    (pick (isStart k && not s && not (eqb (e .axes) (e .held .axes))) 71 48))
+
+reply-so : (e : Engine) (s : Bool) (d : Direct)
+    → replyOf e s d ≡ pick (eqb (lineFault (e .axes) s d) 48) (restOf (d .letter) e s (d .words)) (lineFault (e .axes) s d)
+unfolding replyOf first lineFault
+reply-so e s d =
+    let a = isWrong (d .letter) in
+    let b = s && not (heardStanding (d .letter)) in
+    let c = needsAxes (d .letter) && eqb (e .axes) 0 in
+    let o = restOf (d .letter) e s (d .words) in
+    ap (λ (x : ℕ). pick a 53 (pick b 87 (pick c 52 x))) (numbers-so (d .letter) (e .axes) (d .count) (d .words) o)
+    ∙ three a b c (numbersFault (d .letter) (e .axes) (d .count) (d .words)) o
+
+-- ---- a line without a fault has numbers that fit a byte where the code takes one
+
+no-three : (a b c : Bool) (f : ℕ) → pick a 53 (pick b 87 (pick c 52 f)) ≡ 48 → f ≡ 48
+no-three true b c f p = absurd (omega arith)
+no-three false true c f p = absurd (omega arith)
+no-three false false true f p = absurd (omega arith)
+no-three false false false f p = p
+
+pub no-fault : (axes : ℕ) (s : Bool) (d : Direct) → lineFault axes s d ≡ 48 → numbersFault (d .letter) axes (d .count) (d .words) ≡ 48
+unfolding lineFault
+no-fault axes s d p = no-three (isWrong (d .letter)) (s && not (heardStanding (d .letter))) (needsAxes (d .letter) && eqb axes 0) _ p
+
+no-second : (a b c : Bool) (f : ℕ) → pick a 53 (pick b 87 (pick c 52 f)) ≡ 48 → b ≡ false
+no-second true b c f p = absurd (omega arith)
+no-second false true c f p = absurd (omega arith)
+no-second false false c f p = refl
+
+-- and is heard while something stands
+pub no-standing : (axes : ℕ) (s : Bool) (d : Direct) → lineFault axes s d ≡ 48 → s && not (heardStanding (d .letter)) ≡ false
+unfolding lineFault
+no-standing axes s d p = no-second (isWrong (d .letter)) (s && not (heardStanding (d .letter))) (needsAxes (d .letter) && eqb axes 0) _ p
+
+pick-two : (a b : Bool) (x : ℕ) → (x ≡ 48 → ⊥) → pick a (pick b 48 x) 55 ≡ 48 → b ≡ true
+pick-two true true x h p = refl
+pick-two true false x h p = absurd (h p)
+pick-two false b x h p = absurd (omega arith)
+
+one-of : (w : ℕ) (a b c : Bool) → eqb w 1 ≡ a → eqb w 3 ≡ b → eqb w 7 ≡ c → a || b || c ≡ true → w < 256
+one-of w true b c p q r e = omega (arith, eqb-true w 1 p)
+one-of w false true c p q r e = omega (arith, eqb-true w 3 q)
+one-of w false false true p q r e = omega (arith, eqb-true w 7 r)
+one-of w false false false p q r e = let z : _≡_ {A = ℕ} 0 1 = cc in absurd (omega arith)
+
+axes-small : (n w : ℕ) → axesFault n w ≡ 48 → w < 256
+unfolding axesFault
+axes-small n w p = one-of w _ _ _ refl refl refl (pick-two (eqb n 1) (eqb w 1 || eqb w 3 || eqb w 7) 51 (λ q. omega arith) p)
+
+known-by : (z a b c : Bool) → a || b || c ≡ true → z || a || b || c ≡ true
+known-by true a b c p = refl
+known-by false a b c p = p
+
+pub axes-fit : (n w : ℕ) → axesFault n w ≡ 48 → axesKnown (w % 256) ≡ true
+unfolding axesFault
+axes-fit n w p =
+    let q : w % 256 ≡ w = mod-eq-of-lt (axes-small n w p) in
+    rw q (known-by (eqb w 0) (eqb w 1) (eqb w 3) (eqb w 7) (pick-two (eqb n 1) (eqb w 1 || eqb w 3 || eqb w 7) 51 (λ q. omega arith) p))
+
+byte-small : (n w v : ℕ) → outputFault n w v ≡ 48 → v < 256
+unfolding outputFault inByte
+byte-small n w v p =
+    let h = and-right (inZero (signed w)) (inByte (signed v)) (pick-two (eqb n 2) (inZero (signed w) && inByte (signed v)) 49 (λ q. omega arith) p) in
+    omega (arith, leb-true v 255 (sym (within-zero 255 v (omega arith)) ∙ h))
+
+axes-by : (a b c d e : Bool) → _≡_ {A = ℕ} (pick a (pick b (pick c (pick d (pick e 48 68) 49) 51) 55) 53) 48 → c ≡ true
+axes-by true true true d e p = refl
+axes-by true true false d e p = absurd (omega arith)
+axes-by true false c d e p = absurd (omega arith)
+axes-by false b c d e p = absurd (omega arith)
+
+named-small : (axes n : ℕ) (l : List ℕ) → faultOf axes 110 n l ≡ 48 → getD l 0 0 < 256
+unfolding faultOf axesRight
+named-small axes n l p =
+    let w = getD l 0 0 in
+    let h = axes-by (isCode 110) (countRight axes 110 n) (axesRight axes 110 l) (rangesRight axes 110 l) (speedsRight axes 110 l) p in
+    let g = and-left (within (pos 1) (pos 7) (signed w)) (within (pos 1) (pos axes) (signed w)) h in
+    omega (arith, leb-true w 7 (and-right (leb 1 w) (leb w 7) (sym (within-up 1 7 w (omega arith)) ∙ g)))
+
+-- ---- the effect of each letter
+
+begun-by : (t : Bool) (b : Board) (g : Begun) (store : List ℕ)
+    → said (board (g .engine) (b .standing) noLine) (pick t [] (g .reply ∷ [])) store ≡ spoke (pick t (silentWith b (g .engine)) (repliedWith b (g .engine) (g .reply))) store
+begun-by true b g store = refl
+begun-by false b g store = refl
+
+begin-so : (p : Planned) (b : Board) (store : List ℕ)
+    → pick (eqb (pick (isOutside p) 57 48) 48) (accepted (started-with (begunBy p (b .engine)) (b .standing)) store) (said (lineDone b) (pick (isOutside p) 57 48 ∷ []) store)
+    ≡ spoke (begunWith b (begunBy p (b .engine))) store
+unfolding begunWith
+begin-so (planned.Going m) b store = begun-by (eqb (begunBy (planned.Going m) (b .engine) .reply) 0) b (begunBy (planned.Going m) (b .engine)) store
+begin-so planned.Outside b store = refl
+
+start-by : (s r a : Bool) (b : Board) (e : Engine) (store : List ℕ) → b .standing ≡ s
+    → pick (eqb (pick (true && not s && r) 56 (pick (true && not s && not a) 71 48)) 48)
+    (accepted (pick s (effect (b .engine) false []) (effect e false [])) store)
+    (said (lineDone b) (pick (true && not s && r) 56 (pick (true && not s && not a) 71 48) ∷ []) store)
+    ≡ spoke (pick s (spokeOf (board (b .engine) false noLine) saying.Silent) (pick r (repliedWith b (b .engine) 56) (pick a (silentWith b e) (repliedWith b (b .engine) 71)))) store
+start-by true r a b e store p = refl
+start-by false true a b e store p = refl
+start-by false false true b e store p = rw p
+start-by false false false b e store p = refl
+
+module _ (axes n : ℕ) (l ports : List ℕ) (b : Board) (store : List ℕ) where
+  effect-so : (k : Letter) → numbersFault k axes n l ≡ 48
+      → pick (eqb (restOf k (b .engine) (b .standing) l) 48) (accepted (effectOf k l ports (b .engine) (b .standing)) store)
+      (said (lineDone b) (restOf k (b .engine) (b .standing) l ∷ []) store)
+      ≡ spoke (affected k l ports b) store
+  unfolding startedBy beginOf
+  effect-so letter.Wrong p = refl
+  effect-so letter.Axes p =
+      let q : getD l 0 0 % 256 ≡ getD l 0 0 = mod-eq-of-lt (axes-small n (getD l 0 0) p) in
+      ap (λ (w : ℕ). said (board (axesOf w (b .engine)) (b .standing) noLine) (48 ∷ []) store) (sym q)
+  effect-so letter.Relative p = begin-so (planOf (asked (b .engine .axes) (b .engine .three) (b .engine .at) (b .engine .origin) false l)) b store
+  effect-so letter.Absolute p = begin-so (planOf (asked (b .engine .axes) (b .engine .three) (b .engine .at) (b .engine .origin) true l)) b store
+  effect-so letter.Origin p =
+      let q : getD l 0 0 % 256 ≡ getD l 0 0 = mod-eq-of-lt (named-small axes n l p) in
+      ap (λ (w : ℕ). said (board (originOf w (b .engine)) (b .standing) noLine) (48 ∷ []) store) (sym q)
+  effect-so letter.Zero p =
+      let q : getD l 0 0 % 256 ≡ getD l 0 0 = mod-eq-of-lt (named-small axes n l p) in
+      ap (λ (w : ℕ). said (board (zeroOf w (b .engine)) (b .standing) noLine) (48 ∷ []) store) (sym q)
+  effect-so letter.Three p = refl
+  effect-so letter.Position p = refl
+  effect-so letter.Input p = refl
+  effect-so letter.Output p =
+      let q : getD l 1 0 % 256 ≡ getD l 1 0 = mod-eq-of-lt (byte-small n (getD l 0 0) (getD l 1 0) p) in
+      ap (λ (w : ℕ). said (board (withOutput (b .engine) w) (b .standing) noLine) (48 ∷ []) store) (sym q)
+  effect-so letter.Store p = refl
+  effect-so letter.Empty p = refl
+  effect-so letter.Start p = start-by (b .standing) (eqb (b .engine .held .records) 0) (eqb (b .engine .axes) (b .engine .held .axes)) b (started (b .engine)) store refl
+
+-- ---- the whole line
+
+module _ (d : Direct) (ports : List ℕ) (b : Board) (store : List ℕ) where
+  abbrev faulty : ℕ
+  faulty = lineFault (b .engine .axes) (b .standing) d
+
+  abbrev behind : ℕ
+  behind = restOf (d .letter) (b .engine) (b .standing) (d .words)
+
+  abbrev effected : Said
+  effected = accepted (effectOf (d .letter) (d .words) ports (b .engine) (b .standing)) store
+
+  line-by : (t : Bool) → eqb faulty 48 ≡ t
+      → pick (eqb (pick t behind faulty) 48) effected (said (lineDone b) (pick t behind faulty ∷ []) store)
+      ≡ spoke (pick t (affected (d .letter) (d .words) ports b) (repliedWith b (b .engine) faulty)) store
+  line-by true e = effect-so (b .engine .axes) (d .count) (d .words) ports b store (d .letter) (no-fault (b .engine .axes) (b .standing) d (eqb-true faulty 48 e))
+  line-by false e = rw e
+
+  pub obey-so : directSaid d ports b store ≡ spoke (obeyed d ports b) store
+  unfolding directSaid obeyed
+  obey-so = rw (reply-so (b .engine) (b .standing) d) (line-by (eqb faulty 48) refl)

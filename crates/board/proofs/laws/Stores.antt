@@ -1,0 +1,161 @@
+-- The code's way through a line while storing is the definition's. Assumes nothing.
+use Prim.Native.Nat.{ℕ, _≤_}
+use mathlib.Core.Path.{_≡_, refl, sym, ap, _∙_}
+use mathlib.Core.Bool.{Bool, true, false, not, _||_}
+use mathlib.Core.List.{List, [], _∷_}
+use native.Mathlib.Omega.{arith}
+use borrow.Author.Tests.{eqb-true, eq-eqb, ne-eqb}
+use lib.Dec.{eqb}
+use lib.ListN.{length}
+use Rattle.count.specs.Pick.{pick}
+use Rattle.count.specs.Ranges.{rightCount}
+use Rattle.count.proofs.laws.Truth.{never}
+use Rattle.record.specs.declared.Held.{Held}
+use Rattle.record.specs.declared.Kept.{Kept}
+use Rattle.record.specs.declared.Record.{Record}
+use Rattle.record.specs.Bytes.{encode}
+use Rattle.record.specs.Fault.{isMovement, isCode, countRight, axesRight, rangesRight, speedsRight, faultOf}
+use Rattle.record.specs.Keep.{Storing, storing, longer, hasRoom, storeOf}
+use Rattle.line.specs.declared.Code.{Code}
+use Rattle.line.specs.declared.Code.the-variants as code
+use Rattle.line.specs.declared.Stored.{Stored}
+use Rattle.line.specs.Numbers.{Numbers, are, wrong}
+use Rattle.line.specs.Lines.{behind, codeOf, stored, byCode, storedOf}
+use Rattle.board.specs.declared.Board.{Board}
+use Rattle.board.specs.declared.Spoke.{Spoke}
+use Rattle.board.specs.State.{lineDone, Said, said}
+use Rattle.board.specs.Direct.{first}
+use Rattle.board.specs.Storing.{recordOf, recordReply, recordSaid, endSaid, storedSaid}
+use Rattle.board.specs.work.Work.{spoke, repliedWith, keptSaid}
+
+-- ---- 7, 3, 1 and D as rows, and what comes behind them
+
+pub four : (a b c d : Bool) (o : ℕ) → pick (not a) 55 (pick (not b) 51 (pick (not c) 49 (pick (not d) 68 o)))
+    ≡ pick (eqb (pick a (pick b (pick c (pick d 48 68) 49) 51) 55) 48) o (pick a (pick b (pick c (pick d 48 68) 49) 51) 55)
+four true true true true o = refl
+four true true true false o = refl
+four true true false d o = refl
+four true false c d o = refl
+four false b c d o = refl
+
+-- ---- a record's reply
+
+module _ (r : Record) (b : Board) (store : List ℕ) (k : isCode (r .code) ≡ true) where
+  abbrev fault : ℕ
+  fault = faultOf (b .engine .held .axes) (r .code) (r .count) (r .words)
+
+  abbrev fits : Bool
+  fits = storeOf (b .engine .held) r store .kept .stored
+
+  reply-so : recordReply (b .engine .held) r store ≡ pick (eqb fault 48) (pick (not fits) 54 48) fault
+  unfolding recordReply first faultOf
+  reply-so =
+      let axes = b .engine .held .axes in
+      rw k (four (countRight axes (r .code) (r .count)) (axesRight axes (r .code) (r .words)) (rangesRight axes (r .code) (r .words))
+      (speedsRight axes (r .code) (r .words)) (pick (not fits) 54 48))
+
+  said-by : (t s : Bool) (f : ℕ) (x : Said) → eqb f 48 ≡ t
+      → pick (eqb (pick t (pick (not s) 54 48) f) 48) x (said (lineDone b) (pick t (pick (not s) 54 48) f ∷ []) store)
+      ≡ pick t (pick s x (said (lineDone b) (54 ∷ []) store)) (said (lineDone b) (f ∷ []) store)
+  said-by true true f x e = refl
+  said-by true false f x e = refl
+  said-by false s f x e = rw e
+
+  record-so : recordSaid r b store ≡ pick (eqb fault 48) (keptSaid r b store) (said (lineDone b) (fault ∷ []) store)
+  record-so = rw reply-so (said-by (eqb fault 48) fits fault _ refl)
+
+  module _ {f : ℕ} (e : f ≡ fault) where
+    pub record-refused : (f ≡ 48 → ⊥) → {s : Spoke} → s ≡ repliedWith b (b .engine) f → spoke s store ≡ recordSaid r b store
+    record-refused h p = ap (λ (x : Spoke). spoke x store) p ∙ sym (record-so ∙ rw (← e, ne-eqb f 48 h))
+
+    pub record-kept : f ≡ 48 → {x : Said} → x ≡ keptSaid r b store → x ≡ recordSaid r b store
+    record-kept h p = p ∙ sym (record-so ∙ rw (← e, eq-eqb f 48 h))
+
+-- a record that isn't stored leaves the store as it was
+kept-by : (t : Bool) (h : Held) (r : Record) (s l : List ℕ) {k : Kept} {x : List ℕ}
+    → storing k x ≡ pick t (storing (record { stored = true; held = longer h (length (encode r)) }) l) (storing (record { stored = false; held = h }) s)
+    → k .stored ≡ false → x ≡ s
+kept-by true h r s l e p = let q = ap (λ (y : Storing). y .kept .stored) e in let z : _≡_ {A = ℕ} 0 1 = cc in absurd (omega arith)
+kept-by false h r s l e p = ap (λ (y : Storing). y .bytes) e
+
+pub not-kept : (h : Held) (r : Record) (s : List ℕ) {k : Kept} {x : List ℕ} → storing k x ≡ storeOf h r s → k .stored ≡ false → x ≡ s
+unfolding storeOf
+not-kept h r s e p = kept-by (hasRoom h (length (encode r)) (length s)) h r s _ e p
+
+-- ---- a right record has at most eight numbers
+
+count-by : (a b c d e : Bool) → _≡_ {A = ℕ} (pick a (pick b (pick c (pick d (pick e 48 68) 49) 51) 55) 53) 48 → b ≡ true
+count-by true true c d e p = refl
+count-by true false c d e p = absurd (omega arith)
+count-by false b c d e p = absurd (omega arith)
+
+three-by : (t u v : Bool) (n : ℕ) → pick t (eqb n 2) (pick u (eqb n 4) (pick v (eqb n 8) false)) ≡ true → n ≤ 8
+three-by true u v n p = omega (arith, eqb-true n 2 p)
+three-by false true v n p = omega (arith, eqb-true n 4 p)
+three-by false false true n p = omega (arith, eqb-true n 8 p)
+three-by false false false n p = never p
+
+two-by : (t u : Bool) (n : ℕ) (x : Bool) → (x ≡ true → n ≤ 8) → pick t x (pick u (eqb n 2) (eqb n 1)) ≡ true → n ≤ 8
+two-by true u n x f p = f p
+two-by false true n x f p = omega (arith, eqb-true n 2 p)
+two-by false false n x f p = omega (arith, eqb-true n 1 p)
+
+pub count-small : (axes c n : ℕ) (l : List ℕ) → faultOf axes c n l ≡ 48 → n ≤ 8
+unfolding faultOf countRight rightCount
+count-small axes c n l p =
+    two-by (isMovement c) (eqb c 51 || eqb c 50) n (rightCount axes n) (three-by (eqb axes 1) (eqb axes 3) (eqb axes 7) n)
+    (count-by (isCode c) (countRight axes c n) (axesRight axes c l) (rangesRight axes c l) (speedsRight axes c l) p)
+
+-- ---- the code of a line's record is one
+
+abbrev okay : Code → Bool
+okay code.Wrong = true
+okay (code.Record c) = isCode c
+okay code.End = true
+
+one-okay : (b k : ℕ) (t : Bool) (x : Code) → eqb b k ≡ t → isCode k ≡ true → okay x ≡ true → okay (pick t (code.Record b) x) ≡ true
+one-okay b k true x e p q = rw (eqb-true b k e) p
+one-okay b k false x e p q = q
+
+end-okay : (t : Bool) → okay (pick t code.End code.Wrong) ≡ true
+end-okay true = refl
+end-okay false = refl
+
+code-okay : (b : ℕ) → okay (codeOf b) ≡ true
+unfolding codeOf isCode
+code-okay b =
+    one-okay b 48 _ _ refl refl (one-okay b 109 _ _ refl refl (one-okay b 110 _ _ refl refl (one-okay b 122 _ _ refl refl
+    (one-okay b 51 _ _ refl refl (one-okay b 53 _ _ refl refl (one-okay b 49 _ _ refl refl (one-okay b 50 _ _ refl refl (end-okay (eqb b 57)))))))))
+
+stored-okay : (k : Code) (n : Numbers) → okay k ≡ true → okay (stored k n .code) ≡ true
+stored-okay k (are l) p = p
+stored-okay k wrong p = refl
+
+by-okay : (k : Code) (s : List ℕ) → okay k ≡ true → okay (byCode k s .code) ≡ true
+by-okay code.Wrong s p = refl
+by-okay (code.Record c) s p = stored-okay (code.Record c) (behind s) p
+by-okay code.End [] p = refl
+by-okay code.End (x ∷ s) p = refl
+
+line-okay : (s : List ℕ) → okay (storedOf s .code) ≡ true
+unfolding storedOf
+line-okay [] = refl
+line-okay (b ∷ s) = by-okay (codeOf b) s (code-okay b)
+
+pub code-right : (s : List ℕ) {d : Stored} {c : ℕ} → d ≡ storedOf s → d .code ≡ code.Record c → isCode c ≡ true
+code-right s {d} {c} e p = ap okay (sym (sym (ap (λ (x : Stored). x .code) e) ∙ p)) ∙ line-okay s
+
+-- ---- a line, by its code
+
+module _ (s : List ℕ) (b : Board) (store : List ℕ) {d : Stored} (e : d ≡ storedOf s) where
+  pub stored-wrong : d .code ≡ code.Wrong → {r : Spoke} → r ≡ repliedWith b (b .engine) 53 → spoke r store ≡ storedSaid (storedOf s) b store
+  unfolding storedSaid
+  stored-wrong p q = ap (λ (x : Spoke). spoke x store) q ∙ rw (← e, p)
+
+  pub stored-record : {c : ℕ} → d .code ≡ code.Record c → {x : Said} → x ≡ recordSaid (recordOf c d) b store → x ≡ storedSaid (storedOf s) b store
+  unfolding storedSaid
+  stored-record p q = q ∙ rw (← e, p)
+
+  pub stored-end : d .code ≡ code.End → {x : Said} → x ≡ endSaid b store → x ≡ storedSaid (storedOf s) b store
+  unfolding storedSaid
+  stored-end p q = q ∙ rw (← e, p)

@@ -1,0 +1,5 @@
+pub mod Truth
+pub mod Laws
+pub mod Lists
+pub mod Digits
+pub mod Words

@@ -1,0 +1,5 @@
+pub mod Portions
+pub mod Boards
+pub mod Ends
+pub mod Going
+pub mod Machine

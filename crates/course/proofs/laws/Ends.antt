@@ -1,0 +1,189 @@
+-- The portions of a walk end to end are its whole output: what is still to be printed is what a portion prints and then what is still to
+-- be printed after it, whatever the buffer's length from 64 up. Assumes nothing.
+use Prim.Native.Nat.{ℕ, zero, suc, _+_, _-_, _≤_, _<_, min}
+use mathlib.Core.Path.{_≡_, refl, sym, ap, _∙_}
+use mathlib.Core.Bool.{Bool, true, false, not, _&&_}
+use mathlib.Core.List.{List, [], _∷_, _++_, append-assoc, append-nil}
+use native.Mathlib.Omega.{arith}
+use native.Mathlib.Nat.{min-le-left}
+use lib.Dec.{leb}
+use lib.ListN.{length, take, drop}
+use lib.Seq.{take-append-seam}
+use borrow.Author.Tests.{le-leb, eq-eqb}
+use Rattle.count.specs.Pick.{pick}
+use Rattle.count.specs.Text.{Written, wrote}
+use Rattle.count.proofs.laws.Digits.{wrote-long}
+use Rattle.board.specs.declared.Board.{Board}
+use Rattle.board.specs.State.{Said, sound}
+use Rattle.board.specs.Receive.{hearing}
+use Rattle.course.specs.declared.Walk.{Walk}
+use Rattle.course.specs.Text.{headText, replyText, limitText, endText}
+use Rattle.course.specs.Run.{runsNow, Course, rests, course, allowed}
+use Rattle.course.specs.Walk.{noPorts, noStore, most, walkedFrom, Done, done, walk, first, further, ready, nextDone, onDone, headDone, tailDone, remaining}
+use Rattle.course.proofs.laws.Portions.{joins, course-off, course-none, course-plus, course-full}
+
+-- what follows a run of a byte: `L` and `E`, or the rest of the input
+abbrev pub ending : Bool → Board → List ℕ → List ℕ → List ℕ
+ending true b input store = limitText ++ endText b
+ending false b input store = walkedFrom input b store
+
+-- the text of a run and what follows it
+abbrev after : List ℕ → Course → List ℕ → List ℕ → List ℕ
+after t c input store = (t ++ c .text) ++ ending (runsNow (c .board)) (c .board) input store
+
+ended : (t : List ℕ) (b : Board) (input store : List ℕ)
+    → t ++ (elim (runsNow b) [ true ↦ limitText ++ endText b | false ↦ walkedFrom input b store ]) ≡ t ++ ending (runsNow b) b input store
+ended t b input store = by (runsNow b)
+  where
+    by : (x : Bool) → t ++ (elim x [ true ↦ limitText ++ endText b | false ↦ walkedFrom input b store ]) ≡ t ++ ending x b input store
+    by true = refl
+    by false = refl
+
+walked-cons : (byte : ℕ) (input : List ℕ) (b : Board) (store : List ℕ)
+    → walkedFrom (byte ∷ input) b store
+    ≡ after (replyText (hearing byte noPorts b store .reply)) (course most (hearing byte noPorts b store .store) (hearing byte noPorts b store .board)) input (hearing byte noPorts b store .store)
+unfolding walkedFrom
+walked-cons byte input b store =
+    let s : Said = hearing byte noPorts b store in
+    let c : Course = course most (s .store) (s .board) in
+    ended (replyText (s .reply) ++ c .text) (c .board) input (s .store)
+
+-- ---- what remains of a walk
+
+pub remaining-over : (b : Board) (calls : ℕ) (input store : List ℕ) → remaining (walk b calls true) input store ≡ walkedFrom input b store
+unfolding remaining
+remaining-over b calls input store = refl
+
+pub remaining-on : (b : Board) (calls : ℕ) (input store : List ℕ)
+    → remaining (walk b calls false) input store
+    ≡ course (most - calls) store b .text ++ ending (runsNow (course (most - calls) store b .board)) (course (most - calls) store b .board) input store
+unfolding remaining
+remaining-on b calls input store = ended (course (most - calls) store b .text) (course (most - calls) store b .board) input store
+
+-- after a portion of k calls, what follows its text is what remains of the walk
+module _ (store : List ℕ) (b : Board) (t input : List ℕ) where
+  rest-by : (calls k r : ℕ) (x : Bool) → runsNow (course k store b .board) ≡ x → r ≡ most - (calls + k)
+      → after t (joins (course k store b) (course r store (course k store b .board))) input store
+      ≡ (t ++ course k store b .text) ++ remaining (further (course k store b) calls) input store
+  rest-by calls k r true e q =
+      let c : Course = course k store b in
+      let d : Course = course r store (c .board) in
+      let n : c .calls ≡ k = course-full store k b e in
+      let f : further c calls ≡ walk (c .board) (calls + k) false = (λ i. walk (c .board) (calls + n i) (not (e i))) in
+      ap (λ (l : List ℕ). l ++ ending (runsNow (d .board)) (d .board) input store) (sym (append-assoc t (c .text) (d .text)))
+      ∙ append-assoc (t ++ c .text) (d .text) (ending (runsNow (d .board)) (d .board) input store)
+      ∙ ap (λ (j : ℕ). (t ++ c .text) ++ (course j store (c .board) .text ++ ending (runsNow (course j store (c .board) .board)) (course j store (c .board) .board) input store)) q
+      ∙ ap (λ (l : List ℕ). (t ++ c .text) ++ l) (sym (remaining-on (c .board) (calls + k) input store))
+      ∙ sym (ap (λ (w : Walk). (t ++ c .text) ++ remaining w input store) f)
+  rest-by calls k r false e q =
+      let c : Course = course k store b in
+      let d : course r store (c .board) ≡ rests (c .board) = course-off store r (c .board) e in
+      let f : further c calls ≡ walk (c .board) (calls + c .calls) true = (λ i. walk (c .board) (calls + c .calls) (not (e i))) in
+      ap (λ (x : Course). after t (joins c x) input store) d
+      ∙ ap (λ (l : List ℕ). (t ++ l) ++ ending (runsNow (c .board)) (c .board) input store) (append-nil (c .text))
+      ∙ ap (λ (x : Bool). (t ++ c .text) ++ ending x (c .board) input store) e
+      ∙ ap (λ (l : List ℕ). (t ++ c .text) ++ l) (sym (remaining-over (c .board) (calls + c .calls) input store))
+      ∙ sym (ap (λ (w : Walk). (t ++ c .text) ++ remaining w input store) f)
+
+  -- a run of n calls, of which a portion makes k
+  pub rest : (calls k n : ℕ) → k ≤ n → n ≡ most - calls
+      → after t (course n store b) input store ≡ (t ++ course k store b .text) ++ remaining (further (course k store b) calls) input store
+  rest calls k n h q =
+      let p : n ≡ k + (n - k) = omega arith in
+      let r : n - k ≡ most - (calls + k) = omega arith in
+      ap (λ (c : Course). after t c input store) (ap (λ (j : ℕ). course j store b) p ∙ course-plus store k (n - k) b)
+      ∙ rest-by calls k (n - k) (runsNow (course k store b .board)) refl r
+
+-- ---- the portions
+
+allowed-few : (limit : ℕ) (out : List ℕ) → allowed limit out ≤ limit
+unfolding allowed
+allowed-few limit out = min-le-left _ _
+
+-- the first walk has the whole output before it
+pub first-remains : (input : List ℕ) → remaining first input noStore ≡ walkedFrom input (first .board) noStore
+first-remains input = remaining-over (first .board) 0 input noStore
+
+-- what a portion prints: the front of its buffer
+abbrev pub printed : Done → List ℕ
+printed d = take (d .portion .len) (d .out)
+
+-- and what remains after it
+abbrev pub onward : Done → List ℕ → List ℕ
+onward d input = printed d ++ remaining (d .portion .walk) input (d .store)
+
+done-prints : (w : Walk) (text input store out : List ℕ) → onward (done w text store out) input ≡ text ++ remaining w input store
+done-prints w text input store out = ap (λ (l : List ℕ). l ++ remaining w input store) (take-append-seam text (drop (length text) out))
+
+-- a walk on a sound board, with a store and a buffer of the right lengths, is ready
+pub is-ready : (w : Walk) (store out : List ℕ) → 64 ≤ length out → length store ≡ 16384 → sound (w .board) ≡ true → ready w store out ≡ true
+unfolding ready
+is-ready w store out h l s = rw (le-leb 64 (length out) h, eq-eqb (length store) 16384 l, s)
+
+module _ (w : Walk) (store out : List ℕ) (h : ready w store out ≡ true) where
+  yes : (b : Bool) → b ≡ true → b && ready w store out ≡ true
+  yes b e = rw (e, h)
+
+  -- A BYTE, taken where the run before it is over: its portion, then what remains
+  pub next-ends : (byte : ℕ) (input : List ℕ) → w .over ≡ true → remaining w (byte ∷ input) store ≡ onward (nextDone byte w store out) input
+  unfolding nextDone
+  next-ends byte input o =
+      let s : Said = hearing byte noPorts (w .board) store in
+      let t : List ℕ = replyText (s .reply) in
+      let k : ℕ = allowed most (drop (length t) out) in
+      let c : Course = course k (s .store) (s .board) in
+      let f : w ≡ walk (w .board) (w .calls) true = (λ i. walk (w .board) (w .calls) (o i)) in
+      ap (λ (x : Walk). remaining x (byte ∷ input) store) f
+      ∙ remaining-over (w .board) (w .calls) (byte ∷ input) store
+      ∙ walked-cons byte input (w .board) store
+      ∙ rest (s .store) (s .board) t input 0 k most (allowed-few most (drop (length t) out)) refl
+      ∙ sym (done-prints (further c 0) (t ++ c .text) input (s .store) out)
+      ∙ sym (ap (λ (x : Bool). onward (pick x (done (further c 0) (t ++ c .text) (s .store) out) (done w [] store out)) input) (yes (w .over) o))
+
+  -- A RUN THAT GOES ON: its portion, then what remains
+  pub on-ends : (input : List ℕ) → w .over ≡ false → remaining w input store ≡ onward (onDone w store out) input
+  unfolding onDone
+  on-ends input o =
+      let k : ℕ = allowed (most - w .calls) out in
+      let c : Course = course k store (w .board) in
+      let f : w ≡ walk (w .board) (w .calls) false = (λ i. walk (w .board) (w .calls) (o i)) in
+      ap (λ (x : Walk). remaining x input store) f
+      ∙ remaining-on (w .board) (w .calls) input store
+      ∙ rest store (w .board) [] input (w .calls) k (most - w .calls) (allowed-few (most - w .calls) out) refl
+      ∙ sym (done-prints (further c (w .calls)) (c .text) input store out)
+      ∙ sym (ap (λ (x : Bool). onward (pick x (done (further c (w .calls)) (c .text) store out) (done w [] store out)) input) (yes (not (w .over)) (ap not o)))
+
+-- what the tail prints
+abbrev pub said : Written → List ℕ
+said d = take (d .len) (d .text)
+
+module _ (w : Walk) (store out : List ℕ) (h : 64 ≤ length out) where
+  -- THE END OF THE INPUT: what remains is the tail
+  pub tail-ends : w .over ≡ true → remaining w [] store ≡ said (tailDone w out)
+  unfolding tailDone walkedFrom
+  tail-ends o =
+      let f : w ≡ walk (w .board) (w .calls) true = (λ i. walk (w .board) (w .calls) (o i)) in
+      ap (λ (x : Walk). remaining x [] store) f
+      ∙ remaining-over (w .board) (w .calls) [] store
+      ∙ sym (take-append-seam (endText (w .board)) (drop (length (endText (w .board))) out))
+      ∙ sym (ap said (wrote-long 64 (endText (w .board)) out h))
+      ∙ rw o
+
+  -- A RUN THAT IS NOT OVER after its 100,000 calls: what remains is the tail, whatever input is left
+  pub limit-ends : (input : List ℕ) → w .over ≡ false → w .calls ≡ most → runsNow (w .board) ≡ true → remaining w input store ≡ said (tailDone w out)
+  unfolding tailDone
+  limit-ends input o n r =
+      let f : w ≡ walk (w .board) most false = (λ i. walk (w .board) (n i) (o i)) in
+      let z : course (most - most) store (w .board) ≡ rests (w .board) = course-none store (w .board) in
+      ap (λ (x : Walk). remaining x input store) f
+      ∙ remaining-on (w .board) most input store
+      ∙ ap (λ (c : Course). c .text ++ ending (runsNow (c .board)) (c .board) input store) z
+      ∙ ap (λ (x : Bool). ending x (w .board) input store) r
+      ∙ sym (take-append-seam (limitText ++ endText (w .board)) (drop (length (limitText ++ endText (w .board))) out))
+      ∙ sym (ap said (wrote-long 64 (limitText ++ endText (w .board)) out h))
+      ∙ rw o
+
+  -- THE FIRST LINE
+  pub head-ends : said (headDone out) ≡ headText
+  unfolding headDone
+  head-ends = ap said (wrote-long 64 headText out h) ∙ take-append-seam headText (drop (length headText) out)

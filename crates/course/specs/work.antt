@@ -1,0 +1,4 @@
+pub mod Work
+pub mod Machine
+pub mod Glide
+pub mod Going

@@ -1,0 +1,43 @@
+-- The pulses of a phase as a machine of its own, on the movement and the counters alone: the inner loop of a run.
+use Prim.Native.Nat.{ℕ}
+use mathlib.Core.Bool.{Bool}
+use mathlib.Core.List.{List, []}
+use Rattle.motion.specs.declared.Counters.{Counters}
+use Rattle.motion.specs.declared.Move.{Move}
+use Rattle.motion.specs.declared.Next.{Next}
+use Rattle.motion.specs.declared.Next.the-variants as next
+use Rattle.motion.specs.Next.{withinOf}
+use Rattle.motion.specs.work.Made.{made}
+use Rattle.course.specs.declared.Glided.{Glided}
+use Rattle.course.specs.Text.{pulseText}
+use Rattle.course.specs.work.Machine.{Way, way, Left, leaves}
+
+pub record Gone : Type 0 where
+  pub rest : Move
+  pub at : Counters
+
+abbrev pub here : Move → Counters → Gone
+here m at = record { rest = m; at = at }
+
+abbrev pub goneBy : Next → Gone → Gone
+goneBy (next.Made s) g = here (s .rest) (s .at)
+goneBy next.Over g = g
+
+abbrev pub saidBy : Next → List ℕ
+saidBy (next.Made s) = pulseText (s .signs) (s .speed)
+saidBy next.Over = []
+
+unfoldable pub glides : Gone → Bool
+glides g = made (withinOf (g .rest) (g .at))
+
+abbrev pub glideOn : Gone → Gone
+glideOn g = goneBy (withinOf (g .rest) (g .at)) g
+
+abbrev pub glideSaid : Gone → List ℕ
+glideSaid g = saidBy (withinOf (g .rest) (g .at))
+
+abbrev pub glided : Glided → List ℕ → Left Gone
+glided r out = record { state = here (r .rest) (r .at); calls = r .calls; len = r .len; out = out }
+
+abbrev pub gliding : ℕ → Move → Counters → List ℕ → Left Gone
+gliding limit m at out = leaves (way glides glideOn glideSaid limit (here m at)) out

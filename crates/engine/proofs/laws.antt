@@ -1,0 +1,9 @@
+pub mod Cases
+pub mod Facts
+pub mod Laws
+pub mod Kept
+pub mod Lines
+pub mod Fetches
+pub mod Accepted
+pub mod Runs
+pub mod Work

@@ -1,0 +1,202 @@
+-- What the code of a clock call leans on: what a fetch that found a record says of it, and the counters after a pulse. Assumes nothing.
+use Prim.Native.Nat.{ℕ, zero, suc, _+_, _-_, _<_, _≤_}
+use mathlib.Core.Path.{_≡_, refl, ap, sym, _∙_}
+use mathlib.Core.Bool.{Bool, true, false, _&&_}
+use mathlib.Core.List.{List}
+use native.Mathlib.Numerals.{sub-one}
+use native.Mathlib.Omega.{arith}
+use lib.Dec.{ltb, leb, eqb}
+use lib.ListN.{getD}
+use borrow.Author.Tests.{leb-false, leb-true, eqb-true}
+use Rattle.count.specs.Pick.{pick}
+use Rattle.count.specs.Numbers.{signed}
+use Rattle.count.specs.Ranges.{nth, inDelay, inCharacter, inOffset}
+use Rattle.count.proofs.laws.Laws.{within-up, within-zero}
+use Rattle.count.proofs.laws.Truth.{and-left, and-right}
+use Rattle.motion.specs.declared.Counters.{Counters}
+use Rattle.motion.specs.declared.Move.{Move}
+use Rattle.motion.specs.declared.Stepped.{Stepped}
+use Rattle.motion.specs.declared.Next.{Next}
+use Rattle.motion.specs.declared.Next.the-variants as next
+use Rattle.motion.specs.Phase.{movedAll}
+use Rattle.motion.specs.Next.{nextBy, nextOf, SignRule, settled, leg, stepped, signsBy, fromOf, toOf}
+use Rattle.record.specs.declared.Held.{Held}
+use Rattle.record.specs.declared.Record.{Record}
+use Rattle.record.specs.declared.Found.the-variants as found
+use Rattle.record.specs.declared.Fetched.{Fetched}
+use Rattle.record.specs.declared.Spot.{Spot}
+use Rattle.record.specs.declared.Spot.the-variants as spot
+use Rattle.record.specs.Fault.{rangesRight}
+use Rattle.record.specs.Bytes.{Fetch, isRight}
+use Rattle.record.specs.Bytes.Fetch.{Got, End, Wrong}
+use Rattle.record.specs.Places.{answered, spotFrom, spotOf, recordFrom, recordAt, fetchOf, inUse}
+use Rattle.record.proofs.laws.Walk.{front-stands}
+use lib.IntN.{ℤ}
+use Rattle.program.specs.declared.Loops.{Loops}
+use Rattle.program.specs.declared.Way.{Way}
+use Rattle.program.specs.declared.Going.the-variants as going
+use Rattle.program.proofs.laws.Right.{ranges-right}
+use Rattle.program.specs.Onward.{lastOf, went, to, wrong, inside, targetOf, again, opens, looped, aimed, onwardOf}
+use Rattle.engine.specs.declared.Answer.the-variants as answer
+use Rattle.engine.specs.declared.Job.the-variants as job
+use Rattle.engine.specs.declared.Engine.{Engine}
+use Rattle.engine.specs.Tick.{told, onTo, afterPause, delaying}
+use Rattle.engine.specs.work.Work.{Fits}
+
+-- ---- the counters after a pulse
+
+made-by : (t : Bool) (p s : Stepped) → pick t (next.Made p) next.Over ≡ next.Made s → s ≡ p
+made-by true p s e = cc
+made-by false p s e = let z : _≡_ {A = ℕ} 0 1 = cc in absurd (omega arith)
+
+pub moved-by : (rule : SignRule) (m : Move) (at : Counters) (s : Stepped) → nextBy rule m at ≡ next.Made s → s .at ≡ movedAll at (s .signs)
+unfolding nextBy
+moved-by rule m at s e =
+    let q = settled m in
+    rw (made-by (ltb (q .made) (leg q)) (stepped q at (signsBy rule at (fromOf q) (toOf q) (q .made) (leg q))) s e)
+
+pub next-moved : (m : Move) (at : Counters) {n : Next} (s : Stepped) → n ≡ nextOf m at → n ≡ next.Made s → s .at ≡ movedAll at (s .signs)
+unfolding nextOf
+next-moved m at s p q = moved-by _ m at s (sym p ∙ q)
+
+-- ---- pauses
+
+pub pause-on : (q : ℕ) → (q ≡ 0 → ⊥) → afterPause q ≡ job.Delay (q - 1)
+pause-on zero h = absurd (h refl)
+pause-on (suc q) h = rw sub-one
+
+pub delay-on : (t : ℕ) (e : Engine) → (t ≡ 0 → ⊥) → delaying t e ≡ told (onTo (afterPause (t - 1)) e) answer.Pause
+delay-on zero e h = absurd (h refl)
+delay-on (suc t) e h = rw sub-one
+
+-- ---- what is fetched
+
+module _ (x : Fetch) {f : Fetched} (e : f ≡ answered x) where
+  found-as : f .found ≡ answered x .found
+  found-as = ap (λ (g : Fetched). g .found) e
+
+pub got : (x : Fetch) {f : Fetched} → f ≡ answered x → f .found ≡ found.Right → x ≡ Got (f .item)
+got (Got r) e p = ap Got (sym (ap (λ (g : Fetched). g .item) e))
+got End e p = let q = found-as End e in let z : _≡_ {A = ℕ} 0 1 = cc in absurd (omega arith)
+got Wrong e p = let q = found-as Wrong e in let z : _≡_ {A = ℕ} 0 1 = cc in absurd (omega arith)
+
+pub got-end : (x : Fetch) {f : Fetched} → f ≡ answered x → f .found ≡ found.End → x ≡ End
+got-end (Got r) e p = let q = found-as (Got r) e in let z : _≡_ {A = ℕ} 0 1 = cc in absurd (omega arith)
+got-end End e p = refl
+got-end Wrong e p = let q = found-as Wrong e in let z : _≡_ {A = ℕ} 0 1 = cc in absurd (omega arith)
+
+pub got-wrong : (x : Fetch) {f : Fetched} → f ≡ answered x → f .found ≡ found.Wrong → x ≡ Wrong
+got-wrong (Got r) e p = let q = found-as (Got r) e in let z : _≡_ {A = ℕ} 0 1 = cc in absurd (omega arith)
+got-wrong End e p = let q = found-as End e in let z : _≡_ {A = ℕ} 0 1 = cc in absurd (omega arith)
+got-wrong Wrong e p = refl
+
+-- a record found is right, and its place below the end place
+pub record Stood (h : Held) (place : ℕ) (r : Record) : Type 0 where
+  pub below : place < h .records
+  pub right : isRight (h .axes) r ≡ true
+
+module _ (h : Held) (s : List ℕ) (place : ℕ) {r : Record} where
+  found-right : (x : Spot) → recordFrom x h s ≡ Got r → isRight (h .axes) r ≡ true
+  unfolding recordAt
+  found-right (spot.At at) e = front-stands (h .axes) _ e .right
+  found-right spot.End e = let z : _≡_ {A = ℕ} 0 1 = cc in absurd (omega arith)
+  found-right spot.Wrong e = let z : _≡_ {A = ℕ} 0 1 = cc in absurd (omega arith)
+
+  found-below : (a b : Bool) (x : Spot) → ltb (h .records) place ≡ a → leb (h .records) place ≡ b
+      → recordFrom (pick a spot.Wrong (pick b spot.End x)) h s ≡ Got r → place < h .records
+  found-below true b x p q e = let z : _≡_ {A = ℕ} 0 1 = cc in absurd (omega arith)
+  found-below false true x p q e = let z : _≡_ {A = ℕ} 0 1 = cc in absurd (omega arith)
+  found-below false false x p q e = omega (arith, leb-false (h .records) place q)
+
+  pub stood : fetchOf h s place ≡ Got r → Stood h place r
+  unfolding fetchOf spotOf
+  stood e = record {
+    below = found-below (ltb (h .records) place) (leb (h .records) place) (spotFrom (h .axes) place (inUse h s) 0) refl refl e;
+    right = found-right (spotOf h s place) e;
+  }
+
+-- ---- the first word of a right record
+
+character-small : (w : ℕ) → inCharacter (signed w) ≡ true → w < 256
+unfolding inCharacter
+character-small w e = omega (arith, leb-true w 126 (and-right (leb 33 w) (leb w 126) (sym (within-up 33 126 w (omega arith)) ∙ e)))
+
+delay-small : (w : ℕ) → inDelay (signed w) ≡ true → w < 65536
+unfolding inDelay
+delay-small w e = omega (arith, leb-true w 65535 (sym (within-zero 65535 w (omega arith)) ∙ e))
+
+module _ (axes : ℕ) (r : Record) (h : isRight axes r ≡ true) where
+  right-at : (code : ℕ) → r .code ≡ code → rangesRight axes code (r .words) ≡ true
+  right-at code e = ap (λ (k : ℕ). rangesRight axes k (r .words)) (sym e) ∙ ranges-right axes r h
+
+  pub fits : Fits r
+  unfolding rangesRight
+  fits = record {
+    sent = λ e. character-small (getD (r .words) 0 0) (right-at 49 e);
+    awaited = λ e. character-small (getD (r .words) 0 0) (and-left _ (inOffset (nth (r .words) 1)) (right-at 50 e));
+    pauses = λ e. delay-small (getD (r .words) 0 0) (right-at 53 e);
+  }
+
+pub ready-fits : (h : Held) (s : List ℕ) (place : ℕ) {f : Fetched} → f ≡ answered (fetchOf h s place) → f .found ≡ found.Right → h .records ≤ 65535
+    → (place < 65535) × Fits (f .item)
+ready-fits h s place {f} e p l =
+    let g = stood h s place (got (fetchOf h s place) e p) in
+    (omega (arith, g .below), fits (h .axes) (f .item) (g .right))
+
+-- ---- only a wait waits
+
+module _ (r : Record) where
+  pick-goes : (t : Bool) (a b : Way) → (a .going ≡ going.Waits → r .code ≡ 50) → (b .going ≡ going.Waits → r .code ≡ 50)
+      → pick t a b .going ≡ going.Waits → r .code ≡ 50
+  pick-goes true a b f g e = f e
+  pick-goes false a b f g e = g e
+
+  never-to : going.To ≡ going.Waits → r .code ≡ 50
+  never-to e = let z : _≡_ {A = ℕ} 0 1 = cc in absurd (omega arith)
+
+  never-wrong : going.Wrong ≡ going.Waits → r .code ≡ 50
+  never-wrong e = let z : _≡_ {A = ℕ} 0 1 = cc in absurd (omega arith)
+
+  again-goes : (place target : ℕ) (o : Loops) → again place target o .going ≡ going.Waits → r .code ≡ 50
+  unfolding again
+  again-goes place target o e = pick-goes (eqb (lastOf o .left) 0) (to (place + 1) _) (to target _) never-to never-to e
+
+  opens-goes : (place target number : ℕ) (o : Loops) → opens place target number o .going ≡ going.Waits → r .code ≡ 50
+  unfolding opens
+  opens-goes place target number o e = pick-goes (leb 7 (o .depth)) (wrong o) (to target _) never-wrong never-to e
+
+  looped-goes : (place target number : ℕ) (o : Loops) → looped place target number o .going ≡ going.Waits → r .code ≡ 50
+  unfolding looped
+  looped-goes place target number o e =
+      pick-goes (ltb 7 (o .depth)) (wrong o) _ never-wrong
+      (pick-goes (ltb 0 (o .depth) && eqb (lastOf o .place) place) (again place target o) (opens place target number o) (again-goes place target o) (opens-goes place target number o))
+      e
+
+  module _ (place end : ℕ) (o : Loops) where
+    aimed-by : (offset : ℤ) (a b c d : Bool) → eqb (r .code) 50 ≡ b
+        → pick a (pick b (went going.Waits (place + 1) (targetOf place offset) o)
+        (pick c (to (targetOf place offset) o) (pick d (wrong o) (looped place (targetOf place offset) (getD (r .words) 0 0) o)))) (wrong o) .going ≡ going.Waits
+        → r .code ≡ 50
+    aimed-by offset false b c d p e = let z : _≡_ {A = ℕ} 0 1 = cc in absurd (omega arith)
+    aimed-by offset true true c d p e = eqb-true (r .code) 50 p
+    aimed-by offset true false true d p e = let z : _≡_ {A = ℕ} 0 1 = cc in absurd (omega arith)
+    aimed-by offset true false false true p e = let z : _≡_ {A = ℕ} 0 1 = cc in absurd (omega arith)
+    aimed-by offset true false false false p e = looped-goes place (targetOf place offset) (getD (r .words) 0 0) o e
+
+    aimed-goes : (offset : ℤ) → aimed place end offset r o .going ≡ going.Waits → r .code ≡ 50
+    unfolding aimed
+    aimed-goes offset e = aimed-by offset (inside place offset end) (eqb (r .code) 50) (eqb (getD (r .words) 0 0) 0) (ltb 32767 (getD (r .words) 0 0)) refl e
+
+    onward-by : (a b c : Bool) → pick a (wrong o) (pick b (aimed place end (nth (r .words) 1) r o) (pick c (aimed place end (nth (r .words) 1) r o) (to (place + 1) o))) .going ≡ going.Waits
+        → r .code ≡ 50
+    onward-by true b c e = let z : _≡_ {A = ℕ} 0 1 = cc in absurd (omega arith)
+    onward-by false true c e = aimed-goes (nth (r .words) 1) e
+    onward-by false false true e = aimed-goes (nth (r .words) 1) e
+    onward-by false false false e = let z : _≡_ {A = ℕ} 0 1 = cc in absurd (omega arith)
+
+    pub waits-only : onwardOf r place end o .going ≡ going.Waits → r .code ≡ 50
+    unfolding onwardOf
+    waits-only e = onward-by (leb end place) (eqb (r .code) 51) (eqb (r .code) 50) e
+
+    pub awaited-small : {w : Way} → Fits r → w ≡ onwardOf r place end o → w .going ≡ going.Waits → getD (r .words) 0 0 < 256
+    awaited-small f e p = f .awaited (waits-only (ap (λ (x : Way). x .going) (sym e) ∙ p))

@@ -1,0 +1,9 @@
+pub mod Axis
+pub mod Pulses
+pub mod Passed
+pub mod Plans
+pub mod Skip
+pub mod Onward
+pub mod Whole
+pub mod Within
+pub mod Room

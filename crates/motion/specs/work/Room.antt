@@ -1,0 +1,14 @@
+-- Stands in contracts of functions that are not exported: nothing of it need be believed. Its laws: proofs/laws/Room.antt.
+use Prim.Native.Nat.{ℕ, _≤_, _<_}
+use Rattle.motion.specs.declared.Sign.{Sign}
+use Rattle.motion.specs.declared.Sign.the-variants.{Minus, Rest, Plus}
+use Rattle.motion.specs.declared.Signs.{Signs}
+use Rattle.motion.specs.declared.Counters.{Counters}
+
+abbrev pub room : ℕ → Sign → Type 0
+room c Minus = 0 < c
+room c Rest = 0 ≤ c
+room c Plus = c < 4294967295
+
+abbrev pub hasRoom : Counters → Signs → Type 0
+hasRoom c s = room (c .x) (s .x) × room (c .y) (s .y) × room (c .z) (s .z)

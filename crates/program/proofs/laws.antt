@@ -1,0 +1,16 @@
+pub mod Flow
+pub mod Nest
+pub mod Turns
+pub mod Clean
+pub mod Secure
+pub mod Stack
+pub mod Sends
+pub mod Run
+pub mod Discipline
+pub mod Exact
+pub mod First
+pub mod Accepting
+pub mod Right
+pub mod Decode
+pub mod Target
+pub mod Work

@@ -1,0 +1,129 @@
+-- The check of a store computes whether its program is accepted (01, "Running a program", paragraph 2, the sentence on `9`); and an accepted
+-- store's list of records is an accepted list. Assumes nothing.
+use Prim.Native.Nat.{ℕ, zero, suc, _≤_, _<_}
+use mathlib.Core.Bool.{Bool, true, false}
+use mathlib.Core.List.{List, [], _∷_}
+use mathlib.Core.Path.{_≡_, refl, sym, _∙_, ap, subst}
+use native.Mathlib.Omega.{arith}
+use borrow.Author.Tests.{le-ltb}
+use lib.Dec.{ltb}
+use lib.ListN.{length, drop}
+use Rattle.count.specs.Pick.{pick}
+use Rattle.count.proofs.laws.Truth.{never, and-parts}
+use Rattle.record.specs.declared.Held.{Held}
+use Rattle.record.specs.declared.Record.{Record}
+use Rattle.record.specs.Bytes.{Fetch, Got, End, Wrong, front, lengthOf, isRight}
+use Rattle.record.specs.Places.{inUse, Records, are, none-are, onto, then, recordsFrom, recordsOf}
+use Rattle.record.proofs.laws.Walk.{front-stands}
+use Rattle.program.specs.declared.Verdict.{Verdict}
+use Rattle.program.specs.declared.Verdict.the-variants.{Sound, Unreadable}
+use Rattle.program.specs.Program.{verdictOn, verdictOf, isSound, passes, axesSet, passing, accepted}
+use Rattle.program.proofs.laws.Run.{recordIn, Accepted}
+
+-- ---- the check computes it
+
+on-same : (x : Records) → passing x ≡ isSound (verdictOn x)
+unfolding passes
+on-same (are l) = refl
+on-same none-are = refl
+
+-- under axes 1, 3 or 7
+pub computed : (h : Held) (s : List ℕ) → axesSet (h .axes) ≡ true → h .records ≤ 1000 → accepted h s ≡ isSound (verdictOf h s)
+unfolding accepted verdictOf
+computed h s a l = rw (a, le-ltb 1000 (h .records) l) (on-same (recordsOf h s))
+
+-- under axes 0 no program is accepted, whatever the check says
+pub not-under-0 : (h : Held) (s : List ℕ) → h .axes ≡ 0 → accepted h s ≡ false
+unfolding accepted
+not-under-0 h s e = rw e
+
+sound-by : (b : Bool) (v : Verdict) → pick b Unreadable v ≡ Sound → v ≡ Sound
+sound-by true v e = let z : _≡_ {A = ℕ} 0 1 = cc in absurd (omega arith)
+sound-by false v e = e
+
+-- a store that the check finds sound is accepted under these axes
+pub sound-accepted : (h : Held) (s : List ℕ) → axesSet (h .axes) ≡ true → verdictOf h s ≡ Sound → accepted h s ≡ true
+unfolding accepted verdictOf
+sound-accepted h s a v = rw a (on-same (recordsOf h s) ∙ ap isSound (sound-by (ltb 1000 (h .records)) (verdictOn (recordsOf h s)) v))
+
+-- ---- a readable store has as many records as it says
+
+abbrev Counted : ℕ → Records → Type 0
+Counted k (are l) = length l ≡ k
+Counted k none-are = Unit
+
+counted-onto : (k : ℕ) (r : Record) (x : Records) → Counted k x → Counted (suc k) (onto r x)
+counted-onto k r (are l) e = ap suc e
+counted-onto k r none-are e = tt
+
+counted-then : (axes k : ℕ) (s : List ℕ) (x : Fetch) → ((t : List ℕ) → Counted k (recordsFrom axes k t))
+    → Counted (suc k) (then x (λ r. recordsFrom axes k (drop (lengthOf r) s)))
+counted-then axes k s (Got r) f = counted-onto k r (recordsFrom axes k (drop (lengthOf r) s)) (f (drop (lengthOf r) s))
+counted-then axes k s End f = tt
+counted-then axes k s Wrong f = tt
+
+counted : (axes k : ℕ) (s : List ℕ) → Counted k (recordsFrom axes k s)
+unfolding recordsFrom
+counted axes zero [] = refl
+counted axes zero (b ∷ s) = tt
+counted axes (suc k) s = counted-then axes k s (front axes s) (counted axes k)
+
+pub records-count : (h : Held) (s : List ℕ) (l : List Record) → recordsOf h s ≡ are l → length l ≡ h .records
+unfolding recordsOf
+records-count h s l e = subst (Counted (h .records)) e (counted (h .axes) (h .records) (inUse h s))
+
+-- ---- every record of a readable store is right
+
+abbrev Rights : ℕ → Records → Type 0
+Rights axes (are l) = (i : ℕ) → i < length l → isRight axes (recordIn l i) ≡ true
+Rights axes none-are = Unit
+
+one-more : (axes : ℕ) (r : Record) (l : List Record) → isRight axes r ≡ true → Rights axes (are l) → (i : ℕ) → i < length (r ∷ l) → isRight axes (recordIn (r ∷ l) i) ≡ true
+one-more axes r l h f zero u = h
+one-more axes r l h f (suc i) u = f i (omega arith)
+
+rights-onto : (axes : ℕ) (r : Record) (x : Records) → isRight axes r ≡ true → Rights axes x → Rights axes (onto r x)
+rights-onto axes r (are l) h f = one-more axes r l h f
+rights-onto axes r none-are h f = tt
+
+rights-then : (axes k : ℕ) (s : List ℕ) (x : Fetch) → front axes s ≡ x → ((t : List ℕ) → Rights axes (recordsFrom axes k t))
+    → Rights axes (then x (λ r. recordsFrom axes k (drop (lengthOf r) s)))
+rights-then axes k s (Got r) e f = rights-onto axes r (recordsFrom axes k (drop (lengthOf r) s)) (front-stands axes s e .right) (f (drop (lengthOf r) s))
+rights-then axes k s End e f = tt
+rights-then axes k s Wrong e f = tt
+
+rights : (axes k : ℕ) (s : List ℕ) → Rights axes (recordsFrom axes k s)
+unfolding recordsFrom
+rights axes zero [] = λ i u. absurd (omega arith)
+rights axes zero (b ∷ s) = tt
+rights axes (suc k) s = rights-then axes k s (front axes s) refl (rights axes k)
+
+-- ---- an accepted store
+
+passing-list : (h : Held) (s : List ℕ) (l : List Record) → recordsOf h s ≡ are l → accepted h s ≡ true → passes l ≡ true
+unfolding accepted
+passing-list h s l e a = ap passing (sym e) ∙ and-parts (axesSet (h .axes)) (passing (recordsOf h s)) a .1
+
+-- its list of records is accepted under its axes
+pub accepted-list : (h : Held) (s : List ℕ) (l : List Record) → recordsOf h s ≡ are l → accepted h s ≡ true → Accepted (h .axes) l
+unfolding recordsOf
+accepted-list h s l e a =
+    record { right = subst (Rights (h .axes)) e (rights (h .axes) (h .records) (inUse h s)); passing = passing-list h s l e a }
+
+-- and it has one
+pub record Holds (h : Held) (s : List ℕ) : Type 0 where
+  pub items : List Record
+  pub reads : recordsOf h s ≡ are items
+  pub count : length items ≡ h .records
+  pub program : Accepted (h .axes) items
+
+no-list : (h : Held) (s : List ℕ) → recordsOf h s ≡ none-are → accepted h s ≡ true → passing none-are ≡ true
+unfolding accepted
+no-list h s e a = ap passing (sym e) ∙ and-parts (axesSet (h .axes)) (passing (recordsOf h s)) a .1
+
+holds-by : (h : Held) (s : List ℕ) (x : Records) → recordsOf h s ≡ x → accepted h s ≡ true → Holds h s
+holds-by h s (are l) e a = record { items = l; reads = e; count = records-count h s l e; program = accepted-list h s l e a }
+holds-by h s none-are e a = never (no-list h s e a)
+
+pub accepted-holds : (h : Held) (s : List ℕ) → accepted h s ≡ true → Holds h s
+accepted-holds h s a = holds-by h s (recordsOf h s) refl a

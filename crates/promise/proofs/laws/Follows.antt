@@ -1,0 +1,7 @@
+-- Ours does what the definitions say. Assumes nothing.
+use mathlib.Core.Path.{refl}
+use Rattle.promise.specs.Machine.{ours}
+use Rattle.promise.specs.Follows.{Follows}
+
+pub ours-follows : Follows ours
+ours-follows = record { hears = λ v ports l s. refl; heard = λ v ports l s. refl; ticks = λ store s. refl; ticked = λ store s. refl }

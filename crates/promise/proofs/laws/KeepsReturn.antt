@@ -1,0 +1,172 @@
+-- Ours has `RefusedLine`, `AcceptedLine` and `SilentReturn`. Assumes nothing.
+use Prim.Native.Nat.{ℕ, suc}
+use mathlib.Core.Path.{_≡_, refl, sym, ap, _∙_}
+use mathlib.Core.Bool.{Bool, true, false, not, _&&_, _||_}
+use mathlib.Core.List.{List, [], _∷_, _++_}
+use native.Mathlib.Omega.{arith}
+use borrow.Author.Tests.{eqb-true}
+use lib.Dec.{eqb}
+use lib.ListN.{length, take, drop}
+use lib.Seq.{take-append-seam}
+use Rattle.count.specs.Pick.{pick}
+use Rattle.count.proofs.laws.Truth.{never}
+use Rattle.board.specs.declared.Board.{Board}
+use Rattle.engine.specs.State.{ceased}
+use Rattle.board.specs.State.{board, gathered, withLine, lineDone, Said, said}
+use Rattle.board.specs.Receive.Ear.{gathers, drops, waits}
+use Rattle.board.specs.Receive.{Ear, earOf, gathering, ordinary, hearing, holdsBy, stopped, endsBy, broken, resetSaid}
+use Rattle.board.specs.Calls.{Outcome, answered, receiving}
+use Rattle.promise.specs.Machine.{Lent, lent, ours}
+use Rattle.promise.specs.Demands.{unstored, Untouched, Silent, RefusedLine, AcceptedLine, SilentReturn}
+use Rattle.promise.proofs.laws.KeepsCalls.{calm}
+use Rattle.promise.proofs.laws.KeepsLines.{Came, refused, failed, zeroed, still, came}
+
+-- ---- what a host reads of a call that is not refused
+
+module _ (v : ℕ) (ports : List ℕ) (l : Lent) (s : Board) (h : receiving v ports s (l .reply) (l .store) .result .refusal ≡ 0) where
+  abbrev out : Outcome
+  out = receiving v ports s (l .reply) (l .store)
+
+  abbrev heardSaid : Said
+  heardSaid = hearing v ports s (l .store)
+
+  pub out-so : out ≡ answered heardSaid (l .reply)
+  out-so = calm v ports s (l .reply) (l .store) h
+
+  pub out-reply : take (out .result .len) (out .reply) ≡ heardSaid .reply
+  out-reply = ap (λ (o : Outcome). take (o .result .len) (o .reply)) out-so ∙ take-append-seam (heardSaid .reply) _
+
+  pub out-board : out .result .board ≡ heardSaid .board
+  out-board = ap (λ (o : Outcome). o .result .board) out-so
+
+  pub out-len : out .result .len ≡ length (heardSaid .reply)
+  out-len = ap (λ (o : Outcome). o .result .len) out-so
+
+  -- a reply of one byte, and the store's bytes
+  pub out-one : (b′ : Board) (d : ℕ) (store : List ℕ) → heardSaid ≡ said b′ (d ∷ []) store
+      → (out .result .board ≡ b′) × (out .reply ≡ d ∷ drop 1 (l .reply)) × (out .store ≡ store)
+  out-one b′ d store q =
+      let r : out .reply ≡ d ∷ drop 1 (l .reply) =
+      ap (λ (o : Outcome). o .reply) out-so ∙ ap (λ (x : Said). x .reply ++ drop (length (x .reply)) (l .reply)) q in
+      (out-board ∙ ap (λ (x : Said). x .board) q, r, ap (λ (o : Outcome). o .store) out-so ∙ ap (λ (x : Said). x .store) q)
+
+-- ---- RefusedLine
+
+module _ (ports : List ℕ) (l : Lent) (s : Board) (c : ℕ) (t : List ℕ) (h : receiving 13 ports s (l .reply) (l .store) .result .refusal ≡ 0) where
+  abbrev outcome : Outcome
+  outcome = receiving 13 ports s (l .reply) (l .store)
+
+  untouched : Came s (l .store) (hearing 13 ports s (l .store)) → hearing 13 ports s (l .store) .reply ≡ c ∷ t → (c ≡ 48 → ⊥)
+      → Untouched s (outcome .result .board) l (lent (outcome .reply) (outcome .store)) c t
+  untouched (refused d n f q) e z =
+      let r : d ∷ [] ≡ c ∷ t = sym (ap (λ (x : Said). x .reply) q) ∙ e in
+      let g : d ≡ c = cc in
+      let o = out-one 13 ports l s h (lineDone s) d (l .store) q in
+      record {
+        alone = let y : [] ≡ t = cc in sym y;
+        reply = o .1 ∙ ap (λ (x : ℕ). x ∷ drop 1 (l .reply)) g;
+        store = o .2;
+        letter = λ y. never (sym f ∙ y);
+        board = o .0 ∙ ap (λ (x : Bool). pick x (unstored s) (lineDone s)) (sym f);
+      }
+  untouched (failed f q) e z =
+      let r : 71 ∷ [] ≡ c ∷ t = sym (ap (λ (x : Said). x .reply) q) ∙ e in
+      let g : 71 ≡ c = cc in
+      let o = out-one 13 ports l s h (unstored s) 71 (l .store) q in
+      record {
+        alone = let y : [] ≡ t = cc in sym y;
+        reply = o .1 ∙ ap (λ (x : ℕ). x ∷ drop 1 (l .reply)) g;
+        store = o .2;
+        letter = λ y. sym g;
+        board = o .0 ∙ ap (λ (x : Bool). pick x (unstored s) (lineDone s)) (sym f);
+      }
+  untouched (zeroed u p n) e z =
+      let r : 48 ∷ u ≡ c ∷ t = sym p ∙ e in
+      let g : 48 ≡ c = cc in
+      absurd (z (sym g))
+  untouched (still p n) e z =
+      let r : [] ≡ c ∷ t = sym p ∙ e in
+      let w : _≡_ {A = ℕ} 0 1 = cc in
+      absurd (omega arith)
+
+pub keeps-refused-line : RefusedLine ours
+keeps-refused-line ports l s c t h e z = untouched ports l s c t h (came s ports (l .store)) (sym (out-reply 13 ports l s h) ∙ e) z
+
+-- ---- SilentReturn
+
+pub keeps-silent-return : SilentReturn ours
+keeps-silent-return ports l s h e = rw (out-board 13 ports l s h) (by (came s ports (l .store)))
+  where
+    n : length (hearing 13 ports s (l .store) .reply) ≡ 0
+    n = sym (out-len 13 ports l s h) ∙ e
+
+    by : Came s (l .store) (hearing 13 ports s (l .store)) → Silent s (hearing 13 ports s (l .store) .board)
+    by (refused d m f q) = let r : length (hearing 13 ports s (l .store) .reply) ≡ 1 = ap (λ (x : Said). length (x .reply)) q in absurd (omega (arith, n))
+    by (failed f q) = let r : length (hearing 13 ports s (l .store) .reply) ≡ 1 = ap (λ (x : Said). length (x .reply)) q in absurd (omega (arith, n))
+    by (zeroed u p m) = let r : length (hearing 13 ports s (l .store) .reply) ≡ suc (length u) = ap length p in absurd (omega (arith, n))
+    by (still p m) = m
+
+-- ---- AcceptedLine
+
+-- no other byte than the return is answered with 0
+abbrev NotZero : Said → Type 0
+NotZero x = (t : List ℕ) → x .reply ≡ 48 ∷ t → ⊥
+
+none-zero : (x : Said) → x .reply ≡ [] → NotZero x
+none-zero x p t e = let w : _≡_ {A = ℕ} 0 1 = cc in omega arith
+
+f-zero : (x : Said) → x .reply ≡ 70 ∷ [] → NotZero x
+f-zero x p t e =
+    let y : 70 ∷ [] ≡ 48 ∷ t = sym p ∙ e in
+    let w : _≡_ {A = ℕ} 70 48 = cc in
+    omega arith
+
+pick-zero : (x : Bool) (y z : Said) → NotZero y → NotZero z → NotZero (pick x y z)
+pick-zero true y z p q = p
+pick-zero false y z p q = q
+
+module _ (v : ℕ) (ports : List ℕ) (b : Board) (store : List ℕ) (h : eqb v 13 ≡ false) where
+  ear-zero : (e : Ear) → NotZero (ordinary e v ports b store)
+  unfolding gathering
+  ear-zero gathers = rw h (none-zero (said (withLine b (gathered v (b .line))) [] store) refl)
+  ear-zero drops = none-zero (ordinary drops v ports b store) refl
+  ear-zero waits = none-zero (ordinary waits v ports b store) refl
+
+  pub other-zero : NotZero (hearing v ports b store)
+  unfolding hearing stopped broken resetSaid
+  other-zero =
+      let ended = pick-zero (endsBy (b .engine .run .job) || b .standing) (said (board (ceased (b .engine)) false (b .line)) (70 ∷ []) store)
+      (said b [] store) (f-zero (said (board (ceased (b .engine)) false (b .line)) (70 ∷ []) store) refl) (none-zero (said b [] store) refl) in
+      let held = pick-zero (holdsBy (b .engine .run .job) && not (b .standing)) (said (board (b .engine) true (b .line)) (70 ∷ []) store)
+      (said b [] store) (f-zero (said (board (b .engine) true (b .line)) (70 ∷ []) store) refl) (none-zero (said b [] store) refl) in
+      pick-zero (eqb v 253) (stopped b store) _ held
+      (pick-zero (eqb v 254) (resetSaid b store) _ (none-zero (resetSaid b store) refl)
+      (pick-zero (eqb v 255) (broken b store) (ordinary (earOf b) v ports b store) ended (ear-zero (earOf b))))
+
+pub keeps-accepted-line : AcceptedLine ours
+keeps-accepted-line v ports l s t h e = by (eqb v 13) refl
+  where
+    r : hearing v ports s (l .store) .reply ≡ 48 ∷ t
+    r = sym (out-reply v ports l s h) ∙ e
+
+    long : Came s (l .store) (hearing v ports s (l .store))
+        → eqb (length (hearing v ports s (l .store) .reply)) 1 || eqb (length (hearing v ports s (l .store) .reply)) 3 || eqb (length (hearing v ports s (l .store) .reply)) 19 ≡ true
+    long (refused d m f q) =
+        let y : d ∷ [] ≡ 48 ∷ t = sym (ap (λ (x : Said). x .reply) q) ∙ r in
+        let w : d ≡ 48 = cc in
+        absurd (m w)
+    long (failed f q) =
+        let y : 71 ∷ [] ≡ 48 ∷ t = sym (ap (λ (x : Said). x .reply) q) ∙ r in
+        let w : _≡_ {A = ℕ} 71 48 = cc in
+        absurd (omega arith)
+    long (zeroed u p m) = m
+    long (still p m) =
+        let y : [] ≡ 48 ∷ t = sym p ∙ r in
+        let w : _≡_ {A = ℕ} 0 1 = cc in
+        absurd (omega arith)
+
+    by : (x : Bool) → eqb v 13 ≡ x
+        → eqb (receiving v ports s (l .reply) (l .store) .result .len) 1 || eqb (receiving v ports s (l .reply) (l .store) .result .len) 3
+        || eqb (receiving v ports s (l .reply) (l .store) .result .len) 19 ≡ true
+    by true q = rw (out-len v ports l s h) (long (rw (eqb-true v 13 q) (came s ports (l .store))))
+    by false q = absurd (other-zero v ports s (l .store) q t r)

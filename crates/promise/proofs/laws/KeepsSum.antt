@@ -1,0 +1,178 @@
+-- What a line does to a position: it is set to zero where `zeroes` says so, and else stays. Assumes nothing.
+use Prim.Native.Nat.{ℕ}
+use mathlib.Core.Path.{_≡_, refl, sym, ap}
+use mathlib.Core.Bool.{Bool, true, false, not, _&&_, _||_}
+use mathlib.Core.List.{List, [], _∷_}
+use borrow.Author.Tests.{eqb-true}
+use lib.Dec.{eqb}
+use lib.IntN.{pos}
+use lib.ListN.{getD}
+use Rattle.count.specs.Pick.{pick}
+use Rattle.count.specs.Numbers.{value, half}
+use Rattle.count.proofs.laws.Truth.{never, and-false}
+use Rattle.motion.specs.declared.Counters.{Counters}
+use Rattle.motion.specs.declared.Planned.{Planned}
+use Rattle.motion.specs.declared.Planned.the-variants as planned
+use Rattle.motion.specs.Next.{leftOf}
+use Rattle.motion.specs.Plan.{asked, planOf}
+use Rattle.line.specs.declared.Letter.{Letter}
+use Rattle.line.specs.declared.Letter.the-variants as letter
+use Rattle.line.specs.declared.Direct.{Direct}
+use Rattle.line.specs.Lines.{letterPaper, directOf}
+use Rattle.engine.specs.declared.Job.the-variants as job
+use Rattle.engine.specs.State.{names, mixed, withJob, begun, begunBy, beginOf}
+use Rattle.board.specs.declared.Board.{Board}
+use Rattle.board.specs.State.{board, textOf, lineDone, Said, said}
+use Rattle.board.specs.Direct.{isWrong, heardStanding, replyOf, effectOf, accepted, directSaid, started-with}
+use Rattle.promise.specs.Demands.{isIdle, idles, Axis, X, Y, Z, counterOf, position, part, zeroLine}
+use Rattle.promise.proofs.laws.KeepsLines.{row-facts}
+
+-- ---- four tests joined are off where one of them is
+
+pub off-1 : (i o r l : Bool) → i ≡ false → i && o && r && l ≡ false
+off-1 i o r l e = rw e
+
+pub off-2 : (i o r l : Bool) → o ≡ false → i && o && r && l ≡ false
+off-2 true o r l e = rw e
+off-2 false o r l e = refl
+
+pub off-3 : (i o r l : Bool) → r ≡ false → i && o && r && l ≡ false
+off-3 true true r l e = rw e
+off-3 true false r l e = refl
+off-3 false o r l e = refl
+
+module _ (a : Axis) (b : Board) where
+  -- the return sets the axis to zero, by its reply
+  abbrev pub sets : Said → Bool
+  sets x = idles b && not (b .line .over) && eqb (getD (x .reply) 0 0) 48 && zeroLine a (directOf (textOf (b .line)))
+
+  abbrev pub Right : Said → Type 0
+  Right x = position a (x .board) ≡ pick (sets x) (pos 0) (position a b)
+
+  -- where nothing is set to zero, the position stays
+  pub same : (x : Said) → x .board .engine .at ≡ b .engine .at → sets x ≡ false → Right x
+  same x p q = rw q (ap (λ (c : Counters). value (counterOf a c)) p)
+
+  -- ---- an accepted line, idle
+
+  module _ (ports words store : List ℕ) where
+    abbrev after : Letter → Said
+    after k = accepted (effectOf k words ports (b .engine) (b .standing)) store
+
+    abbrev zeroBy : Letter → Bool
+    zeroBy k = eqb (letterPaper k .number) 48 || (eqb (letterPaper k .number) 78 && names (getD words 0 0) (part a))
+
+    -- by its letter
+    abbrev RightBy : Letter → Type 0
+    RightBy k = position a (after k .board) ≡ pick (eqb (getD (after k .reply) 0 0) 48 && zeroBy k) (pos 0) (position a b)
+
+    moving-at : (p : Planned) → started-with (begunBy p (b .engine)) (b .standing) .engine .at ≡ b .engine .at
+    moving-at (planned.Going m) = by (eqb (leftOf m) 0)
+      where
+        by : (z : Bool) → pick z (begun 48 (b .engine)) (begun 0 (withJob (b .engine) (job.Direct m))) .engine .at ≡ b .engine .at
+        by true = refl
+        by false = refl
+    moving-at planned.Outside = refl
+
+    start-at : (s : Bool) → effectOf letter.Start words ports (b .engine) s .engine .at ≡ b .engine .at
+    start-at true = refl
+    start-at false = refl
+
+    kept-at : (k : Letter) → after k .board .engine .at ≡ b .engine .at → zeroBy k ≡ false → RightBy k
+    kept-at k p q = rw (q, and-false) (ap (λ (c : Counters). value (counterOf a c)) p)
+
+zero-pick : (t : Bool) (c : ℕ) → value (pick t half c) ≡ pick t (pos 0) (value c)
+zero-pick true c = refl
+zero-pick false c = refl
+
+axes-at : (a : Axis) (b : Board) (ports words store : List ℕ) → RightBy a b ports words store letter.Axes
+axes-at X b ports words store = refl
+axes-at Y b ports words store = refl
+axes-at Z b ports words store = refl
+
+zero-at : (a : Axis) (b : Board) (ports words store : List ℕ) → RightBy a b ports words store letter.Zero
+unfolding mixed
+zero-at X b ports words store = zero-pick (names (getD words 0 0) 1) (b .engine .at .x)
+zero-at Y b ports words store = zero-pick (names (getD words 0 0) 2) (b .engine .at .y)
+zero-at Z b ports words store = zero-pick (names (getD words 0 0) 4) (b .engine .at .z)
+
+module _ (a : Axis) (b : Board) (ports words store : List ℕ) where
+  abbrev keep : (k : Letter) → after a b ports words store k .board .engine .at ≡ b .engine .at → zeroBy a b ports words store k ≡ false → RightBy a b ports words store k
+  keep k p q = kept-at a b ports words store k p q
+
+  letter-at : (k : Letter) → isWrong k ≡ false → RightBy a b ports words store k
+  unfolding beginOf
+  letter-at letter.Wrong h = never (sym h)
+  letter-at letter.Axes h = axes-at a b ports words store
+  letter-at letter.Relative h =
+      keep letter.Relative (moving-at a b ports words store (planOf (asked (b .engine .axes) (b .engine .three) (b .engine .at) (b .engine .origin) false words))) refl
+  letter-at letter.Absolute h =
+      keep letter.Absolute (moving-at a b ports words store (planOf (asked (b .engine .axes) (b .engine .three) (b .engine .at) (b .engine .origin) true words))) refl
+  letter-at letter.Origin h = keep letter.Origin refl refl
+  letter-at letter.Zero h = zero-at a b ports words store
+  letter-at letter.Three h = keep letter.Three refl refl
+  letter-at letter.Position h = keep letter.Position refl refl
+  letter-at letter.Input h = keep letter.Input refl refl
+  letter-at letter.Output h = keep letter.Output refl refl
+  letter-at letter.Store h = keep letter.Store refl refl
+  letter-at letter.Empty h = keep letter.Empty refl refl
+  letter-at letter.Start h = keep letter.Start (start-at a b ports words store (b .standing)) refl
+
+  -- P, b and S alone are heard while something stands
+  standing-at : (k : Letter) → heardStanding k ≡ true → after a b ports words store k .board .engine .at ≡ b .engine .at
+  standing-at letter.Position h = refl
+  standing-at letter.Input h = refl
+  standing-at letter.Start h = start-at a b ports words store (b .standing)
+  standing-at letter.Wrong h = never h
+  standing-at letter.Axes h = never h
+  standing-at letter.Relative h = never h
+  standing-at letter.Absolute h = never h
+  standing-at letter.Origin h = never h
+  standing-at letter.Zero h = never h
+  standing-at letter.Three h = never h
+  standing-at letter.Output h = never h
+  standing-at letter.Store h = never h
+  standing-at letter.Empty h = never h
+
+module _ (a : Axis) (b : Board) (ports store : List ℕ) where
+  abbrev line : Direct
+  line = directOf (textOf (b .line))
+
+  abbrev reply : ℕ
+  reply = replyOf (b .engine) (b .standing) line
+
+  heard-so : (x : Bool) → true && not x ≡ false → x ≡ true
+  heard-so true e = refl
+  heard-so false e = never (sym e)
+
+  -- a line on a board that stands
+  pub stands-right : b .standing ≡ true → Right a b (directSaid line ports b store)
+  unfolding directSaid
+  stands-right s = by (eqb reply 48) refl
+    where
+      no-idle : (i : Bool) → i && not (b .standing) ≡ false
+      no-idle true = rw s
+      no-idle false = refl
+
+      off : (x : Said) → sets a b x ≡ false
+      off x = off-1 (idles b) (not (b .line .over)) (eqb (getD (x .reply) 0 0) 48) (zeroLine a line) (no-idle (isIdle (b .engine .run .job)))
+
+      by : (z : Bool) → eqb reply 48 ≡ z
+          → Right a b (pick z (accepted (effectOf (line .letter) (line .words) ports (b .engine) (b .standing)) store) (said (lineDone b) (reply ∷ []) store))
+      by true e =
+          let f = row-facts (b .engine) (b .standing) line (eqb-true reply 48 e) .1 in
+          same a b (after a b ports (line .words) store (line .letter))
+          (standing-at a b ports (line .words) store (line .letter) (heard-so (heardStanding (line .letter)) (rw s at f))) (off (after a b ports (line .words) store (line .letter)))
+      by false e = same a b (said (lineDone b) (reply ∷ []) store) refl (off (said (lineDone b) (reply ∷ []) store))
+
+  -- a line on an idle board
+  pub idle-right : idles b ≡ true → b .line .over ≡ false → Right a b (directSaid line ports b store)
+  unfolding directSaid zeroLine
+  idle-right i o = by (eqb reply 48) refl
+    where
+      by : (z : Bool) → eqb reply 48 ≡ z
+          → Right a b (pick z (accepted (effectOf (line .letter) (line .words) ports (b .engine) (b .standing)) store) (said (lineDone b) (reply ∷ []) store))
+      by true e =
+          let f = row-facts (b .engine) (b .standing) line (eqb-true reply 48 e) .0 in
+          rw (i, o) (letter-at a b ports (line .words) store (line .letter) f)
+      by false e = same a b (said (lineDone b) (reply ∷ []) store) refl (off-3 (idles b) (not (b .line .over)) (eqb reply 48) (zeroLine a line) e)

@@ -1,0 +1,101 @@
+-- A board that answers every line as ours does and loses the bytes at the end line fails the round trip. Assumes nothing.
+use Prim.Native.Nat.{ℕ, zero, suc, _<_}
+use mathlib.Core.Path.{_≡_, refl, ap}
+use mathlib.Core.Bool.{true, _&&_}
+use mathlib.Core.List.{List, [], _∷_}
+use native.Mathlib.Omega.{arith}
+use lib.ListN.{getD, replicate}
+use Rattle.count.specs.Pick.{pick}
+use Rattle.count.specs.Numbers.{within, in24, signed, word, placed, added}
+use Rattle.count.specs.Ranges.{inSpeed, inOffset, inBack, inLoop, inDelay, inCharacter, inSwitch, inPort, inByte, inZero, rightCount, rightZ2, rightDistances, rightSpeeds}
+use Rattle.count.specs.Text.{hexDigit, hexes, twos24, report, twoHex, decimal, digits, shown}
+use Rattle.motion.specs.Next.{fromOf, toOf, speedAt, skipped, nextBy, pulseOf, afterOf, leftOf}
+use Rattle.motion.specs.Phase.{pulses, steps, signAt, countAfter}
+use Rattle.motion.specs.Plan.{goal, goalX, goalY, goalZ1, goalZ2, firstSpeed, laterSpeed, route, goingTo, planOf}
+use Rattle.motion.specs.Sound.{counted, inRange, underWay}
+use Rattle.line.specs.Lines.{behind, letterOf, afterAddress, directOf, codeOf, storedOf}
+use Rattle.line.specs.Numbers.{digitsBehind, digitsOf, numberOf, parted, itemsOf, numbersOf}
+use Rattle.record.specs.Bytes.{bytes4, numBytes, encode, wordAt, wordsOf, front}
+use Rattle.record.specs.Fault.{isCode, countRight, axesRight, loopRight, rangesRight, speedsRight, faultOf}
+use Rattle.record.specs.Keep.{hasRoom, storeOf}
+use Rattle.record.specs.Places.{recordAt, spotFrom, spotOf, fetchOf, recordsFrom, recordsOf}
+use Rattle.program.specs.Check.{holds, meets, early, overlaps, holders, outside, strays, letter, checked}
+use Rattle.program.specs.Onward.{inside, again, opens, looped, aimed, onwardOf}
+use Rattle.program.specs.Program.{aimOf, checkOf, verdictOf}
+use Rattle.engine.specs.Sound.{soundOf}
+use Rattle.engine.specs.State.{mixed, resetOf, heard, beginOf}
+use Rattle.engine.specs.Tick.{performed, ticked, runsOf}
+use Rattle.board.specs.Calls.{receiving, clocking}
+use Rattle.board.specs.Direct.{first, replyOf, directSaid}
+use Rattle.board.specs.Receive.{earOf, returned, gathering, stopped, broken, resetSaid, hearing}
+use Rattle.board.specs.State.{gathered, sound}
+use Rattle.board.specs.Storing.{recordReply, storedSaid}
+use Rattle.record.specs.declared.Held.{Held}
+use Rattle.record.specs.declared.Record.{Record}
+use Rattle.record.specs.Bytes.{made}
+use Rattle.record.specs.Places.Records.{are}
+use Rattle.record.specs.Bytes.{Below}
+use Rattle.record.proofs.laws.Below.{below-cons}
+use Rattle.record.specs.Listing.{more, numbersText, lineText, listText}
+use Rattle.program.specs.Program.{passes, accepted}
+use Rattle.board.specs.declared.Board.{Board}
+use Rattle.board.specs.Calls.{Outcome}
+use Rattle.course.specs.Walk.{noPorts, noStore}
+use Rattle.promise.specs.Machine.{Machine, lent, Heard, ours}
+use Rattle.promise.specs.Demands.{idles, stores, ticks, Host, sent, RoundTrip}
+
+-- the store as ours leaves it, but empty of bytes where storing has ended
+abbrev lost : Board → Outcome → List ℕ
+lost b o = pick (stores b && idles (o .result .board)) noStore (o .store)
+
+abbrev lossy : Board → Outcome → Board × Heard
+lossy b o = (o .result .board, record { len = o .result .len; refusal = o .result .refusal; after = lent (o .reply) (lost b o) })
+
+abbrev pub loses : Machine
+loses = record {
+  State = Board;
+  board = λ b. b;
+  first = ours .first;
+  hear = λ v ports l b. lossy b (receiving v ports b (l .reply) (l .store));
+  tick = ours .tick;
+  go = ours .go;
+}
+
+-- ---- a program of one delay
+
+abbrev delay : Record
+delay = made 53 (1 ∷ [])
+
+abbrev held : Held
+held = record { used = 8; records = 1; axes = 1 }
+
+abbrev written : List ℕ
+written = 0xD7 ∷ 0x2B ∷ 53 ∷ 1 ∷ 1 ∷ 0 ∷ 0 ∷ 0 ∷ replicate 16376 0
+
+abbrev host : Host
+host = record { ports = λ i. noPorts; reply = λ i. replicate 32 0; calls = λ i. 0; room = λ i. omega arith }
+
+zeros : (k j : ℕ) → getD (replicate k 0) j 0 < 256
+zeros zero j = omega arith
+zeros (suc k) zero = omega arith
+zeros (suc k) (suc j) = zeros k j
+
+zeros-below : (k : ℕ) → Below 256 (replicate k 0)
+zeros-below k = record { at = zeros k }
+
+written-below : Below 256 written
+written-below =
+    let c : (x : ℕ) (l : List ℕ) → x < 256 → Below 256 l → Below 256 (x ∷ l) = below-cons 256 (omega arith) in
+    c 0xD7 _ (omega arith) (c 0x2B _ (omega arith) (c 53 _ (omega arith) (c 1 _ (omega arith) (c 1 _ (omega arith)
+    (c 0 _ (omega arith) (c 0 _ (omega arith) (c 0 _ (omega arith) (zeros-below 16376))))))))
+
+facts : (accepted held written ≡ true) × (recordsOf held written ≡ are (delay ∷ []))
+unfolding passes accepted within in24 signed word placed added inSpeed inOffset inBack inLoop inDelay inCharacter inSwitch inPort inByte inZero rightCount rightZ2 rightDistances rightSpeeds hexDigit hexes twos24 report twoHex decimal digits shown fromOf toOf speedAt skipped nextBy pulseOf afterOf leftOf pulses steps signAt countAfter goal goalX goalY goalZ1 goalZ2 firstSpeed laterSpeed route goingTo planOf counted inRange underWay behind letterOf afterAddress directOf codeOf storedOf digitsBehind digitsOf numberOf parted itemsOf numbersOf bytes4 numBytes encode wordAt wordsOf front isCode countRight axesRight loopRight rangesRight speedsRight faultOf hasRoom storeOf recordAt spotFrom spotOf fetchOf recordsFrom recordsOf holds meets early overlaps holders outside strays letter checked inside again opens looped aimed onwardOf aimOf checkOf verdictOf soundOf mixed resetOf heard beginOf performed ticked runsOf receiving clocking first replyOf directSaid earOf returned gathering stopped broken resetSaid hearing gathered sound recordReply storedSaid
+facts = (refl, refl)
+
+pub loses-fails : RoundTrip loses → ⊥
+unfolding sent ticks more numbersText lineText listText within in24 signed word placed added inSpeed inOffset inBack inLoop inDelay inCharacter inSwitch inPort inByte inZero rightCount rightZ2 rightDistances rightSpeeds hexDigit hexes twos24 report twoHex decimal digits shown fromOf toOf speedAt skipped nextBy pulseOf afterOf leftOf pulses steps signAt countAfter goal goalX goalY goalZ1 goalZ2 firstSpeed laterSpeed route goingTo planOf counted inRange underWay behind letterOf afterAddress directOf codeOf storedOf digitsBehind digitsOf numberOf parted itemsOf numbersOf bytes4 numBytes encode wordAt wordsOf front isCode countRight axesRight loopRight rangesRight speedsRight faultOf hasRoom storeOf recordAt spotFrom spotOf fetchOf recordsFrom recordsOf holds meets early overlaps holders outside strays letter checked inside again opens looped aimed onwardOf aimOf checkOf verdictOf soundOf mixed resetOf heard beginOf performed ticked runsOf receiving clocking first replyOf directSaid earOf returned gathering stopped broken resetSaid hearing gathered sound recordReply storedSaid
+loses-fails f =
+    let r = f held written (delay ∷ []) noStore host refl written-below (omega arith) (omega arith) (facts .0) (facts .1) refl (zeros-below 16384) in
+    let z : _≡_ {A = ℕ} 0 0xD7 = ap (λ (s : List ℕ). getD s 0 0) (r .bytes) in
+    omega arith

@@ -1,0 +1,180 @@
+-- Demand 3 is not empty on our machine: a stop really stands and sends F wherever 01 allows it, does nothing elsewhere, and an accepted S
+-- really goes on (see the end of `Stop.antt`).
+use Prim.Native.Nat.{ℕ, _≤_}
+use mathlib.Core.Bool.{Bool, true, false, not, _&&_, _||_, true≢false}
+use mathlib.Core.List.{List, [], _∷_}
+use mathlib.Core.Path.{_≡_, refl, sym, _∙_, ap, subst}
+use borrow.Author.Tests.{le-ltb, eq-eqb}
+use lib.Dec.{leb, eqb}
+use lib.ListN.{length}
+use Rattle.count.specs.Pick.{pick}
+use Rattle.line.specs.declared.Letter.the-variants as letter
+use Rattle.line.specs.declared.Direct.{Direct}
+use Rattle.line.specs.Lines.{directOf, afterAddress, letterOf, behind, storedOf}
+use Rattle.engine.specs.declared.Job.{Job}
+use Rattle.engine.specs.declared.Job.the-variants as job
+use Rattle.engine.specs.declared.Engine.{Engine}
+use Rattle.engine.specs.Sound.{soundOf}
+use Rattle.board.specs.declared.Line.{Line}
+use Rattle.board.specs.declared.Board.{Board}
+use Rattle.board.specs.State.{board, noLine, textOf, gathered, sound, Said, said}
+use Rattle.board.specs.Direct.{replyOf, first, directSaid}
+use Rattle.board.specs.Storing.{storedSaid}
+use Rattle.board.specs.Receive.{holdsBy, earOf, isStoring, stopped, hearing, returned, gathering}
+use Rattle.board.specs.Calls.{Outcome, answered, receiving}
+use Rattle.board.proofs.laws.Hears.{sound-engine}
+use Rattle.promise.specs.Machine.{ours}
+use Rattle.promise.specs.Steps.{reached}
+use Rattle.promise.specs.Demands.{isWaiting}
+use Rattle.promise.specs.Stop.{receive, restsBy, delaysBy, stoppable, ahead, last, Called, Comes, heardAt, StopHolds, StopElseDoesNothing, StartGoesOn, startLine, StopAndStart}
+use Rattle.promise.proofs.laws.StopBoard.{left}
+use Rattle.promise.proofs.laws.StopSteps.{At}
+
+-- a call that is not refused
+heard : (v : ℕ) (ports reply : List ℕ) (b : Board) (store : List ℕ) → 32 ≤ length reply → length store ≡ 16384 → sound b ≡ true →
+    receiving v ports b reply store ≡ answered (hearing v ports b store) reply
+unfolding receiving
+heard v ports reply b store r n s = rw (le-ltb (length reply) 32 r, eq-eqb (length store) 16384 n, s)
+
+comes : (v : ℕ) (ports reply : List ℕ) (p : At) (q : Said) → 32 ≤ length reply → Called ours p → hearing v ports (p .0) (p .1) ≡ q →
+    Comes ours (heardAt ours v ports reply p) (q .board) (q .reply) reply (q .store)
+comes v ports reply (b, store) q r c h =
+    let e : receiving v ports b reply store ≡ answered q reply = heard v ports reply b store r (c .store) (c .sound) ∙ ap (λ (d : Said). answered d reply) h in
+    record {
+      board = ap (λ (o : Outcome). o .result .board) e;
+      len = ap (λ (o : Outcome). o .result .len) e;
+      refusal = ap (λ (o : Outcome). o .result .refusal) e;
+      reply = ap (λ (o : Outcome). o .reply) e;
+      bytes = ap (λ (o : Outcome). o .store) e;
+    }
+
+-- ---- where a stop holds
+
+holds-by : (s : Bool) (j : Job) → not s && not (isWaiting j || restsBy j) && not (delaysBy j) ≡ holdsBy j && not s
+holds-by true job.Idle = refl
+holds-by true job.Storing = refl
+holds-by true (job.Direct m) = refl
+holds-by true job.Ready = refl
+holds-by true (job.Moving m) = refl
+holds-by true (job.Delay q) = refl
+holds-by true (job.Wait c t) = refl
+holds-by false job.Idle = refl
+holds-by false job.Storing = refl
+holds-by false (job.Direct m) = refl
+holds-by false job.Ready = refl
+holds-by false (job.Moving m) = refl
+holds-by false (job.Delay q) = refl
+holds-by false (job.Wait c t) = refl
+
+stop-by : (ports : List ℕ) (b : Board) (store : List ℕ) (k : Bool) → stoppable b ≡ k →
+    hearing 253 ports b store ≡ pick k (said (board (b .engine) true (b .line)) (70 ∷ []) store) (said b [] store)
+unfolding hearing stopped
+stop-by ports b store k h =
+    ap (λ (t : Bool). pick t (said (board (b .engine) true (b .line)) (70 ∷ []) store) (said b [] store))
+    (sym (holds-by (b .standing) (b .engine .run .job)) ∙ h)
+
+pub ours-holds : StopHolds ours
+ours-holds p ports reply c r h = comes 253 ports reply p (said (board (p .0 .engine) true (p .0 .line)) (70 ∷ []) (p .1)) r c (stop-by ports (p .0) (p .1) true h)
+
+pub ours-else : StopElseDoesNothing ours
+ours-else p ports reply c r h = comes 253 ports reply p (said (p .0) [] (p .1)) r c (stop-by ports (p .0) (p .1) false h)
+
+-- ---- an accepted S
+
+start-said : (d : Direct) (ports : List ℕ) (e : Engine) (l : Line) (store : List ℕ) → d .letter ≡ letter.Start → replyOf e true d ≡ 48 →
+    directSaid d ports (board e true l) store ≡ said (board e false noLine) [] store
+unfolding directSaid
+start-said d ports e l store h r = rw (r, h)
+
+start-return : (ports : List ℕ) (e : Engine) (l : Line) (store : List ℕ) → l .over ≡ false → directOf (textOf l) .letter ≡ letter.Start →
+    replyOf e true (directOf (textOf l)) ≡ 48 → returned ports (board e true l) store ≡ said (board e false noLine) [] store
+unfolding returned
+start-return ports e l store o h r = by (l .over) (isStoring (e .run .job)) o
+  where
+    by : (t c : Bool) → t ≡ false → pick t (said (board e true noLine) (53 ∷ []) store)
+        (pick (c && false) (storedSaid (storedOf (textOf l)) (board e true l) store) (directSaid (directOf (textOf l)) ports (board e true l) store)) ≡ said (board e false noLine) [] store
+    by true c q = absurd (true≢false q)
+    by false true q = start-said (directOf (textOf l)) ports e l store h r
+    by false false q = start-said (directOf (textOf l)) ports e l store h r
+
+start-heard : (ports : List ℕ) (e : Engine) (l : Line) (store : List ℕ) → l .over ≡ false → directOf (textOf l) .letter ≡ letter.Start →
+    replyOf e true (directOf (textOf l)) ≡ 48 → hearing 13 ports (board e true l) store ≡ said (board e false noLine) [] store
+unfolding hearing earOf gathering
+start-heard ports e l store o h r = start-return ports e l store o h r
+
+pub ours-goes-on : StartGoesOn ours
+ours-goes-on p ports reply c r s o h k =
+    comes 13 ports reply p (said (board (p .0 .engine) false noLine) [] (p .1)) r c
+    (ap (λ (t : Bool). hearing 13 ports (board (p .0 .engine) t (p .0 .line)) (p .1)) s ∙ start-heard ports (p .0 .engine) (p .0 .line) (p .1) o h k)
+
+-- ---- a stop and `@0S`
+
+abbrev Stood : Board → List ℕ → List ℕ → List ℕ → Type 0
+Stood b ports reply store =
+    (ahead ours (b, store) (receive 253 ports reply) .0 .standing ≡ true)
+    × (last ours (b, store) (receive 253 ports reply ∷ startLine ours ports reply) .0 ≡ b)
+    × (last ours (b, store) (receive 253 ports reply ∷ startLine ours ports reply) .1 ≡ store)
+
+module _ (ports reply : List ℕ) (e : Engine) (store : List ℕ) (r : 32 ≤ length reply) (n : length store ≡ 16384) (s : soundOf e ≡ true) where
+  next : (v : ℕ) (t : Bool) (l : Line) (q : At) → leb (l .len) 80 ≡ true → left (hearing v ports (board e t l) store) ≡ q →
+      ahead ours (board e t l, store) (receive v ports reply) ≡ q
+  unfolding sound
+  next v t l q h g = ap (λ (o : Outcome). (o .result .board, o .store)) (heard v ports reply (board e t l) store r n (rw (s, h))) ∙ g
+
+  line1 : Line
+  line1 = gathered 64 noLine
+
+  line2 : Line
+  line2 = gathered 48 (gathered 64 noLine)
+
+  line3 : Line
+  line3 = gathered 83 (gathered 48 (gathered 64 noLine))
+
+  at-sign : ahead ours (board e true noLine, store) (receive 64 ports reply) ≡ (board e true line1, store)
+  unfolding hearing earOf gathering line1
+  at-sign = next 64 true noLine (board e true line1, store) refl refl
+
+  zero-sign : ahead ours (board e true line1, store) (receive 48 ports reply) ≡ (board e true line2, store)
+  unfolding hearing earOf gathering gathered line1 line2
+  zero-sign = next 48 true line1 (board e true line2, store) refl refl
+
+  letter-sign : ahead ours (board e true line2, store) (receive 83 ports reply) ≡ (board e true line3, store)
+  unfolding hearing earOf gathering gathered line2 line3
+  letter-sign = next 83 true line2 (board e true line3, store) refl refl
+
+  is-start : directOf (textOf line3) .letter ≡ letter.Start
+  unfolding gathered line3 directOf afterAddress letterOf behind
+  is-start = refl
+
+  is-accepted : eqb (e .axes) 0 ≡ false → replyOf e true (directOf (textOf line3)) ≡ 48
+  unfolding gathered line3 directOf afterAddress letterOf behind replyOf first
+  is-accepted a = rw a
+
+  return-sign : eqb (e .axes) 0 ≡ false → ahead ours (board e true line3, store) (receive 13 ports reply) ≡ (board e false noLine, store)
+  unfolding gathered line3
+  return-sign a = next 13 true line3 (board e false noLine, store) refl (ap left (start-heard ports e line3 store refl is-start (is-accepted a)))
+
+  goes-on : eqb (e .axes) 0 ≡ false → last ours (board e true noLine, store) (startLine ours ports reply) ≡ (board e false noLine, store)
+  unfolding reached
+  goes-on a =
+      ap (λ (q : At). ahead ours (ahead ours (ahead ours q (receive 48 ports reply)) (receive 83 ports reply)) (receive 13 ports reply)) at-sign
+      ∙ ap (λ (q : At). ahead ours (ahead ours q (receive 83 ports reply)) (receive 13 ports reply)) zero-sign
+      ∙ ap (λ (q : At). ahead ours q (receive 13 ports reply)) letter-sign
+      ∙ return-sign a
+
+  stops : stoppable (board e false noLine) ≡ true → ahead ours (board e false noLine, store) (receive 253 ports reply) ≡ (board e true noLine, store)
+  stops h = next 253 false noLine (board e true noLine, store) refl (ap left (stop-by ports (board e false noLine) store true h))
+
+  whole : stoppable (board e false noLine) ≡ true → eqb (e .axes) 0 ≡ false →
+      last ours (board e false noLine, store) (receive 253 ports reply ∷ startLine ours ports reply) ≡ (board e false noLine, store)
+  unfolding reached
+  whole h a = ap (λ (q : At). last ours q (startLine ours ports reply)) (stops h) ∙ goes-on a
+
+  both : stoppable (board e false noLine) ≡ true → eqb (e .axes) 0 ≡ false → Stood (board e false noLine) ports reply store
+  both h a = (ap (λ (q : At). q .0 .standing) (stops h), ap (λ (q : At). q .0) (whole h a), ap (λ (q : At). q .1) (whole h a))
+
+pub ours-stop-and-start : StopAndStart ours
+ours-stop-and-start p ports reply b r h a =
+    let q : p .0 ≡ board (p .0 .engine) false noLine = λ i. board (p .0 .engine) (b .standing i) (b .line i) in
+    subst (λ (d : Board). Stood d ports reply (p .1)) (sym q)
+    (both ports reply (p .0 .engine) (p .1) r (b .store) (sound-engine (p .0) (b .sound)) (subst (λ (d : Board). stoppable d ≡ true) q h) a)

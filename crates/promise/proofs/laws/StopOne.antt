@@ -1,0 +1,81 @@
+-- One step of a schedule on our machine, refused or not, as the lemma about two machines wants it.
+use Prim.Native.Nat.{ℕ, _<_}
+use native.Mathlib.Omega.{arith}
+use mathlib.Core.Bool.{Bool, true, false, not, _&&_, _||_, true≢false}
+use mathlib.Core.List.{List, []}
+use mathlib.Core.Path.{_≡_, refl, sym, subst}
+use borrow.Author.Tests.{le-ltb, lt-ltb, eqb-true, eqb-false, ne-eqb}
+use lib.Dec.{ltb, eqb}
+use Rattle.count.proofs.laws.Truth.{and-right}
+use Rattle.board.specs.declared.Board.{Board}
+use Rattle.board.specs.Receive.{earOf, stopped, ordinary, hearing}
+use Rattle.promise.specs.Machine.{ours}
+use Rattle.promise.proofs.laws.Guard as G
+use Rattle.promise.specs.Stop.{Step, receive, call, Mild, waits, rests, counts, takes, ahead}
+use Rattle.promise.proofs.laws.StopBoard.{twinBoard, Fit, left}
+use Rattle.promise.proofs.laws.StopSteps.{byte, tick, At, twin, actOf, right, ticks, acted, our-byte, our-tick, Result, guarded, one-stop, one-ordinary, one-tick}
+
+-- ---- one step, refused or not
+
+heard-stop : (v : ℕ) (ports : List ℕ) (b : Board) (store : List ℕ) → eqb v 253 ≡ true → hearing v ports b store ≡ stopped b store
+unfolding hearing
+heard-stop v ports b store h = rw h
+
+heard-plain : (v : ℕ) (ports : List ℕ) (b : Board) (store : List ℕ) → v < 253 → hearing v ports b store ≡ ordinary (earOf b) v ports b store
+unfolding hearing
+heard-plain v ports b store h =
+    rw (ne-eqb v 253 (λ q. omega arith), ne-eqb v 254 (λ q. omega arith), ne-eqb v 255 (λ q. omega arith))
+
+below : (v : ℕ) → v < 254 → eqb v 253 ≡ false → v < 253
+below v h q = let n = eqb-false v 253 q in omega (arith, n)
+
+byte-free : (v : ℕ) (ports : List ℕ) (p : At) → v < 254 → Fit (p .0) →
+    Result (ltb v 253 && takes (p .0)) p (left (hearing v [] (twinBoard (p .0)) (p .1))) (left (hearing v ports (p .0) (p .1)))
+byte-free v ports (b, store) m f = by (eqb v 253) refl
+  where
+    by : (t : Bool) → eqb v 253 ≡ t →
+        Result (ltb v 253 && takes b) (b, store) (left (hearing v [] (twinBoard b) store)) (left (hearing v ports b store))
+    by true q =
+        rw (le-ltb v 253 (let e = eqb-true v 253 q in omega arith), heard-stop v ports b store q)
+        (one-stop (b .engine) (b .line) store (b .standing) (left (hearing v [] (twinBoard b) store)) f)
+    by false q =
+        let h = below v m q in
+        rw (lt-ltb v 253 h, heard-plain v ports b store h, heard-plain v [] (twinBoard b) store h)
+        (one-ordinary (b .engine) (b .line) store v ports (b .standing) f)
+
+-- the steps that count: a byte that is taken, a clock call while the board runs
+abbrev pub keeps : At → Step → Bool
+keeps p (receive v ports reply) = ltb v 253 && takes (p .0)
+keeps p call = counts (p .0)
+
+awake-and : (s k : Bool) → not s && k ≡ true → s ≡ false
+awake-and true k h = absurd (true≢false (sym h))
+awake-and false k h = refl
+
+-- whatever counts comes while nothing stands
+pub awake : (p : At) (e : Step) → keeps p e ≡ true → p .0 .standing ≡ false
+awake p (receive v ports reply) h = awake-and (p .0 .standing) (waits (p .0) || rests (p .0)) (and-right (ltb v 253) (takes (p .0)) h)
+awake p call h = awake-and (p .0 .standing) (not (waits (p .0) || rests (p .0))) h
+
+abbrev pub FitAt : At → Type 0
+FitAt p = Fit (p .0)
+
+pub result : (p : At) (e : Step) → Fit (p .0) → Mild e → Result (keeps p e) p (acted (twin p) (actOf e)) (ahead ours p e)
+result p (receive v ports reply) f (m, n) =
+    subst (λ (q : At). Result (ltb v 253 && takes (p .0)) p (acted (twin p) (byte v)) q) (sym (our-byte v ports reply p (f .short) n))
+    (guarded (right (p .0 .engine) (p .1)) (ltb v 253 && takes (p .0)) p (left (hearing v [] (twinBoard (p .0)) (p .1))) (left (hearing v ports (p .0) (p .1))) f
+    (awake p (receive v ports reply)) (byte-free v ports p m f))
+result p call f m =
+    subst (λ (q : At). Result (counts (p .0)) p (acted (twin p) tick) q) (sym (our-tick p (f .short)))
+    (guarded (right (p .0 .engine) (p .1)) (counts (p .0)) p (ticks (twin p)) (ticks p) f
+    (awake p call) (one-tick (p .0 .engine) (p .0 .line) (p .1) (p .0 .standing) f))
+
+abbrev pub Moves : Bool → At → Step → Type 0
+Moves k p e = G.Moves (ahead ours) acted keeps actOf twin FitAt Mild k p e
+
+pub one : (p : At) (e : Step) → FitAt p → Mild e → Moves (keeps p e) p e × FitAt (ahead ours p e)
+one p e f m = by (keeps p e) (result p e f m)
+  where
+    by : (k : Bool) → Result k p (acted (twin p) (actOf e)) (ahead ours p e) → Moves k p e × FitAt (ahead ours p e)
+    by true h = (h .0, h .1)
+    by false h = (h .0, h .1)

@@ -1,0 +1,214 @@
+-- One step of a schedule on our machine, beside the board that never stopped: the step is made by it too, or leaves it as it is.
+use Prim.Native.Nat.{ℕ, _≤_}
+use mathlib.Core.Bool.{Bool, true, false, not, _&&_, _||_, true≢false}
+use mathlib.Core.List.{List, [], _∷_}
+use mathlib.Core.Path.{_≡_, refl, sym, _∙_, ap, subst}
+use borrow.Author.Tests.{le-ltb}
+use lib.Dec.{leb, eqb}
+use lib.ListN.{length}
+use Rattle.count.specs.Pick.{pick}
+use Rattle.count.specs.Paper.{Paper}
+use Rattle.motion.specs.Next.{pulseOf}
+use Rattle.record.specs.Places.{fetchOf}
+use Rattle.engine.specs.declared.Answer.the-variants as answer
+use Rattle.engine.specs.declared.Engine.{Engine}
+use Rattle.engine.specs.declared.Told.{Told}
+use Rattle.engine.specs.declared.Job.{Job}
+use Rattle.engine.specs.declared.Job.the-variants as job
+use Rattle.engine.specs.State.{paper, heard}
+use Rattle.engine.specs.Tick.{ticked, tickedBy}
+use Rattle.engine.specs.Sound.{soundOf}
+use Rattle.board.specs.declared.Line.{Line}
+use Rattle.board.specs.declared.Board.{Board}
+use Rattle.board.specs.State.{board, noLine, sound, said}
+use Rattle.board.specs.Receive.{earBy, earOf, holdsBy, stopped, ordinary, hearing, gathering}
+use Rattle.board.specs.Calls.{Outcome, refused, answered, receiving, clocked, wentOn, clocking}
+use Rattle.promise.specs.Machine.{ours}
+use Rattle.promise.specs.Demands.{isWaiting}
+use Rattle.promise.specs.Stop.{Step, receive, call, restsBy, counts, takes, spoken, ahead, answerOf}
+use Rattle.promise.proofs.laws.StopBoard.{twinBoard, Clear, Fit, clear-of, left, held-byte}
+use Rattle.promise.proofs.laws.StopQuiet.{twin-of, quiet-byte}
+
+-- ---- what acts on a board that never stops: a byte that is taken, and a clock call that counts
+
+pub data Act : Type 0 where
+  byte : ℕ → Act
+  tick : Act
+
+abbrev pub At : Type 0
+At = Board × List ℕ
+
+abbrev pub twin : At → At
+twin p = (twinBoard (p .0), p .1)
+
+abbrev pub actOf : Step → Act
+actOf (receive v ports reply) = byte v
+actOf call = tick
+
+-- a call is refused or not by the engine and the store alone, where no line is over 80 bytes
+abbrev pub right : Engine → List ℕ → Bool
+right e store = eqb (length store) 16384 && soundOf e
+
+abbrev pub toldOf : Board → List ℕ → Told
+toldOf b store = ticked pulseOf (fetchOf (b .engine .held) store) (b .engine)
+
+abbrev pub ticks : At → At
+ticks p = (pick (p .0 .standing) (p .0) (board (toldOf (p .0) (p .1) .engine) (p .0 .standing) (p .0 .line)), p .1)
+
+abbrev pub tells : At → List Paper
+tells p = spoken (paper (pick (p .0 .standing) answer.Nothing (toldOf (p .0) (p .1) .answer)))
+
+abbrev pub acted : At → Act → At
+acted p (byte v) = pick (right (p .0 .engine) (p .1)) (left (hearing v [] (p .0) (p .1))) p
+acted p tick = pick (right (p .0 .engine) (p .1)) (ticks p) p
+
+abbrev pub actAnswer : At → Act → List Paper
+actAnswer p (byte v) = []
+actAnswer p tick = pick (right (p .0 .engine) (p .1)) (tells p) []
+
+-- ---- our machine's steps in these words
+
+abbrev after : Outcome → At
+after o = (o .result .board, o .store)
+
+pub our-byte : (v : ℕ) (ports reply : List ℕ) (p : At) → leb (p .0 .line .len) 80 ≡ true → 32 ≤ length reply →
+    ahead ours p (receive v ports reply) ≡ pick (right (p .0 .engine) (p .1)) (left (hearing v ports (p .0) (p .1))) p
+unfolding receiving sound
+our-byte v ports reply (b, store) h n = rw (le-ltb (length reply) 32 n, h) (by (eqb (length store) 16384) (soundOf (b .engine)))
+  where
+    by : (g s : Bool) → after (pick (not g) (refused 102 b reply store) (pick (not (s && true)) (refused 103 b reply store) (answered (hearing v ports b store) reply)))
+        ≡ pick (g && s) (left (hearing v ports b store)) (b, store)
+    by true true = refl
+    by true false = refl
+    by false s = refl
+
+pub our-tick : (p : At) → leb (p .0 .line .len) 80 ≡ true →
+    ahead ours p call ≡ pick (right (p .0 .engine) (p .1)) (ticks p) p
+unfolding clocking sound
+our-tick (b, store) h = rw h (by (eqb (length store) 16384) (soundOf (b .engine)) (b .standing))
+  where
+    by : (g s t : Bool) → _≡_ {A = At} (
+      pick (not g) (clocked 102 b answer.Nothing)
+          (pick (not (s && true)) (clocked 103 b answer.Nothing) (pick t (clocked 0 b answer.Nothing) (wentOn b (toldOf b store)))) .board,
+      store,
+    )
+        (pick (g && s) (pick t b (board (toldOf b store .engine) (b .standing) (b .line)), store) (b, store))
+    by true true true = refl
+    by true true false = refl
+    by true false t = refl
+    by false s t = refl
+
+pub our-answer : (p : At) → leb (p .0 .line .len) 80 ≡ true →
+    answerOf ours p call ≡ pick (right (p .0 .engine) (p .1)) (tells p) []
+unfolding clocking sound
+our-answer (b, store) h = rw h (by (eqb (length store) 16384) (soundOf (b .engine)) (b .standing))
+  where
+    by : (g s t : Bool) → spoken (paper (pick (not g) (clocked 102 b answer.Nothing)
+        (pick (not (s && true)) (clocked 103 b answer.Nothing) (pick t (clocked 0 b answer.Nothing) (wentOn b (toldOf b store)))) .answer))
+        ≡ pick (g && s) (spoken (paper (pick t answer.Nothing (toldOf b store .answer)))) []
+    by true true true = refl
+    by true true false = refl
+    by true false t = refl
+    by false s t = refl
+
+-- ---- one step: kept, the twin makes it too; left out, the twin stays
+
+abbrev pub Result : Bool → At → At → At → Type 0
+Result true p u q = (u ≡ twin q) × Fit (q .0) × (q .0 .standing ≡ false)
+Result false p u q = (twin p ≡ twin q) × Fit (q .0)
+
+-- refused, both stay as they are
+pub guarded : (g k : Bool) (p u q : At) → Fit (p .0) → (k ≡ true → p .0 .standing ≡ false) → Result k p u q → Result k p (pick g u (twin p)) (pick g q p)
+guarded true k p u q f s h = h
+guarded false true p u q f s h = (refl, f, s refl)
+guarded false false p u q f s h = (refl, f)
+
+module _ (e : Engine) (l : Line) (store : List ℕ) where
+  abbrev at : Bool → At
+  at s = (board e s l, store)
+
+  -- a stop
+  stop-standing : (c : Bool) (u : At) → Fit (board e true l) →
+      Result false (at true) u (left (pick (c && false) (said (board e true l) (70 ∷ []) store) (said (board e true l) [] store)))
+  stop-standing true u f = (refl, f)
+  stop-standing false u f = (refl, f)
+
+  holds : (u : At) → Fit (board e false l) → l ≡ noLine → Result false (at false) u (board e true l, store)
+  holds u f h = (ap (λ (k : Line). (board e false k, store)) h, record { short = f .short; clear = tt })
+
+  stop-running : (j : Job) (u : At) → Fit (board e false l) → Clear j l →
+      Result false (at false) u (left (pick (holdsBy j && true) (said (board e true l) (70 ∷ []) store) (said (board e false l) [] store)))
+  stop-running job.Idle u f c = (refl, f)
+  stop-running job.Storing u f c = (refl, f)
+  stop-running (job.Direct m) u f c = holds u f c
+  stop-running job.Ready u f c = holds u f c
+  stop-running (job.Moving m) u f c = holds u f c
+  stop-running (job.Delay q) u f c = (refl, f)
+  stop-running (job.Wait v t) u f c = (refl, f)
+
+  pub one-stop : (s : Bool) (u : At) → Fit (board e s l) → Result false (at s) u (left (stopped (board e s l) store))
+  unfolding stopped
+  one-stop true u f = stop-standing (holdsBy (e .run .job)) u f
+  one-stop false u f = stop-running (e .run .job) u f (f .clear)
+
+  -- an ordinary byte
+  module _ (v : ℕ) (ports : List ℕ) where
+    ordinary-quiet : Fit (board e false l) → ((k : Line) → Clear (e .run .job) k) →
+        Result true (at false) (left (gathering v [] (board e false l) store)) (left (gathering v ports (board e false l) store))
+    ordinary-quiet f free =
+        let h = quiet-byte ports e l store v (f .short) free in
+        (h .deaf ∙ (λ i. (sym (twin-of (gathering v ports (board e false l) store .board) (h .standing)) i, gathering v ports (board e false l) store .store)), h .fit, h .standing)
+
+    ordinary-at : (j : Job) → e .run .job ≡ j → Fit (board e false l) → Clear j l →
+        Result (isWaiting j || restsBy j) (at false) (left (ordinary (earBy j) v [] (board e false l) store))
+        (left (ordinary (earBy j) v ports (board e false l) store))
+    ordinary-at job.Idle q f c = ordinary-quiet f (λ k. subst (λ (i : Job). Clear i k) (sym q) tt)
+    ordinary-at job.Storing q f c = ordinary-quiet f (λ k. subst (λ (i : Job). Clear i k) (sym q) tt)
+    ordinary-at (job.Direct m) q f c = (refl, f)
+    ordinary-at job.Ready q f c = (refl, f)
+    ordinary-at (job.Moving m) q f c = (refl, f)
+    ordinary-at (job.Delay n) q f c = (refl, f)
+    ordinary-at (job.Wait w t) q f c = (refl, record { short = f .short; clear = clear-of (heard v e .run .job) c }, refl)
+
+    pub one-ordinary : (s : Bool) → Fit (board e s l) →
+        Result (takes (board e s l)) (at s) (left (ordinary (earOf (twinBoard (board e s l))) v [] (twinBoard (board e s l)) store))
+        (left (ordinary (earOf (board e s l)) v ports (board e s l) store))
+    unfolding earOf
+    one-ordinary true f = let h = held-byte e store ports l v (f .short) in ((λ i. (sym (h .twin) i, sym (h .store) i)), h .fit)
+    one-ordinary false f = ordinary-at (e .run .job) refl f (f .clear)
+
+  -- a clock call
+  goes : (t : Told) → Fit (board e false l) → l ≡ noLine → Result true (at false) (board (t .engine) false l, store) (board (t .engine) false l, store)
+  goes t f c = (refl, record { short = f .short; clear = clear-of (t .engine .run .job) c }, refl)
+
+  tick-at : (j : Job) → Fit (board e false l) → Clear j l →
+      Result (not (isWaiting j || restsBy j)) (at false)
+      (board (tickedBy pulseOf (fetchOf (e .held) store) j e .engine) false l, store)
+      (board (tickedBy pulseOf (fetchOf (e .held) store) j e .engine) false l, store)
+  tick-at job.Idle f c = (refl, f)
+  tick-at job.Storing f c = (refl, f)
+  tick-at (job.Direct m) f c = goes (tickedBy pulseOf (fetchOf (e .held) store) (job.Direct m) e) f c
+  tick-at job.Ready f c = goes (tickedBy pulseOf (fetchOf (e .held) store) job.Ready e) f c
+  tick-at (job.Moving m) f c = goes (tickedBy pulseOf (fetchOf (e .held) store) (job.Moving m) e) f c
+  tick-at (job.Delay q) f c = goes (tickedBy pulseOf (fetchOf (e .held) store) (job.Delay q) e) f c
+  tick-at (job.Wait v t) f c = (refl, f)
+
+  pub one-tick : (s : Bool) → Fit (board e s l) → Result (counts (board e s l)) (at s) (ticks (twin (at s))) (ticks (at s))
+  unfolding ticked
+  one-tick true f = (refl, f)
+  one-tick false f = tick-at (e .run .job) f (f .clear)
+
+  quiet-answer : (j : Job) → not (isWaiting j || restsBy j) ≡ false → spoken (paper (tickedBy pulseOf (fetchOf (e .held) store) j e .answer)) ≡ []
+  quiet-answer job.Idle h = refl
+  quiet-answer job.Storing h = refl
+  quiet-answer (job.Direct m) h = absurd (true≢false h)
+  quiet-answer job.Ready h = absurd (true≢false h)
+  quiet-answer (job.Moving m) h = absurd (true≢false h)
+  quiet-answer (job.Delay q) h = absurd (true≢false h)
+  quiet-answer (job.Wait v t) h = refl
+
+  -- a clock call that does not count answers nothing
+  pub one-answer : (s : Bool) → counts (board e s l) ≡ false → tells (at s) ≡ []
+  unfolding ticked
+  one-answer true h = refl
+  one-answer false h = quiet-answer (e .run .job) h

@@ -1,0 +1,10 @@
+pub mod Walk
+pub mod Below
+pub mod Right
+pub mod Stored
+pub mod Faultless
+pub mod Lines
+pub mod Told
+pub mod Work
+pub mod Put
+pub mod Writing

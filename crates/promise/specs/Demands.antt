@@ -13,10 +13,7 @@ use Rattle.motion.specs.declared.Counters.{Counters}
 use Rattle.line.specs.declared.Direct.{Direct}
 use Rattle.line.specs.Lines.{letterPaper, directOf}
 use Rattle.record.specs.declared.Held.{Held}
-use Rattle.record.specs.declared.Record.{Record}
-use Rattle.record.specs.Places.{recordsOf, inUse}
-use Rattle.record.specs.Places.Records.{are}
-use Rattle.record.specs.Listing.{listText}
+use Rattle.record.specs.Places.{inUse}
 use Rattle.record.specs.Bytes.{Below}
 use Rattle.program.specs.Program.{accepted}
 use Rattle.engine.specs.declared.Job.{Job}
@@ -124,13 +121,15 @@ module _ (m : Machine) where
       (ports : List ℕ) (l : Lent) (s : m .State)
       → hears 13 ports l s .refusal ≡ 0 → hears 13 ports l s .len ≡ 0 → Silent (m .board s) (boardThen 13 ports l s)
 
-  -- a refused call leaves state and buffers as given, with no reply or the answer nothing
+  -- a refused call leaves state and buffers as given, with no reply, the answer nothing or no text
   abbrev pub RefusedCall : Type 0
   RefusedCall =
       ((v : ℕ) (ports : List ℕ) (l : Lent) (s : m .State) → (hears v ports l s .refusal ≡ 0 → ⊥)
       → ((m .hear v ports l s) .0 ≡ s) × (hears v ports l s .after ≡ l) × (hears v ports l s .len ≡ 0))
       × ((store : List ℕ) (s : m .State) → ((m .tick store s) .1 .refusal ≡ 0 → ⊥)
       → ((m .tick store s) .0 ≡ s) × ((m .tick store s) .1 .answer ≡ says 5 []))
+      × ((store text : List ℕ) (s : m .State) → (m .list store text s .listed .refusal ≡ 0 → ⊥)
+      → (m .list store text s .text ≡ text) × (m .list store text s .listed .len ≡ 0))
 
   -- ---- demand 2: clock calls when idle, storing, stopped or waiting (01, "Running a program", paragraph 1, last sentence)
 
@@ -236,9 +235,9 @@ pub record Host : Type 0 where
   pub calls : ℕ → ℕ
   pub room : (i : ℕ) → 32 ≤ length (reply i)
 
--- the axes line, the line `i`, and the listing
-abbrev pub storingText : ℕ → List Record → List ℕ
-storingText axes l = 64 ∷ 48 ∷ (48 + axes) ∷ 13 ∷ 64 ∷ 48 ∷ 105 ∷ 13 ∷ listText l
+-- the axes line, the line `i`, and the lines of a listing
+abbrev pub storingText : ℕ → List ℕ → List ℕ
+storingText axes lines = 64 ∷ 48 ∷ (48 + axes) ∷ 13 ∷ 64 ∷ 48 ∷ 105 ∷ 13 ∷ lines
 
 -- each return is answered 0, and no other byte is answered
 abbrev pub zeroAtReturns : List ℕ → List (List ℕ)
@@ -269,22 +268,35 @@ module _ (m : Machine) where
     pub bytes : inUse h (x .store) ≡ inUse h store
     pub idle : idles (m .board (x .state)) ≡ true
 
-  -- of a store of 16,384 bytes whose part in use no call refuses; sent to the first state with any other store of that length
+  -- what is sent to store the program again that a state lists: its axes, `i`, and what the lister wrote into a text buffer
+  abbrev pub listedLines : List ℕ → List ℕ → m .State → List ℕ
+  listedLines store text s =
+      storingText (m .board s .engine .held .axes) (take (m .list store text s .listed .len) (m .list store text s .text))
+
+  -- it is listed, and its lines sent to the first state with any other store are accepted and store the same
+  pub record ListedAgain (store text other : List ℕ) (host : Host) (s : m .State) : Type 0 where
+    pub listed : m .list store text s .listed .refusal ≡ 0
+    pub restored : Restored (m .board s .engine .held) store (listedLines store text s) (sent host 0 (listedLines store text s) (m .first) other)
+
+  -- from the first state on, after any events, whatever was lent: an accepted program
   abbrev pub RoundTrip : Type 0
   RoundTrip =
-      (h : Held) (store : List ℕ) (l : List Record) (other : List ℕ) (host : Host)
-      → length store ≡ 16384 → Below 256 store → h .used ≤ 16384 → h .records ≤ 1000 → accepted h store ≡ true → recordsOf h store ≡ are l
-      → length other ≡ 16384 → Below 256 other
-      → Restored h store (storingText (h .axes) l) (sent host 0 (storingText (h .axes) l) (m .first) other)
+      (es : List Event) (store text other : List ℕ) (host : Host)
+      → length store ≡ 16384 → Below 256 store → accepted (m .board (afterAll m es (m .first)) .engine .held) store ≡ true
+      → 32768 ≤ length text → length other ≡ 16384 → Below 256 other
+      → ListedAgain store text other host (afterAll m es (m .first))
 
--- ---- all of these but `NoDeadEnd`
+  -- from the first state on, after any events, whatever was lent: the end line answered 0 makes the store an accepted program
+  abbrev pub EndAccepts : Type 0
+  EndAccepts =
+      (es : List Event) (ports : List ℕ) (l : Lent) → endLine (m .board (afterAll m es (m .first))) ≡ true
+      → hears m 13 ports l (afterAll m es (m .first)) .refusal ≡ 0 → getD (replied (hears m 13 ports l (afterAll m es (m .first)))) 0 0 ≡ 48
+      → accepted (boardThen m 13 ports l (afterAll m es (m .first)) .engine .held) (hears m 13 ports l (afterAll m es (m .first)) .after .store) ≡ true
 
-pub record Keeps (m : Machine) : Type 0 where
-  pub refused-line : RefusedLine m
-  pub accepted-line : AcceptedLine m
-  pub silent-return : SilentReturn m
-  pub refused-call : RefusedCall m
-  pub quiet : Quiet m
-  pub sum-of-pulses : SumOfPulses m
-  pub counted : Counted m
-  pub round-trip : RoundTrip m
+  -- both ends joined: once the end line is answered 0, with bytes lent as the store, the program is listed, and its lines store the same
+  abbrev pub EndToEnd : Type 0
+  EndToEnd =
+      (es : List Event) (ports : List ℕ) (l : Lent) (text other : List ℕ) (host : Host) → endLine (m .board (afterAll m es (m .first))) ≡ true
+      → hears m 13 ports l (afterAll m es (m .first)) .refusal ≡ 0 → getD (replied (hears m 13 ports l (afterAll m es (m .first)))) 0 0 ≡ 48
+      → Below 256 (l .store) → 32768 ≤ length text → length other ≡ 16384 → Below 256 other
+      → ListedAgain (hears m 13 ports l (afterAll m es (m .first)) .after .store) text other host ((m .hear 13 ports l (afterAll m es (m .first))) .0)

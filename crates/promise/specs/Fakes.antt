@@ -1,115 +1,186 @@
--- The fakes of 01 ("How tight the statements are") that demand 2 and the count in `walk` shut out, and the proof that each fails.
+-- The machines of the fakes: 01's five ("How tight the statements are"), the fourth in both its readings, and others that the demands must
+-- shut out. Each is ours but for the one thing that it does wrong; the files Fakes.. of proofs/laws show which demand it fails.
 use Prim.Native.Nat.{ℕ, _+_}
-use native.Mathlib.Omega.{arith}
-use mathlib.Core.Bool.{false}
-use mathlib.Core.List.{List, [], _∷_}
-use mathlib.Core.Path.{_≡_, refl, _∙_, ap}
-use lib.Dec.{eqb}
-use lib.ListN.{drop, getD, replicate}
+use mathlib.Core.Bool.{Bool, true, false, not, _&&_, _||_}
+use mathlib.Core.List.{List, [], _∷_, _++_}
+use lib.Dec.{eqb, ltb}
+use lib.IntN.{pos}
+use lib.ListN.{length, take, drop, getD}
 use Rattle.count.specs.Pick.{pick}
-use Rattle.count.specs.Paper.{says}
-use Rattle.motion.specs.Sound.{counted}
-use Rattle.line.specs.Lines.{directOf, afterAddress, letterOf, behind}
+use Rattle.count.specs.Paper.{Paper, says}
+use Rattle.motion.specs.declared.Counters.{Counters}
+use Rattle.motion.specs.Next.{pulseOf}
+use Rattle.record.specs.Places.{fetchOf}
+use Rattle.engine.specs.declared.Answer.the-variants as answer
+use Rattle.engine.specs.declared.Job.{Job}
 use Rattle.engine.specs.declared.Job.the-variants as job
-use Rattle.engine.specs.State.{withJob}
-use Rattle.engine.specs.Tick.{ticked}
-use Rattle.engine.specs.Sound.{soundOf}
+use Rattle.engine.specs.State.{withAt, withRun, running}
+use Rattle.engine.specs.Tick.{ticked, runsOf}
 use Rattle.board.specs.declared.Board.{Board}
-use Rattle.board.specs.State.{board, noLine, lineDone, sound}
-use Rattle.board.specs.Direct.{first, replyOf, directSaid}
-use Rattle.board.specs.Receive.{earOf, hearing, gathering, returned}
-use Rattle.board.specs.Calls.{receiving, clocking, fresh}
-use Rattle.course.specs.Run.{course}
+use Rattle.board.specs.declared.Ticked.{Ticked}
+use Rattle.board.specs.State.{board, lineDone}
+use Rattle.board.specs.Receive.{hearing}
+use Rattle.board.specs.Calls.{Outcome, refused, answered, clocked, wentOn, receiving, clocking, fresh}
 use Rattle.course.specs.Walk.{noStore}
-use Rattle.promise.specs.Machine.{Machine, Lent, Heard, Clocked, lent, clockedBy, ours}
-use Rattle.promise.specs.Follows.{Follows}
+use Rattle.promise.specs.Machine.{Machine, Lent, Heard, Clocked, lent, heardBy, clockedBy, ours}
+use Rattle.promise.specs.Demands.{idles, stores}
+use Rattle.promise.specs.Stop.{stoppable}
+use Rattle.promise.specs.Route.{comes}
 
-abbrev lent0 : Lent
-lent0 = lent (replicate 32 0) noStore
+-- ---- ours but for what it hears, for its clock calls, or for what its runs say
 
-abbrev one : ℕ → Lent → Heard
-one c l = record { len = 1; refusal = 0; after = lent (c ∷ drop 1 (l .reply)) (l .store) }
+abbrev hearsSo : (ℕ → List ℕ → Lent → Board → Board × Heard) → Machine
+hearsSo h = record { State = Board; board = λ b. b; first = fresh; hear = h; tick = ours .tick; go = ours .go; list = ours .list }
 
--- ---- a board that refuses all lines: every return is answered 5
+abbrev ticksSo : (List ℕ → Board → Board × Clocked) → Machine
+ticksSo t = record { State = Board; board = λ b. b; first = fresh; hear = ours .hear; tick = t; go = ours .go; list = ours .list }
 
+abbrev goesSo : (ℕ → List ℕ → Board → Board × ℕ) → Machine
+goesSo g = record { State = Board; board = λ b. b; first = fresh; hear = ours .hear; tick = ours .tick; go = g; list = ours .list }
+
+-- ---- 01's first, second and third
+
+-- every return is answered with one byte
+abbrev saysAlone : ℕ → Lent → Heard
+saysAlone c l = record { len = 1; refusal = 0; after = lent (c ∷ drop 1 (l .reply)) (l .store) }
+
+-- it refuses all lines: every return is answered 5
 abbrev pub refuses : Machine
-refuses = record {
-  State = Board;
-  board = λ b. b;
-  first = fresh;
-  hear = λ v ports l b. pick (eqb v 13) (lineDone b, one 53 l) (ours .hear v ports l b);
-  tick = ours .tick;
-  go = ours .go;
-}
+refuses = hearsSo (λ v ports l b. pick (eqb v 13) (lineDone b, saysAlone 53 l) (ours .hear v ports l b))
 
--- `@0k` is accepted with 0
-abbrev asked : Board
-asked = board (fresh .engine) false (record { bytes = 64 ∷ 48 ∷ 107 ∷ replicate 77 0; len = 3; over = false })
-
-says-0 : getD (receiving 13 [] asked (replicate 32 0) noStore .reply) 0 0 ≡ 48
-unfolding receiving sound soundOf counted hearing earOf gathering returned directSaid replyOf first directOf afterAddress letterOf behind
-says-0 = refl
-
-pub refuses-fails : Follows refuses → ⊥
-refuses-fails f =
-    let p : _≡_ {A = ℕ} 53 48 = ap (λ (h : Heard). getD (h .after .reply) 0 0) (f .hears 13 [] lent0 asked) ∙ says-0 in
-    absurd (omega arith)
-
--- ---- a board that replies 0 to all: every return is answered 0
-
+-- it replies 0 to all: every return is answered 0
 abbrev pub agrees : Machine
-agrees = record {
-  State = Board;
-  board = λ b. b;
-  first = fresh;
-  hear = λ v ports l b. pick (eqb v 13) (lineDone b, one 48 l) (ours .hear v ports l b);
-  tick = ours .tick;
-  go = ours .go;
-}
+agrees = hearsSo (λ v ports l b. pick (eqb v 13) (lineDone b, saysAlone 48 l) (ours .hear v ports l b))
 
--- an empty line is refused 5
-says-5 : getD (receiving 13 [] fresh (replicate 32 0) noStore .reply) 0 0 ≡ 53
-unfolding receiving sound soundOf counted hearing earOf gathering returned directSaid replyOf first directOf
-says-5 = refl
-
-pub agrees-fails : Follows agrees → ⊥
-agrees-fails f =
-    let p : _≡_ {A = ℕ} 48 53 = ap (λ (h : Heard). getD (h .after .reply) 0 0) (f .hears 13 [] lent0 fresh) ∙ says-5 in
-    absurd (omega arith)
-
--- ---- a board whose clock call does nothing
-
+-- its clock call does nothing
 abbrev pub sleeps : Machine
-sleeps = record {
-  State = Board;
-  board = λ b. b;
-  first = fresh;
-  hear = ours .hear;
-  tick = λ store b. (b, record { answer = says 5 []; refusal = 0 });
-  go = ours .go;
+sleeps = ticksSo (λ store b. (b, record { answer = says 5 []; refusal = 0 }))
+
+-- ---- 01's fourth: ours with a flag that is set once it has stood stopped; from then on a host reads another board, or hears other answers
+
+abbrev pub toldAs : (Paper → Paper) → Clocked → Clocked
+toldAs f c = record { answer = f (c .answer); refusal = c .refusal }
+
+abbrev pub sinceStop : (Board → Board) → (Paper → Paper) → Machine
+sinceStop shows tells = record {
+  State = Board × Bool;
+  board = λ s. pick (s .1) (shows (s .0)) (s .0);
+  first = (fresh, false);
+  hear = λ v ports l s. (((ours .hear v ports l (s .0)) .0, s .1 || (ours .hear v ports l (s .0)) .0 .standing), (ours .hear v ports l (s .0)) .1);
+  tick = λ store s. (((ours .tick store (s .0)) .0, s .1), pick (s .1) (toldAs tells ((ours .tick store (s .0)) .1)) ((ours .tick store (s .0)) .1));
+  go = λ limit store s. (((ours .go limit store (s .0)) .0, s .1), (ours .go limit store (s .0)) .1);
+  list = λ store text s. ours .list store text (s .0);
 }
 
--- in a delay a clock call pauses
-abbrev delayed : Board
-delayed = board (withJob (fresh .engine) (job.Delay 1)) false noLine
+-- from the first stop on the positions of a movement are those of its end, while its pulses are still answered
+abbrev pub claimed : Job → Counters → Counters
+claimed (job.Direct m) at = m .third
+claimed (job.Moving m) at = m .third
+claimed job.Idle at = at
+claimed job.Storing at = at
+claimed job.Ready at = at
+claimed (job.Delay q) at = at
+claimed (job.Wait c t) at = at
 
-pauses : clockedBy (clocking delayed noStore) .answer .number ≡ 2
-unfolding clocking sound soundOf counted ticked
-pauses = refl
+abbrev pub claim : Board → Board
+claim b = board (withAt (b .engine) (claimed (b .engine .run .job) (b .engine .at))) (b .standing) (b .line)
 
-pub sleeps-fails : Follows sleeps → ⊥
-sleeps-fails f =
-    let p : _≡_ {A = ℕ} 5 2 = ap (λ (c : Clocked). c .answer .number) (f .ticks noStore delayed) ∙ pauses in
-    absurd (omega arith)
+abbrev pub claims : Machine
+claims = sinceStop claim (λ a. a)
 
--- ---- a board that invents its number of clock calls: one more than it made
+-- from the first stop on no pulse is answered any more, while the positions move
+abbrev pub muted : Paper → Paper
+muted a = pick (eqb (a .number) 1) (says 5 []) a
+
+abbrev pub mutes : Machine
+mutes = sinceStop (λ b. b) muted
+
+-- ---- 01's fifth: it invents its number of clock calls, by any rule; one more than it made
+
+abbrev pub miscounts : (ℕ → ℕ) → Machine
+miscounts f = goesSo (λ limit store b. ((ours .go limit store b) .0, f ((ours .go limit store b) .1)))
 
 abbrev pub invents : Machine
-invents = record {
+invents = miscounts (λ n. n + 1)
+
+-- ---- beside 01's: what a stop must not do
+
+-- the pulses are spoiled from the first stop on
+abbrev pub spoils : (Paper → Paper) → Machine
+spoils f = sinceStop (λ b. b) f
+
+-- they are slower, at speed 30
+abbrev pub slowed : Paper → Paper
+slowed a = pick (eqb (a .number) 1) (says 1 (take 3 (a .values) ++ (pos 30 ∷ []))) a
+
+abbrev pub slows : Machine
+slows = spoils slowed
+
+-- they are turned, x and y exchanged
+abbrev pub turned : Paper → Paper
+turned a = pick (eqb (a .number) 1) (says 1 (getD (a .values) 1 (pos 0) ∷ getD (a .values) 0 (pos 0) ∷ drop 2 (a .values))) a
+
+abbrev pub turns : Machine
+turns = spoils turned
+
+-- a stop loses a pulse: it makes one clock call whose answer nobody sees
+abbrev pub losesPulse : Machine
+losesPulse = hearsSo (λ v ports l b. ours .hear v ports l (pick (eqb v 253 && stoppable b) ((ours .tick (l .store) b) .0) b))
+
+-- ---- calls that are to be refused
+
+-- a state that 103 refuses is not refused: it hears and ticks on
+abbrev pub unseen : ℕ → List ℕ → Board → List ℕ → List ℕ → Outcome
+unseen v ports b reply store =
+    pick (ltb (length reply) 32) (refused 101 b reply store)
+    (pick (not (eqb (length store) 16384)) (refused 102 b reply store) (answered (hearing v ports b store) reply))
+
+abbrev pub unseenTick : Board → List ℕ → Ticked
+unseenTick b store =
+    pick (not (eqb (length store) 16384)) (clocked 102 b answer.Nothing)
+    (pick (b .standing) (clocked 0 b answer.Nothing) (wentOn b (ticked pulseOf (fetchOf (b .engine .held) store) (b .engine))))
+
+abbrev pub blind : Machine
+blind = record {
   State = Board;
   board = λ b. b;
   first = fresh;
-  hear = ours .hear;
-  tick = ours .tick;
-  go = λ limit store b. ((ours .go limit store b) .0, (ours .go limit store b) .1 + 1);
+  hear = λ v ports l b. (unseen v ports b (l .reply) (l .store) .result .board, heardBy (unseen v ports b (l .reply) (l .store)));
+  tick = λ store b. (unseenTick b store .board, clockedBy (unseenTick b store));
+  go = ours .go;
+  list = ours .list;
 }
+
+-- a clock call that is refused 102 is answered so, and yet makes the call on an empty store
+abbrev pub stirs : Machine
+stirs = ticksSo (λ store b.
+    pick (eqb (length store) 16384) (ours .tick store b) ((ours .tick noStore b) .0, record { answer = says 5 []; refusal = 102 }))
+
+-- ---- where a program goes
+
+-- the place is one further
+abbrev pub further : Board → Board
+further b = board (withRun (b .engine) (running (b .engine .run .job) (b .engine .run .place + 1) (b .engine .run .loops))) (b .standing) (b .line)
+
+abbrev pub shiftsIf : (Board → Ticked → Bool) → Machine
+shiftsIf when = ticksSo (λ store b. (pick (when b (clocking b store)) (further (clocking b store .board)) (clocking b store .board), clockedBy (clocking b store)))
+
+-- whatever goes back and runs on goes back one record short: a loop at i with offset -k to i - k + 1
+abbrev pub shorts : Machine
+shorts = shiftsIf (λ b t. ltb (t .board .engine .run .place) (b .engine .run .place) && runsOf (t .board .engine))
+
+-- a record is passed over after a movement: when a program's movement has made its last pulse the place is one further
+abbrev pub overleaps : Machine
+overleaps = shiftsIf (λ b t. eqb (clockedBy t .answer .number) 1 && comes (t .board))
+
+-- ---- what is stored
+
+-- every line is answered as ours answers it, and the store's bytes are lost where storing has ended
+abbrev pub lost : Board → Outcome → List ℕ
+lost b o = pick (stores b && idles (o .result .board)) noStore (o .store)
+
+abbrev pub lossy : Board → Outcome → Board × Heard
+lossy b o = (o .result .board, record { len = o .result .len; refusal = o .result .refusal; after = lent (o .reply) (lost b o) })
+
+abbrev pub losesBytes : Machine
+losesBytes = hearsSo (λ v ports l b. lossy b (receiving v ports b (l .reply) (l .store)))

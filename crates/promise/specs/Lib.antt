@@ -4,5 +4,7 @@ pub mod Follows
 pub mod Steps
 pub mod Stop
 pub mod Three
+pub mod Route
+pub mod Demanded
 pub mod Twelve
 pub mod Fakes

@@ -6,10 +6,11 @@ use mathlib.Core.List.{List, [], _∷_}
 use lib.IntN.{ℤ}
 use Rattle.count.specs.Paper.{Paper}
 use Rattle.engine.specs.State.{paper}
+use Rattle.record.specs.Listing.{Telling}
 use Rattle.board.specs.declared.Board.{Board}
 use Rattle.board.specs.declared.Received.{Received}
 use Rattle.board.specs.declared.Ticked.{Ticked}
-use Rattle.board.specs.Calls.{Outcome, receiving, clocking, fresh}
+use Rattle.board.specs.Calls.{Outcome, receiving, clocking, listing, fresh}
 use Rattle.course.specs.Run.{Course, course}
 
 -- what a call is lent: a reply buffer and a store
@@ -42,6 +43,8 @@ pub record Machine : Type 1 where
   pub tick : List ℕ → State → State × Clocked
   -- a run of at most so many clock calls, with the number of calls that it says it used
   pub go : ℕ → List ℕ → State → State × ℕ
+  -- the lister with the store and the text buffer that are lent: it is only told of the state, so it changes nothing of it
+  pub list : List ℕ → List ℕ → State → Telling
 
 -- ---- ours
 
@@ -59,6 +62,7 @@ ours = record {
   hear = λ byte ports l b. (receiving byte ports b (l .reply) (l .store) .result .board, heardBy (receiving byte ports b (l .reply) (l .store)));
   tick = λ store b. (clocking b store .board, clockedBy (clocking b store));
   go = λ limit store b. (course limit store b .board, course limit store b .calls);
+  list = λ store text b. listing b store text;
 }
 
 -- ---- what happens to a machine: bytes with their ports and clock calls, each with what the host lends

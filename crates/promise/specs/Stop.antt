@@ -4,7 +4,7 @@ use Prim.Native.Nat.{ℕ, _≤_, _<_}
 use mathlib.Core.Bool.{Bool, true, false, not, _&&_, _||_}
 use mathlib.Core.List.{List, [], _∷_, _++_, map}
 use mathlib.Core.Path.{_≡_}
-use lib.Dec.{eqb, ltb}
+use lib.Dec.{leb, eqb, ltb}
 use lib.IntN.{ℤ}
 use lib.ListN.{length, take, drop}
 use Rattle.count.specs.Pick.{pick}
@@ -13,33 +13,50 @@ use Rattle.engine.specs.declared.Engine.{Engine}
 use Rattle.engine.specs.declared.Job.{Job}
 use Rattle.engine.specs.declared.Job.the-variants as job
 use Rattle.board.specs.declared.Board.{Board}
-use Rattle.line.specs.declared.Letter.the-variants as letter
-use Rattle.line.specs.Lines.{directOf}
+use Rattle.line.specs.Lines.{letterPaper, directOf}
 use Rattle.board.specs.State.{board, noLine, textOf, sound}
 use Rattle.board.specs.Direct.{replyOf}
-use Rattle.promise.specs.Machine.{Machine, Heard, lent}
-use Rattle.promise.specs.Demands.{isWaiting}
+use Rattle.promise.specs.Machine.{Machine, Lent, Heard, lent, Event, afterAll}
+use Rattle.promise.specs.Demands.{isWaiting, idles}
 use Rattle.promise.specs.Steps.{Each, reached, shown, Along, keptOf}
 
--- ---- schedules: received bytes with their ports and clock calls. Each is lent a reply buffer and the one store, as the call before it
--- left it.
+-- ---- schedules: received bytes with their ports, and clock calls. Each is lent a reply buffer of any length and either the one store, as
+-- the call before it left it, or another slice.
+
+pub data Lending : Type 0 where
+  own : Lending
+  other : List ℕ → Lending
 
 pub data Step : Type 0 where
-  receive : ℕ → List ℕ → List ℕ → Step
-  call : Step
+  receive : ℕ → List ℕ → List ℕ → Lending → Step
+  call : Lending → Step
 
--- a byte other than break and reset, with a reply buffer of at least 32 bytes
+-- the one store is altered by nobody else: whatever else is lent as a store has another length, and every call with it is refused 102
+abbrev pub Elsewhere : Lending → Type 0
+Elsewhere own = Unit
+Elsewhere (other t) = length t ≡ 16384 → ⊥
+
+-- neither 101 nor 102: a reply buffer of at least 32 bytes and the one store
+abbrev pub isOwn : Lending → Bool
+isOwn own = true
+isOwn (other t) = false
+
+abbrev pub rightly : Step → Bool
+rightly (receive v ports reply d) = leb 32 (length reply) && isOwn d
+rightly (call d) = isOwn d
+
+-- anything but break and reset, whatever is lent; a break or reset that is refused for what is lent may come too
 abbrev pub Mild : Step → Type 0
-Mild (receive v ports reply) = (v < 254) × (32 ≤ length reply)
-Mild call = Unit
+Mild (receive v ports reply d) = (leb 32 (length reply) && isOwn d ≡ true → v < 254) × Elsewhere d
+Mild (call d) = Elsewhere d
 
 abbrev pub Mildly : List Step → Type 0
 Mildly es = Each Mild es
 
 -- a step that is no stop
 abbrev pub Unstopped : Step → Type 0
-Unstopped (receive v ports reply) = v < 253
-Unstopped call = Unit
+Unstopped (receive v ports reply d) = v < 253
+Unstopped (call d) = Unit
 
 -- ---- what counts, by the board at that moment
 
@@ -112,21 +129,32 @@ module _ (m : Machine) where
   abbrev pub boardAt : Place → Board
   boardAt p = m .board (p .0)
 
+  -- the store that a step is lent, and the one store after it
+  abbrev pub lentTo : Place → Lending → List ℕ
+  lentTo p own = p .1
+  lentTo p (other t) = t
+
+  abbrev pub storeAfter : Place → Lending → List ℕ → List ℕ
+  storeAfter p own s = s
+  storeAfter p (other t) s = p .1
+
   abbrev pub ahead : Place → Step → Place
-  ahead p (receive v ports reply) = ((m .hear v ports (lent reply (p .1)) (p .0)) .0, (m .hear v ports (lent reply (p .1)) (p .0)) .1 .after .store)
-  ahead p call = ((m .tick (p .1) (p .0)) .0, p .1)
+  ahead p (receive v ports reply d) =
+      ((m .hear v ports (lent reply (lentTo p d)) (p .0)) .0, storeAfter p d ((m .hear v ports (lent reply (lentTo p d)) (p .0)) .1 .after .store))
+  ahead p (call d) = ((m .tick (lentTo p d) (p .0)) .0, p .1)
 
   abbrev pub answerOf : Place → Step → List Paper
-  answerOf p (receive v ports reply) = []
-  answerOf p call = spoken ((m .tick (p .1) (p .0)) .1 .answer)
+  answerOf p (receive v ports reply d) = []
+  answerOf p (call d) = spoken ((m .tick (lentTo p d) (p .0)) .1 .answer)
 
+  -- a call that is refused for what is lent counts for nothing
   abbrev pub countOf : Place → Step → List Step
-  countOf p (receive v ports reply) = []
-  countOf p call = pick (counts (boardAt p)) (call ∷ []) []
+  countOf p (receive v ports reply d) = []
+  countOf p (call d) = pick (isOwn d && counts (boardAt p)) (call own ∷ []) []
 
   abbrev pub byteOf : Place → Step → List ℕ
-  byteOf p (receive v ports reply) = pick (ltb v 253 && takes (boardAt p)) (v ∷ []) []
-  byteOf p call = []
+  byteOf p (receive v ports reply d) = pick (rightly (receive v ports reply d) && (ltb v 253 && takes (boardAt p))) (v ∷ []) []
+  byteOf p (call d) = []
 
   -- a schedule's last place, its clock answers other than nothing, its clock calls that count, and the bytes taken
   abbrev pub last : Place → List Step → Place
@@ -182,10 +210,11 @@ module _ (m : Machine) where
       (p : Place) (es fs : List Step) (later : List ℕ) → Begun p → Mildly es → Mildly fs →
       counted p es ≤ counted p fs → taken p fs ≡ taken p es ++ later → Begins p es fs
 
-  -- ---- the same schedule never stopped: its stops, all that comes while it stands, and the bytes that are dropped left out
+  -- ---- the same schedule never stopped: its stops, all that comes while it stands, the bytes that are dropped, and the calls that are
+  -- refused for what is lent left out
   abbrev pub stays : Place → Step → Bool
-  stays p (receive v ports reply) = ltb v 253 && takes (boardAt p)
-  stays p call = not (boardAt p .standing)
+  stays p (receive v ports reply d) = rightly (receive v ports reply d) && (ltb v 253 && takes (boardAt p))
+  stays p (call d) = isOwn d && not (boardAt p .standing)
 
   abbrev pub unstopped : Place → List Step → List Step
   unstopped p es = keptOf ahead stays (λ e. e) p es
@@ -231,17 +260,34 @@ module _ (m : Machine) where
   abbrev pub StartGoesOn : Type 0
   StartGoesOn =
       (p : Place) (ports reply : List ℕ) → Called p → 32 ≤ length reply → boardAt p .standing ≡ true → boardAt p .line .over ≡ false →
-      directOf (textOf (boardAt p .line)) .letter ≡ letter.Start →
+      letterPaper (directOf (textOf (boardAt p .line)) .letter) .number ≡ 83 →
       replyOf (boardAt p .engine) true (directOf (textOf (boardAt p .line))) ≡ 48 →
       Comes (heardAt 13 ports reply p) (board (boardAt p .engine) false noLine) [] reply (p .1)
 
-  -- a stop and the line `@0S`, wherever a stop is allowed and axes are set, leave everything as it was
+  -- ---- where a run begins: from the first state on, after any events, with whatever was lent
+
+  -- where something runs, waits or stands, axes are set; and no line is begun unless it stands
+  abbrev pub RunsClear : Type 0
+  RunsClear =
+      (es : List Event) → rests (m .board (afterAll m es (m .first))) ≡ false →
+      (eqb (m .board (afterAll m es (m .first)) .engine .axes) 0 ≡ false)
+      × (m .board (afterAll m es (m .first)) .standing ≡ false → m .board (afterAll m es (m .first)) .line ≡ noLine)
+
+  -- the return of a line on an idle board, in a call that is not refused and without a reply (a movement with a pulse, or S), begins a run
+  abbrev pub LineBegins : Type 0
+  LineBegins =
+      (es : List Event) (ports : List ℕ) (l : Lent) → idles (m .board (afterAll m es (m .first))) ≡ true →
+      (m .hear 13 ports l (afterAll m es (m .first))) .1 .refusal ≡ 0 → (m .hear 13 ports l (afterAll m es (m .first))) .1 .len ≡ 0 →
+      Begun ((m .hear 13 ports l (afterAll m es (m .first))) .0, (m .hear 13 ports l (afterAll m es (m .first))) .1 .after .store)
+
+  -- a stop and the line `@0S`, wherever a stop is allowed, leave everything as it was
   abbrev pub startLine : List ℕ → List ℕ → List Step
-  startLine ports reply = receive 64 ports reply ∷ receive 48 ports reply ∷ receive 83 ports reply ∷ receive 13 ports reply ∷ []
+  startLine ports reply = receive 64 ports reply own ∷ receive 48 ports reply own ∷ receive 83 ports reply own ∷ receive 13 ports reply own ∷ []
 
   abbrev pub StopAndStart : Type 0
   StopAndStart =
-      (p : Place) (ports reply : List ℕ) → Begun p → 32 ≤ length reply → stoppable (boardAt p) ≡ true → eqb (boardAt p .engine .axes) 0 ≡ false →
-      (boardAt (ahead p (receive 253 ports reply)) .standing ≡ true)
-      × (boardAt (last p (receive 253 ports reply ∷ startLine ports reply)) ≡ boardAt p)
-      × (last p (receive 253 ports reply ∷ startLine ports reply) .1 ≡ p .1)
+      (es : List Event) (store ports reply : List ℕ) → length store ≡ 16384 → 32 ≤ length reply →
+      stoppable (m .board (afterAll m es (m .first))) ≡ true →
+      (boardAt (ahead (afterAll m es (m .first), store) (receive 253 ports reply own)) .standing ≡ true)
+      × (boardAt (last (afterAll m es (m .first), store) (receive 253 ports reply own ∷ startLine ports reply)) ≡ m .board (afterAll m es (m .first)))
+      × (last (afterAll m es (m .first), store) (receive 253 ports reply own ∷ startLine ports reply) .1 ≡ store)

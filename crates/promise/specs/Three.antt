@@ -10,7 +10,7 @@ use Rattle.count.specs.Pick.{pick}
 use Rattle.count.specs.Paper.{Paper}
 use Rattle.promise.specs.Machine.{Machine}
 use Rattle.promise.specs.Steps.{Each}
-use Rattle.promise.specs.Stop.{Step, Mildly, Unstopped, over, unsped, speedsOf, Place, boardAt, last, answers, counted, taken, Begun, StopChangesNothing, StopsCanBeLeftOut, StopHolds, StopElseDoesNothing, StartGoesOn, StopAndStart}
+use Rattle.promise.specs.Stop.{Step, Mildly, Unstopped, over, unsped, speedsOf, Place, boardAt, last, answers, counted, taken, Begun, StopChangesNothing, StopsCanBeLeftOut, StopHolds, StopElseDoesNothing, StartGoesOn, StopAndStart, RunsClear, LineBegins}
 
 -- of a list of answers those with a number: 1 the pulses, 3 the sent characters
 abbrev pub only : ℕ → List Paper → List Paper
@@ -67,3 +67,6 @@ module _ (m : Machine) where
     pub elsewhere : StopElseDoesNothing m
     pub accepted : StartGoesOn m
     pub both : StopAndStart m
+    -- a run begins with no line begun and axes set, from the first state on
+    pub clear : RunsClear m
+    pub begins : LineBegins m

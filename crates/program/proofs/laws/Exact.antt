@@ -22,9 +22,10 @@ use Rattle.program.specs.declared.Way.{Way}
 use Rattle.program.specs.Check.{mark, holds}
 use Rattle.program.specs.Program.{Aim, goes, loops, shift, aimOf, isLoop, offsetOf, aimAt, loopAt, farAt}
 use Rattle.program.specs.Onward.{counter, onwardOf}
+use Rattle.program.specs.Rounds.{Rounds}
 use Rattle.program.proofs.laws.Right.{loop-right}
 use Rattle.program.proofs.laws.Clean.{holds-yes}
-use Rattle.program.proofs.laws.Flow.{Round, Next, Fail, Here, nextOf, noted, Cycles}
+use Rattle.program.proofs.laws.Flow.{Round, Next, Fail, Here, nextOf, noted}
 use Rattle.program.proofs.laws.Flow as flow
 use Rattle.program.proofs.laws.Nest.{IsLoop, Begun, Rising, Covers, covers}
 use Rattle.program.proofs.laws.Nest as nest
@@ -135,16 +136,16 @@ module _ (axes : ℕ) (l : List Record) (a : Accepted axes l) where
   seen-step b p o d = step-go b p o (ltb p (length l)) refl d
 
   cycle-run : (i c f : ℕ) → flowAt l i ≡ Round c f → (bs : List Bool) (s : Standing) → Fine l s
-      → Cycles (start i) (suc i) c (dueN (flowAt l) (length l) i c (seen s)) (turnsOf l i bs s)
+      → Rounds (start i) (suc i) c (dueN (flowAt l) (length l) i c (seen s)) (turnsOf l i bs s)
   unfolding turnsOf seen
   cycle-run i c f e [] s g = tt
   cycle-run i c f e (b ∷ bs) Lost g = absurd g
   cycle-run i c f e (b ∷ bs) (Stands p o) g =
       let q = seen-step b p o g in
       let ts : List ℕ = turnsOf l i bs (stepOf l b p o) in
-      subst (λ (x : ℕ). Cycles (start i) (suc i) c (due (flowAt l) (length l) i c (stackOf o)) (noted (eqb p i) x ts)) (ap nextOf (sym q) ∙ next-seen (stepOf l b p o))
+      subst (λ (x : ℕ). Rounds (start i) (suc i) c (due (flowAt l) (length l) i c (stackOf o)) (noted (eqb p i) x ts)) (ap nextOf (sym q) ∙ next-seen (stepOf l b p o))
       (cycle-go (flowAt l) (length l) (secured axes l a) i c f e b p (stackOf o) (eqb p i) refl (g .nested) ts
-      (subst (λ (t : Next). Cycles (start i) (suc i) c (dueN (flowAt l) (length l) i c t) ts) q (cycle-run i c f e bs (stepOf l b p o) (steps axes l a b p o g))))
+      (subst (λ (t : Next). Rounds (start i) (suc i) c (dueN (flowAt l) (length l) i c t) ts) q (cycle-run i c f e bs (stepOf l b p o) (steps axes l a b p o g))))
 
   aim-loop : (i c : ℕ) (z : ℤ) → recordIn l i .code ≡ 51 → getD (recordIn l i .words) 0 0 ≡ c → 0 < c → nth (recordIn l i .words) 1 ≡ z
       → aimAt l i ≡ loops c (shift z)
@@ -156,7 +157,7 @@ module _ (axes : ℕ) (l : List Record) (a : Accepted axes l) where
   -- EXACTLY c TIMES: the record of a loop with number c and offset -(k + 1) at place i sends a run, again and again, c times back to
   -- i - (k + 1) and once on
   pub exactly : (i c k : ℕ) → i < length l → recordIn l i .code ≡ 51 → getD (recordIn l i .words) 0 0 ≡ c → 0 < c
-      → nth (recordIn l i .words) 1 ≡ negsuc k → (bs : List Bool) → Cycles (i - suc k) (suc i) c c (turnsOf l i bs begin)
+      → nth (recordIn l i .words) 1 ≡ negsuc k → (bs : List Bool) → Rounds (i - suc k) (suc i) c c (turnsOf l i bs begin)
   unfolding seen
   exactly i c k h e f g z bs =
       let m = aim-loop i c (negsuc k) e f g z in
@@ -166,4 +167,4 @@ module _ (axes : ℕ) (l : List Record) (a : Accepted axes l) where
       let n : (getD (recordIn l i .words) 0 0 ≡ 0 → ⊥) = λ y. omega arith in
       let s = back-small k (subst (λ (y : ℤ). inBack y ≡ true) z (loop-right axes (recordIn l i) (a .right i h) e n .2)) in
       let u : start i ≡ i - suc k = ap flow.startOf w ∙ omega (arith, v, s) in
-      subst (λ (x : ℕ). Cycles x (suc i) c c (turnsOf l i bs begin)) u (cycle-run i c (i + (32767 - k) - 32768) w bs begin (begins axes l a))
+      subst (λ (x : ℕ). Rounds x (suc i) c c (turnsOf l i bs begin)) u (cycle-run i c (i + (32767 - k) - 32768) w bs begin (begins axes l a))

@@ -3,7 +3,6 @@
 use Prim.Native.Nat.{ℕ, zero, suc, _+_}
 use mathlib.Core.Bool.{Bool, true, false, cond, _&&_}
 use mathlib.Core.List.{List, [], _∷_}
-use mathlib.Core.Path.{_≡_}
 use lib.Dec.{ltb, leb, eqb}
 use Rattle.program.specs.declared.Loop.{Loop}
 use Rattle.program.specs.Onward.{counter}
@@ -79,9 +78,3 @@ nextOf (Here p l) = p
 abbrev pub noted : Bool → ℕ → List ℕ → List ℕ
 noted true q ts = q ∷ ts
 noted false q ts = ts
-
--- again and again: back c times, then on; k is how often back it still goes
-abbrev pub Cycles : ℕ → ℕ → ℕ → ℕ → List ℕ → Type 0
-Cycles back on c k [] = Unit
-Cycles back on c zero (q ∷ ts) = (q ≡ on) × Cycles back on c c ts
-Cycles back on c (suc k) (q ∷ ts) = (q ≡ back) × Cycles back on c k ts

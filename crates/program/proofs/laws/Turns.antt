@@ -8,7 +8,8 @@ use lib.Dec.{ltb, eqb, T, lt→ltb}
 use borrow.Author.Tests.{eqb-true, eqb-false, eq-eqb, ne-eqb}
 use Rattle.program.specs.declared.Loop.{Loop}
 use Rattle.program.specs.Onward.{counter}
-use Rattle.program.proofs.laws.Flow.{Flow, Ahead, Jump, Wait, Round, Halt, Next, Fail, Here, depth, again, opens, looped, goes, isLoop, startOf, nextOf, noted, Cycles}
+use Rattle.program.specs.Rounds.{Rounds}
+use Rattle.program.proofs.laws.Flow.{Flow, Ahead, Jump, Wait, Round, Halt, Next, Fail, Here, depth, again, opens, looped, goes, isLoop, startOf, nextOf, noted}
 use Rattle.program.proofs.laws.Nest as nest
 
 module _ (flow : ℕ → Flow) (n : ℕ) where
@@ -112,13 +113,13 @@ module _ (flow : ℕ → Flow) (n : ℕ) where
   kept-due i c (Round k f) b p (o ∷ l) h g = kept-go i c p f k o l (eqb (o .place) p) refl h g
   kept-due i c Halt b p l h g = refl
 
-  cycle-turn : (i c k : ℕ) (t : Next) (ts : List ℕ) → Turned i c k t → Cycles (start i) (suc i) c (dueN i c t) ts → Cycles (start i) (suc i) c k (nextOf t ∷ ts)
-  cycle-turn i c zero t ts (e, d) h = (e, subst (λ (m : ℕ). Cycles (start i) (suc i) c m ts) d h)
-  cycle-turn i c (suc k) t ts (e, d) h = (e, subst (λ (m : ℕ). Cycles (start i) (suc i) c m ts) d h)
+  cycle-turn : (i c k : ℕ) (t : Next) (ts : List ℕ) → Turned i c k t → Rounds (start i) (suc i) c (dueN i c t) ts → Rounds (start i) (suc i) c k (nextOf t ∷ ts)
+  cycle-turn i c zero t ts (e, d) h = (e, subst (λ (m : ℕ). Rounds (start i) (suc i) c m ts) d h)
+  cycle-turn i c (suc k) t ts (e, d) h = (e, subst (λ (m : ℕ). Rounds (start i) (suc i) c m ts) d h)
 
   -- one record: noted if it is the loop's own
   pub cycle-go : (s : Secure) (i c f : ℕ) → flow i ≡ Round c f → (b : Bool) (p : ℕ) (l : List Loop) (q : Bool) → eqb p i ≡ q → Inv p l → (ts : List ℕ) →
-      Cycles (start i) (suc i) c (dueN i c (goes (flow p) b p l)) ts → Cycles (start i) (suc i) c (due i c l) (noted q (nextOf (goes (flow p) b p l)) ts)
+      Rounds (start i) (suc i) c (dueN i c (goes (flow p) b p l)) ts → Rounds (start i) (suc i) c (due i c l) (noted q (nextOf (goes (flow p) b p l)) ts)
   cycle-go s i c f e b p l true h v ts g = cycle-turn i c (due i c l) (goes (flow p) b p l) ts here g
     where
       same : p ≡ i
@@ -132,4 +133,4 @@ module _ (flow : ℕ → Flow) (n : ℕ) where
           (subst (λ (j : ℕ). Turned i c (due i c l) (looped j f c l)) (sym same)
           (subst (λ (j : ℕ). Turned i c (due i c l) (looped i j c l)) (ap startOf e) (turned s i c l k (subst (λ (j : ℕ). Inv j l) same v))))
   cycle-go s i c f e b p l false h v ts g =
-      subst (λ (m : ℕ). Cycles (start i) (suc i) c m ts) (kept-due i c (flow p) b p l (eqb-false p i h) (nest.good-goes flow n s (flow p) b p l refl v)) g
+      subst (λ (m : ℕ). Rounds (start i) (suc i) c m ts) (kept-due i c (flow p) b p l (eqb-false p i h) (nest.good-goes flow n s (flow p) b p l refl v)) g

@@ -4,4 +4,11 @@ use Rattle.promise.specs.Machine.{ours}
 use Rattle.promise.specs.Follows.{Follows}
 
 pub ours-follows : Follows ours
-ours-follows = record { hears = λ v ports l s. refl; heard = λ v ports l s. refl; ticks = λ store s. refl; ticked = λ store s. refl }
+ours-follows = record {
+  starts = refl;
+  hears = λ v ports l s. refl;
+  heard = λ v ports l s. refl;
+  ticks = λ store s. refl;
+  ticked = λ store s. refl;
+  lists = λ store text s. refl;
+}

@@ -4,13 +4,16 @@ use mathlib.Core.Path.{_≡_, refl, sym, ap, _∙_}
 use mathlib.Core.Bool.{Bool, true, false, not, _&&_, _||_}
 use mathlib.Core.List.{List, []}
 use native.Mathlib.Omega.{arith}
+use borrow.Author.Tests.{eqb-true}
 use lib.Dec.{ltb, eqb}
 use lib.ListN.{length}
 use Rattle.count.specs.Pick.{pick}
 use Rattle.count.specs.Paper.{says}
 use Rattle.count.proofs.laws.Truth.{never}
 use Rattle.motion.specs.Next.{pulseOf}
-use Rattle.record.specs.Places.{fetchOf}
+use Rattle.record.specs.Places.{Records, recordsOf, fetchOf}
+use Rattle.record.specs.Places.Records.{are, none-are}
+use Rattle.record.specs.Listing.{Telling, telling, tell, listOf}
 use Rattle.engine.specs.declared.Job.{Job}
 use Rattle.engine.specs.declared.Job.the-variants as job
 use Rattle.engine.specs.declared.Answer.the-variants as answer
@@ -22,7 +25,7 @@ use Rattle.board.specs.declared.Board.{Board}
 use Rattle.board.specs.declared.Ticked.{Ticked}
 use Rattle.board.specs.State.{board, sound}
 use Rattle.board.specs.Receive.{hearing, isStoring}
-use Rattle.board.specs.Calls.{Outcome, refused, answered, receiving, clocked, wentOn, clocking}
+use Rattle.board.specs.Calls.{Outcome, refused, answered, receiving, clocked, wentOn, clocking, listing}
 use Rattle.course.specs.Text.{answerText}
 use Rattle.course.specs.Run.{runsNow, Course, rests, then, course}
 use Rattle.promise.specs.Machine.{Lent, lent, ours}
@@ -43,6 +46,19 @@ module _ (v : ℕ) (ports : List ℕ) (b : Board) (reply store : List ℕ) where
   pub calm : receiving v ports b reply store .result .refusal ≡ 0 → receiving v ports b reply store ≡ answered (hearing v ports b store) reply
   unfolding receiving
   calm h = calm-by (ltb (length reply) 32) (not (eqb (length store) 16384)) (not (sound b)) (answered (hearing v ports b store) reply) h
+
+  long-by : (x z : Bool) (o : Outcome) (y : Bool)
+      → pick x (refused 101 b reply store) (pick (not y) (refused 102 b reply store) (pick z (refused 103 b reply store) o)) .result .refusal ≡ 0 → y ≡ true
+  long-by true z o y h = absurd (omega arith)
+  long-by false z o true h = refl
+  long-by false z o false h = absurd (omega arith)
+
+  -- and was lent a store of the right length
+  pub calm-store : receiving v ports b reply store .result .refusal ≡ 0 → length store ≡ 16384
+  unfolding receiving
+  calm-store h =
+      eqb-true (length store) 16384
+      (long-by (ltb (length reply) 32) (not (sound b)) (answered (hearing v ports b store) reply) (eqb (length store) 16384) h)
 
   kept-by : (x y z : Bool) (o : Outcome) → o .result .refusal ≡ 0
       → (pick x (refused 101 b reply store) (pick y (refused 102 b reply store) (pick z (refused 103 b reply store) o)) .result .refusal ≡ 0 → ⊥)
@@ -96,8 +112,29 @@ ticked-refused store s =
     by-call s store (λ (t : Ticked). (t .refusal ≡ 0 → ⊥) → (t .board ≡ s) × (paper (t .answer) ≡ says 5 []))
     (λ h. (refl, refl)) (λ h. (refl, refl)) (λ h. (refl, refl)) (λ p q h. absurd (h refl))
 
+module _ (store text : List ℕ) (s : Board) where
+  -- where it is refused, no text
+  abbrev NoText : Telling → Type 0
+  NoText t = (t .listed .refusal ≡ 0 → ⊥) → (t .text ≡ text) × (t .listed .len ≡ 0)
+
+  told-by : (r : Records) → NoText (tell r text)
+  told-by (are l) h = absurd (h refl)
+  told-by none-are h = (refl, refl)
+
+  listed-by : (a c d e : Bool)
+      → NoText (pick a (telling 102 0 text) (pick c (telling 103 0 text) (pick d (telling 103 0 text) (pick e (telling 106 0 text) (tell (recordsOf (s .engine .held) store) text)))))
+  listed-by true c d e h = (refl, refl)
+  listed-by false true d e h = (refl, refl)
+  listed-by false false true e h = (refl, refl)
+  listed-by false false false true h = (refl, refl)
+  listed-by false false false false h = told-by (recordsOf (s .engine .held) store) h
+
+  listed-refused : NoText (listing s store text)
+  unfolding listing listOf
+  listed-refused h = listed-by (not (eqb (length store) 16384)) (not (sound s)) (ltb 16384 (s .engine .held .used)) (ltb (length text) 32768) h
+
 pub keeps-refused-call : RefusedCall ours
-keeps-refused-call = (heard-refused, ticked-refused)
+keeps-refused-call = (heard-refused, ticked-refused, listed-refused)
 
 -- ---- Quiet
 

@@ -50,7 +50,7 @@ pub data Came (b : Board) (store : List ℕ) (x : Said) : Type 0 where
 -- ---- the rows of the table: reply 0 where none of them holds
 
 rows-by : (a b c d e f g h i j : Bool) → _≡_ {A = ℕ} (pick a 53 (pick b 87 (pick c 52 (pick d 55 (pick e 51 (pick f 49 (pick g 68 (pick h 57 (pick i 56 (pick j 71 48)))))))))) 48
-    → (a ≡ false) × (b ≡ false) × (h ≡ false)
+    → (a ≡ false) × (b ≡ false) × (h ≡ false) × (c ≡ false)
 rows-by true b c d e f g h i j y = absurd (omega arith)
 rows-by false true c d e f g h i j y = absurd (omega arith)
 rows-by false false true d e f g h i j y = absurd (omega arith)
@@ -61,11 +61,12 @@ rows-by false false false false false false true h i j y = absurd (omega arith)
 rows-by false false false false false false false true i j y = absurd (omega arith)
 rows-by false false false false false false false false true j y = absurd (omega arith)
 rows-by false false false false false false false false false true y = absurd (omega arith)
-rows-by false false false false false false false false false false y = (refl, refl, refl)
+rows-by false false false false false false false false false false y = (refl, refl, refl, refl)
 
 module _ (e : Engine) (standing : Bool) (d : Direct) (h : replyOf e standing d ≡ 48) where
-  -- its shape is right, it is heard if something stands, and it rests inside
+  -- its shape is right, it is heard if something stands, it rests inside, and axes are set if it needs them
   pub row-facts : (isWrong (d .letter) ≡ false) × (standing && not (heardStanding (d .letter)) ≡ false) × (restsOutside (d .letter) e (d .words) ≡ false)
+      × (needsAxes (d .letter) && eqb (e .axes) 0 ≡ false)
   unfolding replyOf first
   row-facts =
       rows-by (isWrong (d .letter)) (standing && not (heardStanding (d .letter))) (needsAxes (d .letter) && eqb (e .axes) 0)

@@ -1,12 +1,12 @@
--- Ours has `NoDeadEnd`, from three laws of crate board that are handed in: a fresh board passes the test of 103, and a byte and a clock
--- call keep that a board passes it. Assumes these three and nothing else.
+-- What a byte that is heard and a clock call keep holds after any events, whatever is lent. And ours has `NoDeadEnd`, from three laws of
+-- crate board that are handed in: a fresh board passes the test of 103, and a byte and a clock call keep that a board passes it. Assumes
+-- these three and nothing else.
 use Prim.Native.Nat.{ℕ}
 use mathlib.Core.Path.{_≡_, refl, ap}
 use mathlib.Core.Bool.{Bool, true, false}
 use mathlib.Core.List.{List, [], _∷_}
 use borrow.Author.Tests.{eqb-true, eqb-false}
 use lib.Dec.{eqb}
-use Rattle.engine.specs.declared.Answer.the-variants as answer
 use Rattle.board.specs.declared.Board.{Board}
 use Rattle.board.specs.State.{sound}
 use Rattle.board.specs.Receive.{hearing}
@@ -24,26 +24,35 @@ none-refused : (e : Event) (s : Board) → sound s ≡ true → RightLent e → 
 none-refused (byte v ports l) s h r = ap (λ (o : Outcome). o .result .refusal) (hear-so v ports s (l .reply) (l .store) h (r .1) (r .0))
 none-refused (clock store) s h r = clock-never-refused s store h r
 
-module _ (start : sound fresh ≡ true)
-    (byte-keeps : (v : ℕ) (ports : List ℕ) (b : Board) (store : List ℕ) → sound b ≡ true → sound (hearing v ports b store .board) ≡ true)
-    (clock-keeps : (b : Board) (store : List ℕ) → sound b ≡ true → sound (clocking b store .board) ≡ true) where
+-- ---- a property that is kept
+
+module _ (P : Board → Type 0) (byte-keeps : (v : ℕ) (ports : List ℕ) (b : Board) (store : List ℕ) → P b → P (hearing v ports b store .board))
+    (clock-keeps : (b : Board) (store : List ℕ) → P b → P (clocking b store .board)) where
   -- a byte, refused or heard
-  byte-sound : (v : ℕ) (ports : List ℕ) (l : Lent) (s : Board) → sound s ≡ true → sound (receiving v ports s (l .reply) (l .store) .result .board) ≡ true
-  byte-sound v ports l s h = by (eqb (receiving v ports s (l .reply) (l .store) .result .refusal) 0) refl
+  byte-kept : (v : ℕ) (ports : List ℕ) (l : Lent) (s : Board) → P s → P (receiving v ports s (l .reply) (l .store) .result .board)
+  byte-kept v ports l s h = by (eqb (receiving v ports s (l .reply) (l .store) .result .refusal) 0) refl
     where
       by : (x : Bool) → eqb (receiving v ports s (l .reply) (l .store) .result .refusal) 0 ≡ x
-          → sound (receiving v ports s (l .reply) (l .store) .result .board) ≡ true
+          → P (receiving v ports s (l .reply) (l .store) .result .board)
       by true q = rw (out-board v ports l s (eqb-true (receiving v ports s (l .reply) (l .store) .result .refusal) 0 q)) (byte-keeps v ports s (l .store) h)
       by false q = rw (kept v ports s (l .reply) (l .store) (eqb-false (receiving v ports s (l .reply) (l .store) .result .refusal) 0 q) .0) h
 
-  event-sound : (e : Event) (s : Board) → sound s ≡ true → sound (next ours e s) ≡ true
-  event-sound (byte v ports l) s h = byte-sound v ports l s h
-  event-sound (clock store) s h = clock-keeps s store h
+  pub event-kept : (e : Event) (s : Board) → P s → P (next ours e s)
+  event-kept (byte v ports l) s h = byte-kept v ports l s h
+  event-kept (clock store) s h = clock-keeps s store h
 
-  all-sound : (es : List Event) (s : Board) → sound s ≡ true → sound (afterAll ours es s) ≡ true
+  pub all-kept : (es : List Event) (s : Board) → P s → P (afterAll ours es s)
   unfolding afterAll
-  all-sound [] s h = h
-  all-sound (e ∷ es) s h = all-sound es (next ours e s) (event-sound e s h)
+  all-kept [] s h = h
+  all-kept (e ∷ es) s h = all-kept es (next ours e s) (event-kept e s h)
+
+-- ---- the test of 103
+
+module _ (start : sound fresh ≡ true)
+    (byte-keeps : (v : ℕ) (ports : List ℕ) (b : Board) (store : List ℕ) → sound b ≡ true → sound (hearing v ports b store .board) ≡ true)
+    (clock-keeps : (b : Board) (store : List ℕ) → sound b ≡ true → sound (clocking b store .board) ≡ true) where
+  pub all-sound : (es : List Event) (s : Board) → sound s ≡ true → sound (afterAll ours es s) ≡ true
+  all-sound es s h = all-kept (λ b. sound b ≡ true) byte-keeps clock-keeps es s h
 
   pub no-dead-end-by : NoDeadEnd ours
   no-dead-end-by es e r = none-refused e (afterAll ours es fresh) (all-sound es fresh start) r

@@ -1,13 +1,12 @@
 -- Ours has `RoundTrip`. Assumes nothing.
 use Prim.Native.Nat.{ℕ, suc, _+_, _≤_}
 use mathlib.Core.Path.{_≡_, refl, sym, ap, subst, _∙_}
-use mathlib.Core.Bool.{Bool, true, false, _&&_}
+use mathlib.Core.Bool.{Bool, true, false}
 use mathlib.Core.List.{List, [], _∷_, _++_, append-assoc, append-nil}
 use native.Mathlib.Omega.{arith}
-use borrow.Author.Tests.{le-ltb, le-leb, leb-true}
-use lib.Dec.{leb}
+use borrow.Author.Tests.{le-ltb, le-leb}
 use lib.ListN.{length, take, drop, length-append}
-use lib.Seq.{length-take-le}
+use lib.Seq.{length-take-le, take-append-seam}
 use Rattle.count.specs.Pick.{pick}
 use Rattle.count.proofs.laws.Truth.{and-parts}
 use Rattle.motion.specs.Sound.{counted}
@@ -17,7 +16,7 @@ use Rattle.record.specs.Bytes.{encode, numbersOf}
 use Rattle.record.specs.Places.{recordsFrom, recordsOf, encodeAll}
 use Rattle.record.specs.Places.Records.{are}
 use Rattle.record.specs.Keep.{longer, hasRoom, storeOf}
-use Rattle.record.specs.Listing.{numbersText, lineText, listText, telling, listOf}
+use Rattle.record.specs.Listing.{numbersText, lineText, listText, Telling, telling, listOf}
 use Rattle.record.specs.Bytes.{Below}
 use Rattle.record.proofs.laws.Right.{RightOne, take-pad}
 use Rattle.record.proofs.laws.Stored.{AllRight, readable-list, encode-behind, stored-list}
@@ -28,18 +27,22 @@ use Rattle.line.specs.declared.Stored.{Stored}
 use Rattle.line.specs.Lines.{stored, storedOf}
 use Rattle.line.proofs.laws.RoundTrip.{stored-end}
 use Rattle.engine.specs.State.{idle, nothingHeld}
-use Rattle.engine.specs.Sound.{axesKnown, jobSound, soundOf}
+use Rattle.engine.specs.Sound.{axesKnown, soundOf}
+use Rattle.engine.proofs.laws.Facts.{facts}
+use Rattle.engine.proofs.laws.Runs.{accepted-list}
 use Rattle.board.specs.declared.Board.{Board}
 use Rattle.board.specs.State.{board, noLine, said, sound}
 use Rattle.board.specs.Direct.{first}
 use Rattle.board.specs.Storing.{recordReply, recordSaid, storedSaid}
 use Rattle.board.specs.Receive.{earOf, returned, gathering, hearing}
 use Rattle.board.specs.Calls.{fresh, listing}
-use Rattle.promise.specs.Machine.{ours}
-use Rattle.promise.specs.Demands.{idles, Host, storingText, sent, RoundTrip}
+use Rattle.board.proofs.laws.Hears.{sound-engine}
+use Rattle.promise.specs.Machine.{ours, afterAll}
+use Rattle.promise.specs.Demands.{idles, Host, storingText, sent, Restored, ListedAgain, RoundTrip}
 use Rattle.promise.proofs.laws.KeepsSending.{with-line, lineOf, Ends, line-all}
 use Rattle.promise.proofs.laws.KeepsStart.{storingWith, restingWith, starts, fresh-sound}
 use Rattle.promise.proofs.laws.KeepsNumbers.{line, line-plain, line-back, record-back}
+use Rattle.promise.proofs.laws.KeepsAlways.{always-sound}
 
 -- ---- a board that stores under axes, with a part in use
 
@@ -190,8 +193,11 @@ accepted-parts h store l a q =
     let f = and-parts (axesSet (h .axes)) (passing (recordsOf h store)) a in
     (f .0, ap passing (sym q) ∙ f .1)
 
-pub keeps-round-trip : RoundTrip ours
-keeps-round-trip h store l other host n b u r a q n′ b′ =
+-- the lines of a program of records, sent to a fresh board
+restored : (h : Held) (store : List ℕ) (l : List Record) (other : List ℕ) (host : Host) → length store ≡ 16384 → Below 256 store → h .used ≤ 16384
+    → h .records ≤ 1000 → accepted h store ≡ true → recordsOf h store ≡ are l → length other ≡ 16384 → Below 256 other
+    → Restored ours h store (storingText (h .axes) (listText l)) (sent ours host 0 (storingText (h .axes) (listText l)) fresh other)
+restored h store l other host n b u r a q n′ b′ =
     let f = accepted-parts h store l a q in
     let s = starts (h .axes) (f .0) in
     let g = readable-list h store l b q in
@@ -199,7 +205,7 @@ keeps-round-trip h store l other host n b u r a q n′ b′ =
     let few : length l ≤ 1000 = rw (g .count) r in
     let room : length (encodeAll l) ≤ 16384 = rw used u in
     let K = Kept-all host (h .axes) (s .known) l few room (f .1) in
-    let x : Ends host K (storingText (h .axes) l) (sent ours host 0 (storingText (h .axes) l) fresh other) =
+    let x : Ends host K (storingText (h .axes) (listText l)) (sent ours host 0 (storingText (h .axes) (listText l)) fresh other) =
     line-all host K (restingWith 0 nothingHeld) other refl refl fresh-sound n′ (64 ∷ 48 ∷ (48 + h .axes) ∷ []) 0 (64 ∷ 48 ∷ 105 ∷ 13 ∷ listText l)
     (board (restingWith (h .axes) nothingHeld) false noLine) other
     ((omega arith, omega arith), ((omega arith, omega arith), (s .plain, tt))) (omega arith) (λ ports. s .set ports other)
@@ -215,22 +221,27 @@ keeps-round-trip h store l other host n b u r a q n′ b′ =
       idle = x .1 .2;
     }
 
--- what 103 has tested of the part in use
-sound-used : (b : Board) → sound b ≡ true → b .engine .held .used ≤ 16384
-unfolding sound soundOf
-sound-used b h =
-    let e = b .engine in
-    let k = axesKnown (e .axes) && axesKnown (e .held .axes) in
-    let c = counted (e .at) && counted (e .origin) && k in
-    let u = leb (e .held .used) 16384 && leb (e .held .records) 1000 in
-    let d = leb (e .run .loops .depth) 7 in
-    let s = and-parts (c && u && d && jobSound (e .run .job) (e .at)) (leb (b .line .len) 80) h in
-    let t = and-parts (c && u && d) (jobSound (e .run .job) (e .at)) (s .0) in
-    let w = and-parts c u (and-parts (c && u) d (t .0) .0) in
-    leb-true (e .held .used) 16384 (and-parts (leb (e .held .used) 16384) (leb (e .held .records) 1000) (w .1) .0)
-
 -- the lines that are sent are those that the lister writes
 pub lister-text : (b : Board) (store t : List ℕ) (l : List Record) → length store ≡ 16384 → sound b ≡ true → 32768 ≤ length t → recordsOf (b .engine .held) store ≡ are l
     → listing b store t ≡ telling 0 (length (listText l)) (listText l ++ drop (length (listText l)) t)
 unfolding listing listOf
-lister-text b store t l n s h q = rw (n, s, le-ltb (length t) 32768 h, le-ltb 16384 (b .engine .held .used) (sound-used b s), q)
+lister-text b store t l n s h q = rw (n, s, le-ltb (length t) 32768 h, le-ltb 16384 (b .engine .held .used) (facts (b .engine) (sound-engine b s) .used), q)
+
+-- what a board that passes 103 lists is stored again
+pub listed-again : (b : Board) (store text other : List ℕ) (host : Host) → sound b ≡ true → length store ≡ 16384 → Below 256 store
+    → accepted (b .engine .held) store ≡ true → 32768 ≤ length text → length other ≡ 16384 → Below 256 other → ListedAgain ours store text other host b
+listed-again b store text other host s n below a w n′ below′ =
+    let h = b .engine .held in
+    let f = facts (b .engine) (sound-engine b s) in
+    let x = accepted-list h store a in
+    let t = lister-text b store text (x .0) n s w (x .1) in
+    let lines : take (listing b store text .listed .len) (listing b store text .text) ≡ listText (x .0) =
+    ap (λ (y : Telling). take (y .listed .len) (y .text)) t ∙ take-append-seam (listText (x .0)) _ in
+    record {
+      listed = ap (λ (y : Telling). y .listed .refusal) t;
+      restored = subst (λ (y : List ℕ). Restored ours h store (storingText (h .axes) y) (sent ours host 0 (storingText (h .axes) y) fresh other)) (sym lines)
+          (restored h store (x .0) other host n below (f .used) (f .records) a (x .1) n′ below′);
+    }
+
+pub keeps-round-trip : RoundTrip ours
+keeps-round-trip es store text other host n b a w n′ b′ = listed-again (afterAll ours es fresh) store text other host (always-sound es) n b a w n′ b′

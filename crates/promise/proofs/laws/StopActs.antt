@@ -14,15 +14,15 @@ use Rattle.board.specs.declared.Board.{Board}
 use Rattle.promise.specs.Machine.{ours}
 use Rattle.promise.proofs.laws.Guard as G
 use Rattle.promise.specs.Steps.{reached, shown, Along}
-use Rattle.promise.specs.Stop.{Step, receive, call, Mild, waits, rests, counts, takes, ahead, answerOf, countOf, byteOf}
-use Rattle.promise.proofs.laws.StopSteps.{Act, byte, tick, At, twin, actOf, right, tells, acted, actAnswer, our-answer, one-answer}
+use Rattle.promise.specs.Stop.{Step, receive, call, own, other, isOwn, rightly, Mild, waits, rests, counts, takes, ahead, answerOf, countOf, byteOf}
+use Rattle.promise.proofs.laws.StopSteps.{Act, byte, tick, At, twin, actOf, right, tells, acted, actAnswer, our-answer, refused-tick, one-answer}
 use Rattle.promise.proofs.laws.StopOne.{keeps, FitAt}
 
 -- ---- what the acts show: the calls, and the bytes
 
 abbrev pub actCount : At → Act → List Step
 actCount p (byte v) = []
-actCount p tick = call ∷ []
+actCount p tick = call own ∷ []
 
 abbrev pub actByte : At → Act → List ℕ
 actByte p (byte v) = v ∷ []
@@ -37,20 +37,21 @@ none true told told2 p e h g = h ∙ sym g
 none false told told2 p e h g = h
 
 pub shows-count : (p : At) (e : Step) → FitAt p → Mild e → Shows (countOf ours) actCount (keeps p e) p e
-shows-count p (receive v ports reply) f m = none (keeps p (receive v ports reply)) (countOf ours) actCount p (receive v ports reply) refl refl
-shows-count p call f m = by (counts (p .0)) refl
+shows-count p (receive v ports reply d) f m = none (keeps p (receive v ports reply d)) (countOf ours) actCount p (receive v ports reply d) refl refl
+shows-count p (call own) f m = by (counts (p .0)) refl
   where
-    by : (c : Bool) → counts (p .0) ≡ c → Shows (countOf ours) actCount c p call
+    by : (c : Bool) → counts (p .0) ≡ c → Shows (countOf ours) actCount c p (call own)
     by true h = rw h
     by false h = rw h
+shows-count p (call (other t)) f m = refl
 
 pub shows-byte : (p : At) (e : Step) → FitAt p → Mild e → Shows (byteOf ours) actByte (keeps p e) p e
-shows-byte p (receive v ports reply) f m = by (ltb v 253 && takes (p .0)) refl
+shows-byte p (receive v ports reply d) f m = by (keeps p (receive v ports reply d)) refl
   where
-    by : (c : Bool) → (ltb v 253 && takes (p .0)) ≡ c → Shows (byteOf ours) actByte c p (receive v ports reply)
+    by : (c : Bool) → keeps p (receive v ports reply d) ≡ c → Shows (byteOf ours) actByte c p (receive v ports reply d)
     by true h = rw h
     by false h = rw h
-shows-byte p call f m = none (counts (p .0)) (byteOf ours) actByte p call refl refl
+shows-byte p (call d) f m = none (keeps p (call d)) (byteOf ours) actByte p (call d) refl refl
 
 awake-told : (s : Bool) (b : Board) (store : List ℕ) → b .standing ≡ s → counts b ≡ true → tells (b, store) ≡ tells (twin (b, store))
 awake-told true b store q h = absurd (true≢false (sym (rw q at h)))
@@ -61,10 +62,11 @@ pick-none true l h = h
 pick-none false l h = refl
 
 pub shows-answer : (p : At) (e : Step) → FitAt p → Mild e → Shows (answerOf ours) actAnswer (keeps p e) p e
-shows-answer p (receive v ports reply) f m = none (keeps p (receive v ports reply)) (answerOf ours) actAnswer p (receive v ports reply) refl refl
-shows-answer (b, store) call f m = by (counts b) refl
+shows-answer p (receive v ports reply d) f m = none (keeps p (receive v ports reply d)) (answerOf ours) actAnswer p (receive v ports reply d) refl refl
+shows-answer p (call (other t)) f m = refused-tick t p m .1
+shows-answer (b, store) (call own) f m = by (counts b) refl
   where
-    by : (c : Bool) → counts b ≡ c → Shows (answerOf ours) actAnswer c (b, store) call
+    by : (c : Bool) → counts b ≡ c → Shows (answerOf ours) actAnswer c (b, store) (call own)
     by true h = our-answer (b, store) (f .short) ∙ ap (λ (l : List Paper). pick (right (b .engine) store) l []) (awake-told (b .standing) b store refl h)
     by false h = our-answer (b, store) (f .short) ∙ pick-none (right (b .engine) store) (tells (b, store)) (one-answer (b .engine) (b .line) store (b .standing) h)
 
@@ -79,8 +81,10 @@ twin-takes true k h = absurd (true≢false (sym h))
 twin-takes false k h = h
 
 pub works : (p : At) (e : Step) → FitAt p → Mild e → keeps p e ≡ true → Works (twin p) (actOf e)
-works p (receive v ports reply) f m h = twin-takes (p .0 .standing) (waits (p .0) || rests (p .0)) (and-right (ltb v 253) (takes (p .0)) h)
-works p call f m h = twin-takes (p .0 .standing) (not (waits (p .0) || rests (p .0))) h
+works p (receive v ports reply d) f m h =
+    twin-takes (p .0 .standing) (waits (p .0) || rests (p .0))
+    (and-right (ltb v 253) (takes (p .0)) (and-right (rightly (receive v ports reply d)) (ltb v 253 && takes (p .0)) h))
+works p (call d) f m h = twin-takes (p .0 .standing) (not (waits (p .0) || rests (p .0))) (and-right (isOwn d) (counts (p .0)) h)
 
 pub apart : (b : Board) → counts b ≡ true → takes b ≡ true → ⊥
 apart b c t = by (b .standing) (waits b || rests b) c t

@@ -3,14 +3,16 @@
 use Prim.Native.Nat.{ℕ, _≤_}
 use mathlib.Core.Bool.{Bool, true, false, not, _&&_, _||_, true≢false}
 use mathlib.Core.List.{List, [], _∷_}
-use mathlib.Core.Path.{_≡_, refl, sym, _∙_, ap, subst}
+use mathlib.Core.Path.{_≡_, refl, sym, _∙_, ap}
+use native.Mathlib.Omega.{arith}
 use borrow.Author.Tests.{le-ltb, eq-eqb}
 use lib.Dec.{leb, eqb}
 use lib.ListN.{length}
 use Rattle.count.specs.Pick.{pick}
+use Rattle.line.specs.declared.Letter.{Letter}
 use Rattle.line.specs.declared.Letter.the-variants as letter
 use Rattle.line.specs.declared.Direct.{Direct}
-use Rattle.line.specs.Lines.{directOf, afterAddress, letterOf, behind, storedOf}
+use Rattle.line.specs.Lines.{letterPaper, directOf, afterAddress, letterOf, behind, storedOf}
 use Rattle.engine.specs.declared.Job.{Job}
 use Rattle.engine.specs.declared.Job.the-variants as job
 use Rattle.engine.specs.declared.Engine.{Engine}
@@ -22,11 +24,10 @@ use Rattle.board.specs.Direct.{replyOf, first, directSaid}
 use Rattle.board.specs.Storing.{storedSaid}
 use Rattle.board.specs.Receive.{holdsBy, earOf, isStoring, stopped, hearing, returned, gathering}
 use Rattle.board.specs.Calls.{Outcome, answered, receiving}
-use Rattle.board.proofs.laws.Hears.{sound-engine}
 use Rattle.promise.specs.Machine.{ours}
 use Rattle.promise.specs.Steps.{reached}
 use Rattle.promise.specs.Demands.{isWaiting}
-use Rattle.promise.specs.Stop.{receive, restsBy, delaysBy, stoppable, ahead, last, Called, Comes, heardAt, StopHolds, StopElseDoesNothing, StartGoesOn, startLine, StopAndStart}
+use Rattle.promise.specs.Stop.{receive, own, restsBy, delaysBy, stoppable, ahead, last, Called, Comes, heardAt, StopHolds, StopElseDoesNothing, StartGoesOn, startLine}
 use Rattle.promise.proofs.laws.StopBoard.{left}
 use Rattle.promise.proofs.laws.StopSteps.{At}
 
@@ -102,22 +103,39 @@ start-heard : (ports : List ℕ) (e : Engine) (l : Line) (store : List ℕ) → 
 unfolding hearing earOf gathering
 start-heard ports e l store o h r = start-return ports e l store o h r
 
+-- S has its character alone
+is-S : (k : Letter) → letterPaper k .number ≡ 83 → k ≡ letter.Start
+is-S letter.Wrong h = absurd (omega arith)
+is-S letter.Axes h = absurd (omega arith)
+is-S letter.Relative h = absurd (omega arith)
+is-S letter.Absolute h = absurd (omega arith)
+is-S letter.Origin h = absurd (omega arith)
+is-S letter.Zero h = absurd (omega arith)
+is-S letter.Three h = absurd (omega arith)
+is-S letter.Position h = absurd (omega arith)
+is-S letter.Input h = absurd (omega arith)
+is-S letter.Output h = absurd (omega arith)
+is-S letter.Store h = absurd (omega arith)
+is-S letter.Empty h = absurd (omega arith)
+is-S letter.Start h = refl
+
 pub ours-goes-on : StartGoesOn ours
 ours-goes-on p ports reply c r s o h k =
+    let d : Direct = directOf (textOf (p .0 .line)) in
     comes 13 ports reply p (said (board (p .0 .engine) false noLine) [] (p .1)) r c
-    (ap (λ (t : Bool). hearing 13 ports (board (p .0 .engine) t (p .0 .line)) (p .1)) s ∙ start-heard ports (p .0 .engine) (p .0 .line) (p .1) o h k)
+    (ap (λ (t : Bool). hearing 13 ports (board (p .0 .engine) t (p .0 .line)) (p .1)) s ∙ start-heard ports (p .0 .engine) (p .0 .line) (p .1) o (is-S (d .letter) h) k)
 
 -- ---- a stop and `@0S`
 
-abbrev Stood : Board → List ℕ → List ℕ → List ℕ → Type 0
+abbrev pub Stood : Board → List ℕ → List ℕ → List ℕ → Type 0
 Stood b ports reply store =
-    (ahead ours (b, store) (receive 253 ports reply) .0 .standing ≡ true)
-    × (last ours (b, store) (receive 253 ports reply ∷ startLine ours ports reply) .0 ≡ b)
-    × (last ours (b, store) (receive 253 ports reply ∷ startLine ours ports reply) .1 ≡ store)
+    (ahead ours (b, store) (receive 253 ports reply own) .0 .standing ≡ true)
+    × (last ours (b, store) (receive 253 ports reply own ∷ startLine ours ports reply) .0 ≡ b)
+    × (last ours (b, store) (receive 253 ports reply own ∷ startLine ours ports reply) .1 ≡ store)
 
 module _ (ports reply : List ℕ) (e : Engine) (store : List ℕ) (r : 32 ≤ length reply) (n : length store ≡ 16384) (s : soundOf e ≡ true) where
   next : (v : ℕ) (t : Bool) (l : Line) (q : At) → leb (l .len) 80 ≡ true → left (hearing v ports (board e t l) store) ≡ q →
-      ahead ours (board e t l, store) (receive v ports reply) ≡ q
+      ahead ours (board e t l, store) (receive v ports reply own) ≡ q
   unfolding sound
   next v t l q h g = ap (λ (o : Outcome). (o .result .board, o .store)) (heard v ports reply (board e t l) store r n (rw (s, h))) ∙ g
 
@@ -130,15 +148,15 @@ module _ (ports reply : List ℕ) (e : Engine) (store : List ℕ) (r : 32 ≤ le
   line3 : Line
   line3 = gathered 83 (gathered 48 (gathered 64 noLine))
 
-  at-sign : ahead ours (board e true noLine, store) (receive 64 ports reply) ≡ (board e true line1, store)
+  at-sign : ahead ours (board e true noLine, store) (receive 64 ports reply own) ≡ (board e true line1, store)
   unfolding hearing earOf gathering line1
   at-sign = next 64 true noLine (board e true line1, store) refl refl
 
-  zero-sign : ahead ours (board e true line1, store) (receive 48 ports reply) ≡ (board e true line2, store)
+  zero-sign : ahead ours (board e true line1, store) (receive 48 ports reply own) ≡ (board e true line2, store)
   unfolding hearing earOf gathering gathered line1 line2
   zero-sign = next 48 true line1 (board e true line2, store) refl refl
 
-  letter-sign : ahead ours (board e true line2, store) (receive 83 ports reply) ≡ (board e true line3, store)
+  letter-sign : ahead ours (board e true line2, store) (receive 83 ports reply own) ≡ (board e true line3, store)
   unfolding hearing earOf gathering gathered line2 line3
   letter-sign = next 83 true line2 (board e true line3, store) refl refl
 
@@ -150,31 +168,25 @@ module _ (ports reply : List ℕ) (e : Engine) (store : List ℕ) (r : 32 ≤ le
   unfolding gathered line3 directOf afterAddress letterOf behind replyOf first
   is-accepted a = rw a
 
-  return-sign : eqb (e .axes) 0 ≡ false → ahead ours (board e true line3, store) (receive 13 ports reply) ≡ (board e false noLine, store)
+  return-sign : eqb (e .axes) 0 ≡ false → ahead ours (board e true line3, store) (receive 13 ports reply own) ≡ (board e false noLine, store)
   unfolding gathered line3
   return-sign a = next 13 true line3 (board e false noLine, store) refl (ap left (start-heard ports e line3 store refl is-start (is-accepted a)))
 
   goes-on : eqb (e .axes) 0 ≡ false → last ours (board e true noLine, store) (startLine ours ports reply) ≡ (board e false noLine, store)
   unfolding reached
   goes-on a =
-      ap (λ (q : At). ahead ours (ahead ours (ahead ours q (receive 48 ports reply)) (receive 83 ports reply)) (receive 13 ports reply)) at-sign
-      ∙ ap (λ (q : At). ahead ours (ahead ours q (receive 83 ports reply)) (receive 13 ports reply)) zero-sign
-      ∙ ap (λ (q : At). ahead ours q (receive 13 ports reply)) letter-sign
+      ap (λ (q : At). ahead ours (ahead ours (ahead ours q (receive 48 ports reply own)) (receive 83 ports reply own)) (receive 13 ports reply own)) at-sign
+      ∙ ap (λ (q : At). ahead ours (ahead ours q (receive 83 ports reply own)) (receive 13 ports reply own)) zero-sign
+      ∙ ap (λ (q : At). ahead ours q (receive 13 ports reply own)) letter-sign
       ∙ return-sign a
 
-  stops : stoppable (board e false noLine) ≡ true → ahead ours (board e false noLine, store) (receive 253 ports reply) ≡ (board e true noLine, store)
+  stops : stoppable (board e false noLine) ≡ true → ahead ours (board e false noLine, store) (receive 253 ports reply own) ≡ (board e true noLine, store)
   stops h = next 253 false noLine (board e true noLine, store) refl (ap left (stop-by ports (board e false noLine) store true h))
 
   whole : stoppable (board e false noLine) ≡ true → eqb (e .axes) 0 ≡ false →
-      last ours (board e false noLine, store) (receive 253 ports reply ∷ startLine ours ports reply) ≡ (board e false noLine, store)
+      last ours (board e false noLine, store) (receive 253 ports reply own ∷ startLine ours ports reply) ≡ (board e false noLine, store)
   unfolding reached
   whole h a = ap (λ (q : At). last ours q (startLine ours ports reply)) (stops h) ∙ goes-on a
 
-  both : stoppable (board e false noLine) ≡ true → eqb (e .axes) 0 ≡ false → Stood (board e false noLine) ports reply store
+  pub both : stoppable (board e false noLine) ≡ true → eqb (e .axes) 0 ≡ false → Stood (board e false noLine) ports reply store
   both h a = (ap (λ (q : At). q .0 .standing) (stops h), ap (λ (q : At). q .0) (whole h a), ap (λ (q : At). q .1) (whole h a))
-
-pub ours-stop-and-start : StopAndStart ours
-ours-stop-and-start p ports reply b r h a =
-    let q : p .0 ≡ board (p .0 .engine) false noLine = λ i. board (p .0 .engine) (b .standing i) (b .line i) in
-    subst (λ (d : Board). Stood d ports reply (p .1)) (sym q)
-    (both ports reply (p .0 .engine) (p .1) r (b .store) (sound-engine (p .0) (b .sound)) (subst (λ (d : Board). stoppable d ≡ true) q h) a)

@@ -4,16 +4,17 @@ use native.Mathlib.Omega.{arith}
 use mathlib.Core.Bool.{Bool, true, false, not, _&&_, _||_, true≢false}
 use mathlib.Core.List.{List, []}
 use mathlib.Core.Path.{_≡_, refl, sym, subst}
-use borrow.Author.Tests.{le-ltb, lt-ltb, eqb-true, eqb-false, ne-eqb}
-use lib.Dec.{ltb, eqb}
-use Rattle.count.proofs.laws.Truth.{and-right}
+use borrow.Author.Tests.{le-ltb, lt-ltb, leb-true, eqb-true, eqb-false, ne-eqb}
+use lib.Dec.{leb, ltb, eqb}
+use lib.ListN.{length}
+use Rattle.count.proofs.laws.Truth.{and-right, and-false}
 use Rattle.board.specs.declared.Board.{Board}
 use Rattle.board.specs.Receive.{earOf, stopped, ordinary, hearing}
 use Rattle.promise.specs.Machine.{ours}
 use Rattle.promise.proofs.laws.Guard as G
-use Rattle.promise.specs.Stop.{Step, receive, call, Mild, waits, rests, counts, takes, ahead}
+use Rattle.promise.specs.Stop.{Step, receive, call, own, other, Elsewhere, isOwn, rightly, Mild, waits, rests, counts, takes, ahead}
 use Rattle.promise.proofs.laws.StopBoard.{twinBoard, Fit, left}
-use Rattle.promise.proofs.laws.StopSteps.{byte, tick, At, twin, actOf, right, ticks, acted, our-byte, our-tick, Result, guarded, one-stop, one-ordinary, one-tick}
+use Rattle.promise.proofs.laws.StopSteps.{byte, tick, At, twin, actOf, right, ticks, acted, our-byte, our-tick, refused-byte, refused-tick, Result, guarded, one-stop, one-ordinary, one-tick}
 
 -- ---- one step, refused or not
 
@@ -43,10 +44,10 @@ byte-free v ports (b, store) m f = by (eqb v 253) refl
         rw (lt-ltb v 253 h, heard-plain v ports b store h, heard-plain v [] (twinBoard b) store h)
         (one-ordinary (b .engine) (b .line) store v ports (b .standing) f)
 
--- the steps that count: a byte that is taken, a clock call while the board runs
+-- the steps that count: a byte that is taken, a clock call while the board runs, neither refused for what is lent
 abbrev pub keeps : At → Step → Bool
-keeps p (receive v ports reply) = ltb v 253 && takes (p .0)
-keeps p call = counts (p .0)
+keeps p (receive v ports reply d) = rightly (receive v ports reply d) && (ltb v 253 && takes (p .0))
+keeps p (call d) = isOwn d && counts (p .0)
 
 awake-and : (s k : Bool) → not s && k ≡ true → s ≡ false
 awake-and true k h = absurd (true≢false (sym h))
@@ -54,21 +55,47 @@ awake-and false k h = refl
 
 -- whatever counts comes while nothing stands
 pub awake : (p : At) (e : Step) → keeps p e ≡ true → p .0 .standing ≡ false
-awake p (receive v ports reply) h = awake-and (p .0 .standing) (waits (p .0) || rests (p .0)) (and-right (ltb v 253) (takes (p .0)) h)
-awake p call h = awake-and (p .0 .standing) (not (waits (p .0) || rests (p .0))) h
+awake p (receive v ports reply d) h =
+    awake-and (p .0 .standing) (waits (p .0) || rests (p .0))
+    (and-right (ltb v 253) (takes (p .0)) (and-right (rightly (receive v ports reply d)) (ltb v 253 && takes (p .0)) h))
+awake p (call d) h = awake-and (p .0 .standing) (not (waits (p .0) || rests (p .0))) (and-right (isOwn d) (counts (p .0)) h)
 
 abbrev pub FitAt : At → Type 0
 FitAt p = Fit (p .0)
 
-pub result : (p : At) (e : Step) → Fit (p .0) → Mild e → Result (keeps p e) p (acted (twin p) (actOf e)) (ahead ours p e)
-result p (receive v ports reply) f (m, n) =
-    subst (λ (q : At). Result (ltb v 253 && takes (p .0)) p (acted (twin p) (byte v)) q) (sym (our-byte v ports reply p (f .short) n))
+-- refused for what is lent, it leaves both as they are
+passed : (p u q : At) → Fit (p .0) → q ≡ p → Result false p u q
+passed p u q f h = subst (λ (r : At). Result false p u r) (sym h) (refl, f)
+
+own-byte : (v : ℕ) (ports reply : List ℕ) (p : At) (r : Bool) → leb 32 (length reply) ≡ r → (r && true ≡ true → v < 254) → Fit (p .0) →
+    Result (r && true && (ltb v 253 && takes (p .0))) p (acted (twin p) (byte v)) (ahead ours p (receive v ports reply own))
+own-byte v ports reply p true q m f =
+    subst (λ (s : At). Result (ltb v 253 && takes (p .0)) p (acted (twin p) (byte v)) s) (sym (our-byte v ports reply p (f .short) (leb-true 32 (length reply) q)))
     (guarded (right (p .0 .engine) (p .1)) (ltb v 253 && takes (p .0)) p (left (hearing v [] (twinBoard (p .0)) (p .1))) (left (hearing v ports (p .0) (p .1))) f
-    (awake p (receive v ports reply)) (byte-free v ports p m f))
-result p call f m =
+    (λ h. awake-and (p .0 .standing) (waits (p .0) || rests (p .0)) (and-right (ltb v 253) (takes (p .0)) h)) (byte-free v ports p (m refl) f))
+own-byte v ports reply p false q m f = passed p (acted (twin p) (byte v)) (ahead ours p (receive v ports reply own)) f (refused-byte v ports reply own p tt (rw q))
+
+other-byte : (v : ℕ) (ports reply t : List ℕ) (p : At) (r : Bool) → Elsewhere (other t) → Fit (p .0) →
+    Result (r && false && (ltb v 253 && takes (p .0))) p (acted (twin p) (byte v)) (ahead ours p (receive v ports reply (other t)))
+other-byte v ports reply t p r n f = by r
+  where
+    left-out : Result false p (acted (twin p) (byte v)) (ahead ours p (receive v ports reply (other t)))
+    left-out =
+        passed p (acted (twin p) (byte v)) (ahead ours p (receive v ports reply (other t))) f
+        (refused-byte v ports reply (other t) p n (and-false (leb 32 (length reply))))
+
+    by : (r : Bool) → Result (r && false && (ltb v 253 && takes (p .0))) p (acted (twin p) (byte v)) (ahead ours p (receive v ports reply (other t)))
+    by true = left-out
+    by false = left-out
+
+pub result : (p : At) (e : Step) → Fit (p .0) → Mild e → Result (keeps p e) p (acted (twin p) (actOf e)) (ahead ours p e)
+result p (receive v ports reply own) f (m, n) = own-byte v ports reply p (leb 32 (length reply)) refl m f
+result p (receive v ports reply (other t)) f (m, n) = other-byte v ports reply t p (leb 32 (length reply)) n f
+result p (call own) f m =
     subst (λ (q : At). Result (counts (p .0)) p (acted (twin p) tick) q) (sym (our-tick p (f .short)))
     (guarded (right (p .0 .engine) (p .1)) (counts (p .0)) p (ticks (twin p)) (ticks p) f
-    (awake p call) (one-tick (p .0 .engine) (p .0 .line) (p .1) (p .0 .standing) f))
+    (awake p (call own)) (one-tick (p .0 .engine) (p .0 .line) (p .1) (p .0 .standing) f))
+result p (call (other t)) f m = passed p (acted (twin p) tick) (ahead ours p (call (other t))) f (refused-tick t p m .0)
 
 abbrev pub Moves : Bool → At → Step → Type 0
 Moves k p e = G.Moves (ahead ours) acted keeps actOf twin FitAt Mild k p e

@@ -1,5 +1,6 @@
--- The same schedule never stopped: a schedule without its stops, all that comes while it stands, and dropped bytes is a schedule too, counts
--- the same and never stands (see `StopsCanBeLeftOut` in `Stop.antt`). So every stopped run is the same as one that is never stopped.
+-- The same schedule never stopped: a schedule without its stops, all that comes while it stands, dropped bytes, and calls refused for what
+-- is lent is a schedule too, counts the same and never stands (see `StopsCanBeLeftOut` in `Stop.antt`). So every stopped run is the same as
+-- one that is never stopped.
 use Prim.Native.Nat.{ℕ}
 use mathlib.Core.Bool.{Bool, true, false, not, _&&_, _||_, true≢false}
 use mathlib.Core.List.{List, [], _∷_}
@@ -8,12 +9,12 @@ use borrow.Author.Tests.{ltb-true}
 use lib.Dec.{ltb}
 use lib.ListN.{length}
 use Rattle.count.specs.Pick.{pick}
-use Rattle.count.proofs.laws.Truth.{and-left}
+use Rattle.count.proofs.laws.Truth.{never, and-left, and-right}
 use Rattle.board.specs.declared.Board.{Board}
 use Rattle.promise.specs.Machine.{ours}
 use Rattle.promise.proofs.laws.Guard as G
 use Rattle.promise.specs.Steps.{Each, reached, shown, Along, keptOf, consIf}
-use Rattle.promise.specs.Stop.{Step, receive, call, Mild, Mildly, waits, rests, takes, ahead, countOf, byteOf, last, counted, taken, stays, unstopped, Unstopped, Begun, Same, StopsCanBeLeftOut}
+use Rattle.promise.specs.Stop.{Step, receive, call, own, other, isOwn, rightly, Mild, Mildly, waits, rests, takes, ahead, countOf, byteOf, last, counted, taken, stays, unstopped, Unstopped, Begun, Same, StopsCanBeLeftOut}
 use Rattle.promise.proofs.laws.StopQuiet.{twin-of}
 use Rattle.promise.proofs.laws.StopSteps.{At, twin, actOf, right, ticks, acted, our-tick, Result}
 use Rattle.promise.proofs.laws.StopOne.{keeps, FitAt, awake, result}
@@ -32,17 +33,19 @@ not-false false h = absurd (true≢false h)
 
 -- a step that stays comes while nothing stands, and nothing stands afterwards
 before : (p : At) (e : Step) → out p e ≡ true → p .0 .standing ≡ false
-before p (receive v ports reply) h = awake p (receive v ports reply) h
-before p call h = not-true (p .0 .standing) h
+before p (receive v ports reply d) h = awake p (receive v ports reply d) h
+before p (call d) h = not-true (p .0 .standing) (and-right (isOwn d) (not (p .0 .standing)) h)
 
 afterwards : (p : At) (e : Step) → FitAt p → Mild e → out p e ≡ true → ahead ours p e .0 .standing ≡ false
-afterwards p (receive v ports reply) f m h =
-    let r : Result true p (acted (twin p) (actOf (receive v ports reply))) (ahead ours p (receive v ports reply)) =
-    subst (λ (k : Bool). Result k p (acted (twin p) (actOf (receive v ports reply))) (ahead ours p (receive v ports reply))) h (result p (receive v ports reply) f m) in
+afterwards p (receive v ports reply d) f m h =
+    let e : Step = receive v ports reply d in
+    let r : Result true p (acted (twin p) (actOf e)) (ahead ours p e) =
+    subst (λ (k : Bool). Result k p (acted (twin p) (actOf e)) (ahead ours p e)) h (result p e f m) in
     r .2
-afterwards p call f m h =
+afterwards p (call (other t)) f m h = never h
+afterwards p (call own) f m h =
     subst (λ (q : At). q .0 .standing ≡ false) (sym (our-tick p (f .short)))
-    (either (right (p .0 .engine) (p .1)) (ticks p) p (ticks-awake (p .0) (p .1) (p .0 .standing) refl (before p call h)) (before p call h))
+    (either (right (p .0 .engine) (p .1)) (ticks p) p (ticks-awake (p .0) (p .1) (p .0 .standing) refl (before p (call own) h)) (before p (call own) h))
   where
     either : (g : Bool) (q r : At) → q .0 .standing ≡ false → r .0 .standing ≡ false → (pick {A = At} g q r) .0 .standing ≡ false
     either true q r h k = h
@@ -62,8 +65,9 @@ Moves k p e = G.Moves (ahead ours) (ahead ours) out (λ d. d) twin FitAt Mild k 
 
 -- what does not stay does not count
 dropped : (p : At) (e : Step) → out p e ≡ false → keeps p e ≡ false
-dropped p (receive v ports reply) h = h
-dropped p call h = by (p .0 .standing) (not (waits (p .0) || rests (p .0))) (not-false (p .0 .standing) h)
+dropped p (receive v ports reply d) h = h
+dropped p (call (other t)) h = refl
+dropped p (call own) h = by (p .0 .standing) (not (waits (p .0) || rests (p .0))) (not-false (p .0 .standing) h)
   where
     by : (s k : Bool) → s ≡ true → not s && k ≡ false
     by true k q = refl
@@ -99,12 +103,12 @@ module _ {A : Type 0} (told : At → Step → List A) (none : (p : At) (e : Step
   same-out p es f m = G.same-shown (ahead ours) (ahead ours) out (λ d. d) twin FitAt Mild one told told shows p es f m
 
 no-count : (p : At) (e : Step) → FitAt p → keeps p e ≡ false → countOf ours p e ≡ []
-no-count p (receive v ports reply) f h = refl
-no-count p call f h = rw h
+no-count p (receive v ports reply d) f h = refl
+no-count p (call d) f h = rw h
 
 no-byte : (p : At) (e : Step) → FitAt p → keeps p e ≡ false → byteOf ours p e ≡ []
-no-byte p (receive v ports reply) f h = rw h
-no-byte p call f h = refl
+no-byte p (receive v ports reply d) f h = rw h
+no-byte p (call d) f h = refl
 
 -- ---- THEOREM 2
 
@@ -118,8 +122,9 @@ mild-out p (e ∷ es) (m, ms) = by (out p e) (unstopped ours (ahead ours p e) es
     by false fs h = h
 
 ordinary : (p : At) (e : Step) → out p e ≡ true → Unstopped e
-ordinary p (receive v ports reply) h = ltb-true v 253 (and-left (ltb v 253) (takes (p .0)) h)
-ordinary p call h = tt
+ordinary p (receive v ports reply d) h =
+    ltb-true v 253 (and-left (ltb v 253) (takes (p .0)) (and-right (rightly (receive v ports reply d)) (ltb v 253 && takes (p .0)) h))
+ordinary p (call d) h = tt
 
 no-stop : (p : At) (es : List Step) → Each Unstopped (unstopped ours p es)
 unfolding keptOf

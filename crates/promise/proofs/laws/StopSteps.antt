@@ -3,11 +3,12 @@ use Prim.Native.Nat.{ℕ, _≤_}
 use mathlib.Core.Bool.{Bool, true, false, not, _&&_, _||_, true≢false}
 use mathlib.Core.List.{List, [], _∷_}
 use mathlib.Core.Path.{_≡_, refl, sym, _∙_, ap, subst}
-use borrow.Author.Tests.{le-ltb}
-use lib.Dec.{leb, eqb}
+use borrow.Author.Tests.{le-ltb, lt-ltb, leb-false, ne-eqb}
+use lib.Dec.{leb, ltb, eqb}
 use lib.ListN.{length}
 use Rattle.count.specs.Pick.{pick}
 use Rattle.count.specs.Paper.{Paper}
+use Rattle.count.proofs.laws.Truth.{and-true}
 use Rattle.motion.specs.Next.{pulseOf}
 use Rattle.record.specs.Places.{fetchOf}
 use Rattle.engine.specs.declared.Answer.the-variants as answer
@@ -25,7 +26,7 @@ use Rattle.board.specs.Receive.{earBy, earOf, holdsBy, stopped, ordinary, heari
 use Rattle.board.specs.Calls.{Outcome, refused, answered, receiving, clocked, wentOn, clocking}
 use Rattle.promise.specs.Machine.{ours}
 use Rattle.promise.specs.Demands.{isWaiting}
-use Rattle.promise.specs.Stop.{Step, receive, call, restsBy, counts, takes, spoken, ahead, answerOf}
+use Rattle.promise.specs.Stop.{Step, receive, call, Lending, own, other, Elsewhere, rightly, restsBy, counts, takes, spoken, ahead, answerOf}
 use Rattle.promise.proofs.laws.StopBoard.{twinBoard, Clear, Fit, clear-of, left, held-byte}
 use Rattle.promise.proofs.laws.StopQuiet.{twin-of, quiet-byte}
 
@@ -42,8 +43,8 @@ abbrev pub twin : At → At
 twin p = (twinBoard (p .0), p .1)
 
 abbrev pub actOf : Step → Act
-actOf (receive v ports reply) = byte v
-actOf call = tick
+actOf (receive v ports reply d) = byte v
+actOf (call d) = tick
 
 -- a call is refused or not by the engine and the store alone, where no line is over 80 bytes
 abbrev pub right : Engine → List ℕ → Bool
@@ -72,7 +73,7 @@ abbrev after : Outcome → At
 after o = (o .result .board, o .store)
 
 pub our-byte : (v : ℕ) (ports reply : List ℕ) (p : At) → leb (p .0 .line .len) 80 ≡ true → 32 ≤ length reply →
-    ahead ours p (receive v ports reply) ≡ pick (right (p .0 .engine) (p .1)) (left (hearing v ports (p .0) (p .1))) p
+    ahead ours p (receive v ports reply own) ≡ pick (right (p .0 .engine) (p .1)) (left (hearing v ports (p .0) (p .1))) p
 unfolding receiving sound
 our-byte v ports reply (b, store) h n = rw (le-ltb (length reply) 32 n, h) (by (eqb (length store) 16384) (soundOf (b .engine)))
   where
@@ -83,7 +84,7 @@ our-byte v ports reply (b, store) h n = rw (le-ltb (length reply) 32 n, h) (by (
     by false s = refl
 
 pub our-tick : (p : At) → leb (p .0 .line .len) 80 ≡ true →
-    ahead ours p call ≡ pick (right (p .0 .engine) (p .1)) (ticks p) p
+    ahead ours p (call own) ≡ pick (right (p .0 .engine) (p .1)) (ticks p) p
 unfolding clocking sound
 our-tick (b, store) h = rw h (by (eqb (length store) 16384) (soundOf (b .engine)) (b .standing))
   where
@@ -99,7 +100,7 @@ our-tick (b, store) h = rw h (by (eqb (length store) 16384) (soundOf (b .engine)
     by false s t = refl
 
 pub our-answer : (p : At) → leb (p .0 .line .len) 80 ≡ true →
-    answerOf ours p call ≡ pick (right (p .0 .engine) (p .1)) (tells p) []
+    answerOf ours p (call own) ≡ pick (right (p .0 .engine) (p .1)) (tells p) []
 unfolding clocking sound
 our-answer (b, store) h = rw h (by (eqb (length store) 16384) (soundOf (b .engine)) (b .standing))
   where
@@ -110,6 +111,32 @@ our-answer (b, store) h = rw h (by (eqb (length store) 16384) (soundOf (b .engin
     by true true false = refl
     by true false t = refl
     by false s t = refl
+
+-- ---- a call that is refused for what is lent changes nothing
+
+-- with a reply buffer that is too short
+short-byte : (v : ℕ) (ports reply : List ℕ) (d : Lending) (p : At) → leb 32 (length reply) ≡ false → ahead ours p (receive v ports reply d) ≡ p
+unfolding receiving
+short-byte v ports reply own (b, store) h = rw (lt-ltb (length reply) 32 (leb-false 32 (length reply) h))
+short-byte v ports reply (other t) (b, store) h = rw (lt-ltb (length reply) 32 (leb-false 32 (length reply) h))
+
+-- with another slice than the one store
+other-byte : (v : ℕ) (ports reply t : List ℕ) (p : At) → Elsewhere (other t) → ahead ours p (receive v ports reply (other t)) ≡ p
+unfolding receiving
+other-byte v ports reply t (b, store) n = rw (ne-eqb (length t) 16384 n) (by (ltb (length reply) 32))
+  where
+    by : (g : Bool) → _≡_ {A = At} (pick g (refused 101 b reply t) (refused 102 b reply t) .result .board, store) (b, store)
+    by true = refl
+    by false = refl
+
+pub refused-byte : (v : ℕ) (ports reply : List ℕ) (d : Lending) (p : At) → Elsewhere d → rightly (receive v ports reply d) ≡ false →
+    ahead ours p (receive v ports reply d) ≡ p
+refused-byte v ports reply own p n h = short-byte v ports reply own p (sym (and-true (leb 32 (length reply))) ∙ h)
+refused-byte v ports reply (other t) p n h = other-byte v ports reply t p n
+
+pub refused-tick : (t : List ℕ) (p : At) → Elsewhere (other t) → (ahead ours p (call (other t)) ≡ p) × (answerOf ours p (call (other t)) ≡ [])
+unfolding clocking
+refused-tick t (b, store) n = (rw (ne-eqb (length t) 16384 n), rw (ne-eqb (length t) 16384 n))
 
 -- ---- one step: kept, the twin makes it too; left out, the twin stays
 

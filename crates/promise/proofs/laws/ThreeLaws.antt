@@ -10,7 +10,9 @@ use Rattle.promise.specs.Machine.{Machine, ours}
 use Rattle.promise.specs.Stop.{Step, unsped, Place, answers, Same, Begins}
 use Rattle.promise.proofs.laws.StopLaws.{ours-stop, ours-over, ours-followed}
 use Rattle.promise.proofs.laws.StopOut.{ours-unstopped}
-use Rattle.promise.proofs.laws.StopHolds.{ours-holds, ours-else, ours-goes-on, ours-stop-and-start}
+use Rattle.promise.proofs.laws.StopHolds.{ours-holds, ours-else, ours-goes-on}
+use Rattle.promise.proofs.laws.StopBegins.{ours-clear}
+use Rattle.promise.proofs.laws.StopStarts.{ours-begins, ours-stop-and-start}
 use Rattle.promise.specs.Three.{only, pulses, sent, Equals, Agrees, DemandThree}
 
 only-join : (n : ℕ) (l k : List Paper) → only n (l ++ k) ≡ only n l ++ only n k
@@ -53,4 +55,6 @@ ours-demand-3 = record {
   elsewhere = ours-else;
   accepted = ours-goes-on;
   both = ours-stop-and-start;
+  clear = ours-clear;
+  begins = ours-begins;
 }

@@ -1,0 +1,34 @@
+-- THE DEMANDS: what is promised of the board, as one record over any machine (00, demands 1, 2 and 3). `ours-demanded` in
+-- proofs/laws/Demanded.antt is the theorem that ours has it.
+use Rattle.promise.specs.Machine.{Machine}
+use Rattle.promise.specs.Demands.{RefusedLine, AcceptedLine, SilentReturn, RefusedCall, Quiet, SumOfPulses, Counted, NoDeadEnd, RoundTrip, EndAccepts, EndToEnd}
+use Rattle.promise.specs.Follows.{Follows}
+use Rattle.promise.specs.Route.{Routes, StartRoutes}
+use Rattle.promise.specs.Three.{DemandThree}
+
+-- 1: a refused line sends its one character and changes nothing but the line, a refused call writes nothing, and no call is refused to a
+-- caller who lends what is asked. That each call has one outcome is what a machine is; of the contracts it is `one-history`.
+pub record DemandOne (m : Machine) : Type 0 where
+  pub refused-line : RefusedLine m
+  pub refused-call : RefusedCall m
+  pub no-dead-end : NoDeadEnd m
+
+-- 2: replies, answers, pulses, positions, origins, outputs and stored bytes are the definitions'; and what these come to
+pub record DemandTwo (m : Machine) : Type 0 where
+  pub follows : Follows m
+  pub accepted-line : AcceptedLine m
+  pub silent-return : SilentReturn m
+  pub quiet : Quiet m
+  pub sum-of-pulses : SumOfPulses m
+  pub counted : Counted m
+  pub end-accepts : EndAccepts m
+  pub round-trip : RoundTrip m
+  pub end-to-end : EndToEnd m
+  pub start-routes : StartRoutes m
+  pub routes : Routes m
+
+-- 3 stands in `Three.antt`
+pub record Demanded (m : Machine) : Type 0 where
+  pub one : DemandOne m
+  pub two : DemandTwo m
+  pub three : DemandThree m

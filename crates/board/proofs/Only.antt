@@ -24,8 +24,16 @@ position-one κs a r r′ s s′ p q = p ∙ sym q
 pub origin-one : (κs : _) (a : _) (r r′ : _) (s s′ : _) → origin.Post κs a r s → origin.Post κs a r′ s′ → r ≡ r′
 origin-one κs a r r′ s s′ p q = p ∙ sym q
 
+-- the fourth parameter, `reply: &mut [u8]`, as it is left
+abbrev receive-reply : {X A B C D : Type 0} → A × (B × (C × (X × D))) → X
+receive-reply s = s .1 .1 .1 .0
+
+-- the fifth parameter, `store: &mut [u8]`, as it is left
+abbrev receive-store : {X A B C D E : Type 0} → A × (B × (C × (D × (X × E)))) → X
+receive-store s = s .1 .1 .1 .1 .0
+
 pub receive-one : (κs : _) (a : _) (r r′ : _) (s s′ : _) → receive.Post κs a r s → receive.Post κs a r′ s′
-    → (r ≡ r′) × (now (s .1 .1 .1 .0) ≡ now (s′ .1 .1 .1 .0)) × (now (s .1 .1 .1 .1 .0) ≡ now (s′ .1 .1 .1 .1 .0))
+    → (r ≡ r′) × (now (receive-reply s) ≡ now (receive-reply s′)) × (now (receive-store s) ≡ now (receive-store s′))
 receive-one κs a r r′ s s′ p q =
     let e = p ∙ sym q in
     (ap (λ (o : Outcome). o .result) e, ap (λ (o : Outcome). o .reply) e, ap (λ (o : Outcome). o .store) e)
@@ -33,7 +41,11 @@ receive-one κs a r r′ s s′ p q =
 pub clock-one : (κs : _) (a : _) (r r′ : _) (s s′ : _) → clock.Post κs a r s → clock.Post κs a r′ s′ → r ≡ r′
 clock-one κs a r r′ s s′ p q = p ∙ sym q
 
-pub list-one : (κs : _) (a : _) (r r′ : _) (s s′ : _) → list.Post κs a r s → list.Post κs a r′ s′ → (r ≡ r′) × (now (s .1 .1 .0) ≡ now (s′ .1 .1 .0))
+-- the third parameter, `text: &mut [u8]`, as it is left
+abbrev list-text : {X A B C : Type 0} → A × (B × (X × C)) → X
+list-text s = s .1 .1 .0
+
+pub list-one : (κs : _) (a : _) (r r′ : _) (s s′ : _) → list.Post κs a r s → list.Post κs a r′ s′ → (r ≡ r′) × (now (list-text s) ≡ now (list-text s′))
 list-one κs a r r′ s s′ p q =
     let e = p ∙ sym q in
     (ap (λ (t : Telling). t .listed) e, ap (λ (t : Telling). t .text) e)

@@ -4,3 +4,4 @@ pub mod Obeys
 pub mod Hears
 pub mod Fair
 pub mod Laws
+pub mod Papers

@@ -83,16 +83,32 @@ is-byte-one κs a r r′ s s′ p q = p ∙ sym q
 pub is-zero-one : (κs : _) (a : _) (r r′ : _) (s s′ : _) → is-zero.Post κs a r s → is-zero.Post κs a r′ s′ → r ≡ r′
 is-zero-one κs a r r′ s s′ p q = p ∙ sym q
 
-pub put-report-one : (κs : _) (a : _) (r r′ : _) (s s′ : _) → put-report.Post κs a r s → put-report.Post κs a r′ s′ → (r ≡ r′) × (now (s .0) ≡ now (s′ .0))
+-- the first parameter, `text: &mut [u8]`, as it is left
+abbrev put-report-text : {X A : Type 0} → X × A → X
+put-report-text s = s .0
+
+pub put-report-one : (κs : _) (a : _) (r r′ : _) (s s′ : _) → put-report.Post κs a r s → put-report.Post κs a r′ s′ → (r ≡ r′) × (now (put-report-text s) ≡ now (put-report-text s′))
 put-report-one κs a r r′ s s′ p q = (ap (λ (w : Written). w .len) (p ∙ sym q), ap (λ (w : Written). w .text) (p ∙ sym q))
 
-pub put-byte-one : (κs : _) (a : _) (r r′ : _) (s s′ : _) → put-byte.Post κs a r s → put-byte.Post κs a r′ s′ → (r ≡ r′) × (now (s .0) ≡ now (s′ .0))
+-- the first parameter, `text: &mut [u8]`, as it is left
+abbrev put-byte-text : {X A : Type 0} → X × A → X
+put-byte-text s = s .0
+
+pub put-byte-one : (κs : _) (a : _) (r r′ : _) (s s′ : _) → put-byte.Post κs a r s → put-byte.Post κs a r′ s′ → (r ≡ r′) × (now (put-byte-text s) ≡ now (put-byte-text s′))
 put-byte-one κs a r r′ s s′ p q = (ap (λ (w : Written). w .len) (p ∙ sym q), ap (λ (w : Written). w .text) (p ∙ sym q))
 
-pub put-word-one : (κs : _) (a : _) (r r′ : _) (s s′ : _) → put-word.Post κs a r s → put-word.Post κs a r′ s′ → (r ≡ r′) × (now (s .0) ≡ now (s′ .0))
+-- the first parameter, `text: &mut [u8]`, as it is left
+abbrev put-word-text : {X A : Type 0} → X × A → X
+put-word-text s = s .0
+
+pub put-word-one : (κs : _) (a : _) (r r′ : _) (s s′ : _) → put-word.Post κs a r s → put-word.Post κs a r′ s′ → (r ≡ r′) × (now (put-word-text s) ≡ now (put-word-text s′))
 put-word-one κs a r r′ s s′ p q = (ap (λ (w : Written). w .len) (p ∙ sym q), ap (λ (w : Written). w .text) (p ∙ sym q))
 
-pub put-count-one : (κs : _) (a : _) (r r′ : _) (s s′ : _) → put-count.Post κs a r s → put-count.Post κs a r′ s′ → (r ≡ r′) × (now (s .0) ≡ now (s′ .0))
+-- the first parameter, `text: &mut [u8]`, as it is left
+abbrev put-count-text : {X A : Type 0} → X × A → X
+put-count-text s = s .0
+
+pub put-count-one : (κs : _) (a : _) (r r′ : _) (s s′ : _) → put-count.Post κs a r s → put-count.Post κs a r′ s′ → (r ≡ r′) × (now (put-count-text s) ≡ now (put-count-text s′))
 put-count-one κs a r r′ s s′ p q = (ap (λ (w : Written). w .len) (p ∙ sym q), ap (λ (w : Written). w .text) (p ∙ sym q))
 
 pub right-count-one : (κs : _) (a : _) (r r′ : _) (s s′ : _) → right-count.Post κs a r s → right-count.Post κs a r′ s′ → r ≡ r′

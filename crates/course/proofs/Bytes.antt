@@ -131,7 +131,7 @@ module _ (byte : ℕ) (w : Walk) (store out : List ℕ) where
   unfolding nextDone
   next-unready o e = sym (pick-no onward (done w [] store out) (w .over && ready w store out) (λ i. o i && e i))
 
-  went-next : w .over ≡ true → ready w store out ≡ true → nextDone byte w store out ≡ onward
+  pub went-next : w .over ≡ true → ready w store out ≡ true → nextDone byte w store out ≡ onward
   unfolding nextDone
   went-next o e = pick-yes onward (done w [] store out) (w .over && ready w store out) (λ i. o i && e i)
 

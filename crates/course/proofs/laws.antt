@@ -3,3 +3,4 @@ pub mod Boards
 pub mod Ends
 pub mod Going
 pub mod Machine
+pub mod Counts

@@ -7,3 +7,5 @@ pub mod Fetches
 pub mod Accepted
 pub mod Runs
 pub mod Work
+pub mod ThreeD
+pub mod Papers

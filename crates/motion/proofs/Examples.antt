@@ -36,15 +36,19 @@ shown Outside = []
 abbrev pulse : ℤ → ℤ → ℤ → Paper
 pulse x y v = says 1 (x ∷ y ∷ pos 0 ∷ v ∷ [])
 
+-- a plan of one phase: its three resting points are one, and so are its speeds
+abbrev rests : ℤ → ℤ → ℤ → Paper
+rests x y v = says 48 (x ∷ y ∷ pos 0 ∷ x ∷ y ∷ pos 0 ∷ x ∷ y ∷ pos 0 ∷ v ∷ v ∷ v ∷ [])
+
 pub record Examples : Type 0 where
   -- (1) `@0A3,600,1,900` under axes 3: +.., ++., +.., each at 600
   pub one : shown (pair (pos 3) 600 (pos 1) 900) ≡ pulse (pos 1) (pos 0) (pos 600) ∷ pulse (pos 1) (pos 1) (pos 600) ∷ pulse (pos 1) (pos 0) (pos 600) ∷ []
-  pub one-rests : plannedPaper (pair (pos 3) 600 (pos 1) 900) ≡ says 48 (pos 3 ∷ pos 1 ∷ pos 0 ∷ [])
+  pub one-rests : plannedPaper (pair (pos 3) 600 (pos 1) 900) ≡ rests (pos 3) (pos 1) (pos 600)
   -- (2) distances 4,-2: x with y, x, x with y, x
   pub two :
       shown (pair (pos 4) 600 (negsuc 1) 900)
       ≡ pulse (pos 1) (negsuc 0) (pos 600) ∷ pulse (pos 1) (pos 0) (pos 600) ∷ pulse (pos 1) (negsuc 0) (pos 600) ∷ pulse (pos 1) (pos 0) (pos 600) ∷ []
-  pub two-rests : plannedPaper (pair (pos 4) 600 (negsuc 1) 900) ≡ says 48 (pos 4 ∷ negsuc 1 ∷ pos 0 ∷ [])
+  pub two-rests : plannedPaper (pair (pos 4) 600 (negsuc 1) 900) ≡ rests (pos 4) (negsuc 1) (pos 600)
   -- (12) 8,388,607 plus 1 is 9
   pub twelve : plannedPaper (along (pos 8388607) (pos 1) 600) ≡ says 57 []
 

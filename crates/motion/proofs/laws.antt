@@ -7,3 +7,5 @@ pub mod Onward
 pub mod Whole
 pub mod Within
 pub mod Room
+pub mod ThreeD
+pub mod Papers

@@ -3,6 +3,7 @@ use mathlib.Core.Bool.{Bool, _&&_, not}
 use mathlib.Core.List.{List, [], _∷_}
 use Prim.Native.Nat.{ℕ}
 use lib.Dec.{ltb}
+use lib.IntN.{ℤ, pos}
 use lib.ListN.{getD}
 use Rattle.count.specs.Pick.{pick}
 use Rattle.count.specs.Paper.{Paper, says}
@@ -100,7 +101,12 @@ goingTo q = routed q (goalX q) (goalY q) (goalZ1 q) (goalZ2 q)
 unfoldable pub planOf : Asked → Planned
 planOf q = pick (rightDistances (q .axes) (q .absolute) (q .words) && rightSpeeds (q .axes) (q .words)) (goingTo q) Outside
 
--- reply 9, or 0 with the last resting point
+-- a point's values, x, y and z, before others
+abbrev pub pointThen : Counters → List ℤ → List ℤ
+pointThen c l = value (c .x) ∷ value (c .y) ∷ value (c .z) ∷ l
+
+-- reply 9, or 0 with the three resting points and the three speeds
 abbrev pub plannedPaper : Planned → Paper
-plannedPaper (Going m) = says 48 (value (m .third .x) ∷ value (m .third .y) ∷ value (m .third .z) ∷ [])
+plannedPaper (Going m) =
+    says 48 (pointThen (m .first) (pointThen (m .second) (pointThen (m .third) (pos (m .speed1) ∷ pos (m .speed2) ∷ pos (m .speed3) ∷ []))))
 plannedPaper Outside = says 57 []

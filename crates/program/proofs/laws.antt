@@ -14,3 +14,4 @@ pub mod Right
 pub mod Decode
 pub mod Target
 pub mod Work
+pub mod Papers

@@ -27,8 +27,16 @@ fetch-one κs a r r′ s s′ p q = p ∙ sym q
 pub readable-one : (κs : _) (a : _) (r r′ : _) (s s′ : _) → readable.Post κs a r s → readable.Post κs a r′ s′ → r ≡ r′
 readable-one κs a r r′ s s′ p q = p ∙ sym q
 
-pub store-record-one : (κs : _) (a : _) (r r′ : _) (s s′ : _) → store-record.Post κs a r s → store-record.Post κs a r′ s′ → (r ≡ r′) × (now (s .0) ≡ now (s′ .0))
+-- the first parameter, `store: &mut [u8]`, as it is left
+abbrev store-record-store : {X A : Type 0} → X × A → X
+store-record-store s = s .0
+
+pub store-record-one : (κs : _) (a : _) (r r′ : _) (s s′ : _) → store-record.Post κs a r s → store-record.Post κs a r′ s′ → (r ≡ r′) × (now (store-record-store s) ≡ now (store-record-store s′))
 store-record-one κs a r r′ s s′ p q = (ap (λ (x : Storing). x .kept) (p ∙ sym q), ap (λ (x : Storing). x .bytes) (p ∙ sym q))
 
-pub list-one : (κs : _) (a : _) (r r′ : _) (s s′ : _) → list.Post κs a r s → list.Post κs a r′ s′ → (r ≡ r′) × (now (s .1 .1 .0) ≡ now (s′ .1 .1 .0))
+-- the third parameter, `text: &mut [u8]`, as it is left
+abbrev list-text : {X A B C : Type 0} → A × (B × (X × C)) → X
+list-text s = s .1 .1 .0
+
+pub list-one : (κs : _) (a : _) (r r′ : _) (s s′ : _) → list.Post κs a r s → list.Post κs a r′ s′ → (r ≡ r′) × (now (list-text s) ≡ now (list-text s′))
 list-one κs a r r′ s s′ p q = (ap (λ (x : Telling). x .listed) (p ∙ sym q), ap (λ (x : Telling). x .text) (p ∙ sym q))

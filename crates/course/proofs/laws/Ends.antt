@@ -96,7 +96,7 @@ module _ (store : List ℕ) (b : Board) (t input : List ℕ) where
 
 -- ---- the portions
 
-allowed-few : (limit : ℕ) (out : List ℕ) → allowed limit out ≤ limit
+pub allowed-few : (limit : ℕ) (out : List ℕ) → allowed limit out ≤ limit
 unfolding allowed
 allowed-few limit out = min-le-left _ _
 

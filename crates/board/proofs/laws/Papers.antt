@@ -1,0 +1,44 @@
+-- What a line while storing replies, by what is on paper: the end line by the check's verdict, any other by the line's shape. Assumes
+-- nothing.
+use mathlib.Core.Path.{_≡_, refl, sym, ap, _∙_}
+use mathlib.Core.Bool.{Bool, true, false}
+use mathlib.Core.List.{List, [], _∷_}
+use Prim.Native.Nat.{ℕ}
+use lib.Dec.{eqb}
+use lib.IntN.{pos}
+use borrow.Author.Tests.{eq-eqb}
+use Rattle.count.specs.Pick.{pick}
+use Rattle.record.specs.Keep.{storeOf}
+use Rattle.program.specs.declared.Verdict.{Verdict}
+use Rattle.program.specs.declared.Verdict.the-variants as verdict
+use Rattle.program.specs.Check.{verdictPaper}
+use Rattle.program.specs.Program.{verdictOf, isSound}
+use Rattle.line.specs.declared.Code.the-variants as code
+use Rattle.line.specs.declared.Stored.{Stored}
+use Rattle.line.specs.Lines.{codePaper}
+use Rattle.engine.specs.State.{emptied, ceased}
+use Rattle.board.specs.declared.Board.{Board}
+use Rattle.board.specs.State.{board, noLine, said}
+use Rattle.board.specs.Storing.{recordOf, recordReply, recordSaid, endSaid, storedBy}
+
+-- THE END LINE replies the number of the verdict
+pub end-paper : (b : Board) (store : List ℕ) → endSaid b store .reply ≡ verdictPaper (verdictOf (b .engine .held) store) .number ∷ []
+end-paper b store =
+    by (board (ceased (b .engine)) (b .standing) noLine) (board (ceased (emptied (b .engine))) (b .standing) noLine) (verdictOf (b .engine .held) store)
+  where
+    by : (c d : Board) (v : Verdict) → pick (isSound v) (said c (48 ∷ []) store) (said d (71 ∷ []) store) .reply ≡ verdictPaper v .number ∷ []
+    by c d verdict.Sound = refl
+    by c d (verdict.Fault l p) = refl
+    by c d verdict.Unreadable = refl
+
+module _ (d : Stored) (b : Board) (store : List ℕ) where
+  -- A WRONG SHAPE replies its number
+  pub shape-paper : storedBy code.Wrong d b store .reply ≡ codePaper code.Wrong .number ∷ []
+  shape-paper = refl
+
+  -- A RECORD'S LINE that no row refuses replies its number, and the record that is written has the code on paper
+  pub record-paper : (c : ℕ) → recordReply (b .engine .held) (recordOf c d) store ≡ 48
+      → (storedBy (code.Record c) d b store .reply ≡ codePaper (code.Record c) .number ∷ [])
+      × (storedBy (code.Record c) d b store .store ≡ storeOf (b .engine .held) (recordOf c d) store .bytes)
+      × (pos (recordOf c d .code) ∷ [] ≡ codePaper (code.Record c) .values)
+  record-paper c e = let t = eq-eqb (recordReply (b .engine .held) (recordOf c d) store) 48 e in (rw t, rw t, refl)

@@ -1,0 +1,53 @@
+-- What a plan says on paper: its reply goes by its resting points' replies, its last point is where the pulses lead, and its points and
+-- speeds are those of the phases. Assumes nothing.
+use mathlib.Core.Path.{_≡_, refl, sym, ap, _∙_}
+use mathlib.Core.Bool.{Bool, true, _&&_}
+use mathlib.Core.List.{[], _∷_}
+use Prim.Native.Nat.{ℕ}
+use lib.Dec.{eqb}
+use lib.IntN.{pos}
+use lib.ListN.{take, drop}
+use Rattle.count.specs.Pick.{pick}
+use Rattle.count.specs.Numbers.{paper}
+use Rattle.count.specs.declared.Placed.{Placed}
+use Rattle.count.specs.declared.Placed.the-variants as placed
+use Rattle.motion.specs.declared.Counters.{Counters}
+use Rattle.motion.specs.declared.Move.{Move}
+use Rattle.motion.specs.declared.Planned.{Planned}
+use Rattle.motion.specs.declared.Planned.the-variants.{Going, Outside}
+use Rattle.motion.specs.Plan.{Asked, goalX, goalY, goalZ1, goalZ2, routed, goingTo, planOf, pointThen, plannedPaper}
+use Rattle.motion.specs.Next.{toOf, speedAt, atPhase}
+use Rattle.motion.specs.Sound.{counted}
+use Rattle.motion.proofs.laws.Plans.{plan-sound}
+use Rattle.motion.proofs.laws.Whole.{allPulses, reached, whole}
+
+-- a resting point whose reply is 0
+abbrev pub lies : Placed → Bool
+lies p = eqb (paper p .number) 48
+
+routed-paper : (q : Asked) (x y z1 z2 : Placed) → plannedPaper (routed q x y z1 z2) .number ≡ pick (lies x && lies y && lies z1 && lies z2) 48 57
+routed-paper q (placed.At x) (placed.At y) (placed.At z1) (placed.At z2) = refl
+routed-paper q (placed.At x) (placed.At y) (placed.At z1) placed.Outside = refl
+routed-paper q (placed.At x) (placed.At y) placed.Outside z2 = refl
+routed-paper q (placed.At x) placed.Outside z1 z2 = refl
+routed-paper q placed.Outside y z1 z2 = refl
+
+-- A PLAN'S REPLY is 9 exactly if a resting point's is
+pub goals-paper : (q : Asked) → plannedPaper (goingTo q) .number ≡ pick (lies (goalX q) && lies (goalY q) && lies (goalZ1 q) && lies (goalZ2 q)) 48 57
+unfolding goingTo
+goals-paper q = routed-paper q (goalX q) (goalY q) (goalZ1 q) (goalZ2 q)
+
+-- ITS LAST POINT is where all its pulses lead
+pub end-paper : (q : Asked) (m : Move) → counted (q .at) ≡ true → planOf q ≡ Going m
+    → pointThen (reached (q .at) (allPulses m (q .at))) [] ≡ take 3 (drop 6 (plannedPaper (planOf q) .values))
+end-paper q m c e =
+    ap (λ (p : Counters). pointThen p []) (whole m (q .at) (plan-sound q m c e) .ends)
+    ∙ sym (ap (λ (g : Planned). take 3 (drop 6 (plannedPaper g .values))) e)
+
+-- ITS POINTS AND SPEEDS are those that the phases go to and have, whatever the pulses made
+pub phases-paper : (m : Move) (i j k n : ℕ)
+    → plannedPaper (Going m) .values
+    ≡ pointThen (toOf (atPhase m 0 i)) (pointThen (toOf (atPhase m 1 j)) (pointThen (toOf (atPhase m 2 k))
+    (pos (speedAt (atPhase m 0 i) n) ∷ pos (speedAt (atPhase m 1 j) n) ∷ pos (speedAt (atPhase m 2 k) n) ∷ [])))
+unfolding toOf speedAt
+phases-paper m i j k n = refl

@@ -3,6 +3,7 @@ use Prim.Native.Nat.{ℕ}
 use mathlib.Core.Bool.{Bool, true, false, not, _&&_, _||_}
 use mathlib.Core.List.{List, [], _∷_}
 use lib.Dec.{ltb, eqb}
+use Rattle.count.specs.Chars.{ch}
 use Rattle.count.specs.Pick.{pick}
 use Rattle.line.specs.Lines.{directOf, storedOf}
 use Rattle.engine.specs.declared.Job.{Job}
@@ -47,13 +48,13 @@ isStoring (job.Wait c t) = false
 -- a carriage return ends the line: one of more than 80 bytes is refused 5; while storing, and nothing stands, it is a record's or the end
 unfoldable pub returned : List ℕ → Board → List ℕ → Said
 returned ports b store =
-    pick (b .line .over) (said (lineDone b) (53 ∷ []) store)
+    pick (b .line .over) (said (lineDone b) (ch "5" ∷ []) store)
     (pick (isStoring (b .engine .run .job) && not (b .standing)) (storedSaid (storedOf (textOf (b .line))) b store)
     (directSaid (directOf (textOf (b .line))) ports b store))
 
 unfoldable pub gathering : ℕ → List ℕ → Board → List ℕ → Said
 gathering byte ports b store =
-    pick (eqb byte 13) (returned ports b store)
+    pick (eqb byte (ch "\r")) (returned ports b store)
     (said (withLine b (gathered byte (b .line))) [] store)
 
 abbrev pub ordinary : Ear → ℕ → List ℕ → Board → List ℕ → Said
@@ -76,7 +77,7 @@ holdsBy (job.Wait c t) = false
 unfoldable pub stopped : Board → List ℕ → Said
 stopped b store =
     pick (holdsBy (b .engine .run .job) && not (b .standing))
-    (said (board (b .engine) true (b .line)) (70 ∷ []) store)
+    (said (board (b .engine) true (b .line)) (ch "F" ∷ []) store)
     (said b [] store)
 
 -- break (255) ends what runs, waits or stands stopped, sends F and keeps the positions reached; when idle or storing it does nothing
@@ -92,7 +93,7 @@ endsBy job.Storing = false
 unfoldable pub broken : Board → List ℕ → Said
 broken b store =
     pick (endsBy (b .engine .run .job) || b .standing)
-    (said (board (ceased (b .engine)) false (b .line)) (70 ∷ []) store)
+    (said (board (ceased (b .engine)) false (b .line)) (ch "F" ∷ []) store)
     (said b [] store)
 
 -- reset (254) clears line and run, sends nothing

@@ -3,6 +3,7 @@ use Prim.Native.Nat.{ℕ}
 use mathlib.Core.Bool.{Bool, true, false, not}
 use mathlib.Core.List.{List, [], _∷_}
 use lib.Dec.{eqb}
+use Rattle.count.specs.Chars.{ch}
 use Rattle.count.specs.Pick.{pick}
 use Rattle.record.specs.declared.Held.{Held}
 use Rattle.record.specs.declared.Record.{Record}
@@ -25,30 +26,30 @@ recordOf c d = record { code = c; count = d .count; words = d .words }
 unfoldable pub recordReply : Held → Record → List ℕ → ℕ
 recordReply h r store =
     first
-    (row 55 (not (countRight (h .axes) (r .code) (r .count)))
-    ∷ row 51 (not (axesRight (h .axes) (r .code) (r .words)))
-    ∷ row 49 (not (rangesRight (h .axes) (r .code) (r .words)))
-    ∷ row 68 (not (speedsRight (h .axes) (r .code) (r .words)))
-    ∷ row 54 (not (storeOf h r store .kept .stored))
+    (row (ch "7") (not (countRight (h .axes) (r .code) (r .count)))
+    ∷ row (ch "3") (not (axesRight (h .axes) (r .code) (r .words)))
+    ∷ row (ch "1") (not (rangesRight (h .axes) (r .code) (r .words)))
+    ∷ row (ch "D") (not (speedsRight (h .axes) (r .code) (r .words)))
+    ∷ row (ch "6") (not (storeOf h r store .kept .stored))
     ∷ [])
-    48
+    (ch "0")
 
 -- a right record is written at the end of the part in use; a refused one isn't stored and storing goes on
 abbrev pub recordSaid : Record → Board → List ℕ → Said
 recordSaid r b store =
-    pick (eqb (recordReply (b .engine .held) r store) 48)
-    (said (board (withHeld (b .engine) (storeOf (b .engine .held) r store .kept .held)) (b .standing) noLine) (48 ∷ []) (storeOf (b .engine .held) r store .bytes))
+    pick (eqb (recordReply (b .engine .held) r store) (ch "0"))
+    (said (board (withHeld (b .engine) (storeOf (b .engine .held) r store .kept .held)) (b .standing) noLine) (ch "0" ∷ []) (storeOf (b .engine .held) r store .bytes))
     (said (lineDone b) (recordReply (b .engine .held) r store ∷ []) store)
 
 -- `9` ends storing: 0, or G with the store emptied if the check fails
 abbrev pub endSaid : Board → List ℕ → Said
 endSaid b store =
     pick (isSound (verdictOf (b .engine .held) store))
-    (said (board (ceased (b .engine)) (b .standing) noLine) (48 ∷ []) store)
-    (said (board (ceased (emptied (b .engine))) (b .standing) noLine) (71 ∷ []) store)
+    (said (board (ceased (b .engine)) (b .standing) noLine) (ch "0" ∷ []) store)
+    (said (board (ceased (emptied (b .engine))) (b .standing) noLine) (ch "G" ∷ []) store)
 
 abbrev pub storedBy : Code → Stored → Board → List ℕ → Said
-storedBy code.Wrong d b store = said (lineDone b) (53 ∷ []) store
+storedBy code.Wrong d b store = said (lineDone b) (ch "5" ∷ []) store
 storedBy (code.Record c) d b store = recordSaid (recordOf c d) b store
 storedBy code.End d b store = endSaid b store
 

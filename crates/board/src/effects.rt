@@ -82,10 +82,10 @@ impl Board {
             return b.says(Saying::Silent);
         }
         if held.records == 0 {
-            return self.replies(e, 56);
+            return self.replies(e, b'8');
         }
         if e.axes != held.axes {
-            return self.replies(e, 71);
+            return self.replies(e, b'G');
         }
         self.with_engine(e.start()).says(Saying::Silent)
     }
@@ -95,21 +95,21 @@ impl Board {
     {
         let e = self.engine;
         match letter {
-            Letter::Wrong => self.replies(e, 53),
-            Letter::Axes => self.replies(e.set_axes(low(words[0])), 48),
+            Letter::Wrong => self.replies(e, b'5'),
+            Letter::Axes => self.replies(e.set_axes(low(words[0])), b'0'),
             Letter::Relative => self.begin(e.begin(false, words)),
             Letter::Absolute => self.begin(e.begin(true, words)),
-            Letter::Origin => self.replies(e.set_origin(low(words[0])), 48),
-            Letter::Zero => self.replies(e.set_zero(low(words[0])), 48),
-            Letter::Three => self.replies(e.set_three(words[0] == 1), 48),
+            Letter::Origin => self.replies(e.set_origin(low(words[0])), b'0'),
+            Letter::Zero => self.replies(e.set_zero(low(words[0])), b'0'),
+            Letter::Three => self.replies(e.set_three(words[0] == 1), b'0'),
             Letter::Position => self.with_engine(e).says(Saying::Positions),
             Letter::Input => {
                 let byte = port_at(ports, words[0]);
                 self.with_engine(e).says(Saying::Port(byte))
             }
-            Letter::Output => self.replies(e.set_output(low(words[1])), 48),
-            Letter::Store => self.replies(e.store(), 48),
-            Letter::Empty => self.replies(e.empty(), 48),
+            Letter::Output => self.replies(e.set_output(low(words[1])), b'0'),
+            Letter::Store => self.replies(e.store(), b'0'),
+            Letter::Empty => self.replies(e.empty(), b'0'),
             Letter::Start => self.start(),
         }
     }
@@ -120,7 +120,7 @@ impl Board {
     {
         let e = self.engine;
         let fault = letters::line_fault(e.axes, self.standing, d);
-        if fault != 48 {
+        if fault != b'0' {
             return self.replies(e, fault);
         }
         let words = d.words;

@@ -71,7 +71,7 @@ fn needs_axes(letter: Letter) -> bool
 fn count_fault(count: usize) -> u8
     ensures { λ r. ⌜ r ≡ countFault count ⌝ }
 {
-    if count == 0 { 48 } else { 55 }
+    if count == 0 { b'0' } else { b'7' }
 }
 
 // Setting axes: 7, then 3.
@@ -79,12 +79,12 @@ fn axes_fault(count: usize, axes: u32) -> u8
     ensures { λ r. ⌜ r ≡ axesFault count axes ⌝ }
 {
     if count != 1 {
-        return 55;
+        return b'7';
     }
     if (axes == 1) | (axes == 3) | (axes == 7) {
-        return 48;
+        return b'0';
     }
-    51
+    b'3'
 }
 
 // An input port: 7, then 1.
@@ -92,12 +92,12 @@ fn input_fault(count: usize, port: u32) -> u8
     ensures { λ r. ⌜ r ≡ inputFault count port ⌝ }
 {
     if count != 1 {
-        return 55;
+        return b'7';
     }
     if count::is_port(port) {
-        return 48;
+        return b'0';
     }
-    49
+    b'1'
 }
 
 // An output port and its value: 7, then 1.
@@ -105,12 +105,12 @@ fn output_fault(count: usize, port: u32, value: u32) -> u8
     ensures { λ r. ⌜ r ≡ outputFault count port value ⌝ }
 {
     if count != 2 {
-        return 55;
+        return b'7';
     }
     if count::is_zero(port) & count::is_byte(value) {
-        return 48;
+        return b'0';
     }
-    49
+    b'1'
 }
 
 // 7, 3, 1 and D in this order, or 0; A and M are a record's `0` and `m`, n and N its `n`, z its `z`.
@@ -118,13 +118,13 @@ fn numbers_fault(letter: Letter, axes: u8, count: usize, words: [u32; 8]) -> u8
     ensures { λ r. ⌜ r ≡ numbersFault letter axes count words ⌝ }
 {
     match letter {
-        Letter::Wrong => 55,
+        Letter::Wrong => b'7',
         Letter::Axes => axes_fault(count, words[0]),
-        Letter::Relative => record::record_fault(axes, 48, count, words),
-        Letter::Absolute => record::record_fault(axes, 109, count, words),
-        Letter::Origin => record::record_fault(axes, 110, count, words),
-        Letter::Zero => record::record_fault(axes, 110, count, words),
-        Letter::Three => record::record_fault(axes, 122, count, words),
+        Letter::Relative => record::record_fault(axes, b'0', count, words),
+        Letter::Absolute => record::record_fault(axes, b'm', count, words),
+        Letter::Origin => record::record_fault(axes, b'n', count, words),
+        Letter::Zero => record::record_fault(axes, b'n', count, words),
+        Letter::Three => record::record_fault(axes, b'z', count, words),
         Letter::Position => count_fault(count),
         Letter::Input => input_fault(count, words[0]),
         Letter::Output => output_fault(count, words[0], words[1]),
@@ -141,13 +141,13 @@ pub(crate) fn line_fault(axes: u8, standing: bool, d: Direct) -> u8
     let letter = d.letter;
     let words = d.words;
     if is_wrong(letter) {
-        return 53;
+        return b'5';
     }
     if standing & !is_heard(letter) {
-        return 87;
+        return b'W';
     }
     if needs_axes(letter) & (axes == 0) {
-        return 52;
+        return b'4';
     }
     numbers_fault(letter, axes, d.count, words)
 }

@@ -94,7 +94,7 @@ impl Board {
         if is_held(job) & !self.standing {
             let mut b = self;
             b.standing = true;
-            return b.says(Saying::One(70));
+            return b.says(Saying::One(b'F'));
         }
         self.says(Saying::Silent)
     }
@@ -109,7 +109,7 @@ impl Board {
             let mut b = self;
             b.engine = e.cease();
             b.standing = false;
-            return b.says(Saying::One(70));
+            return b.says(Saying::One(b'F'));
         }
         self.says(Saying::Silent)
     }
@@ -157,7 +157,7 @@ impl Board {
         let run = e.run;
         let job = run.job;
         if l.over {
-            return self.replies(e, 53);
+            return self.replies(e, b'5');
         }
         if is_storing(job) & !self.standing {
             return self.store_line(store);
@@ -169,7 +169,7 @@ impl Board {
         requires { ⌜ self .line .len ≤ 80 ⌝ }
         ensures { λ r. ⌜ spoke r (now (store .exit)) ≡ gathering byte ports self (now (store .entry)) ⌝ }
     {
-        if byte == 13 {
+        if byte == b'\r' {
             return self.end_line(ports, store);
         }
         self.gather(byte)

@@ -31,7 +31,7 @@ fn put_positions(reply: &mut [u8], at: Counters) -> usize
     requires { ⌜ 32 ≤ length (now reply) ⌝ }
     ensures { λ r. ⌜ written r (now (reply .exit)) ≡ putOf (48 ∷ report (at .x) ++ report (at .y) ++ report (at .z)) (now (reply .entry)) ⌝ }
 {
-    reply[0] = 48;
+    reply[0] = b'0';
     put_at(&mut *reply, 1, at.x);
     put_at(&mut *reply, 7, at.y);
     put_at(&mut *reply, 13, at.z);
@@ -44,7 +44,7 @@ fn put_port(reply: &mut [u8], byte: u8) -> usize
     ensures { λ r. ⌜ written r (now (reply .exit)) ≡ putOf (48 ∷ twoHex byte) (now (reply .entry)) ⌝ }
 {
     count::put_byte(&mut reply[1..], byte);
-    reply[0] = 48;
+    reply[0] = b'0';
     3
 }
 

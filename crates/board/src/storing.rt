@@ -34,9 +34,9 @@ impl Board {
         let held = e.held;
         let kept = record::store_record(store, held, item);
         if kept.stored {
-            return self.replies(e.set_held(kept.held), 48);
+            return self.replies(e.set_held(kept.held), b'0');
         }
-        self.replies(e, 54)
+        self.replies(e, b'6')
     }
 
     fn record_line(self, code: u8, d: Stored, store: &mut [u8]) -> Spoke
@@ -48,7 +48,7 @@ impl Board {
         let count = d.count;
         let words = d.words;
         let fault = record::record_fault(held.axes, code, count, words);
-        if fault != 48 {
+        if fault != b'0' {
             return self.replies(e, fault);
         }
         let item = Record {
@@ -66,9 +66,9 @@ impl Board {
         let e = self.engine;
         let held = e.held;
         if is_sound(program::check(store, held)) {
-            return self.replies(e.cease(), 48);
+            return self.replies(e.cease(), b'0');
         }
-        self.replies(e.empty().cease(), 71)
+        self.replies(e.empty().cease(), b'G')
     }
 
     pub(crate) fn store_line(self, store: &mut [u8]) -> Spoke
@@ -79,7 +79,7 @@ impl Board {
         let d = l.as_stored();
         let code = d.code;
         match code {
-            Code::Wrong => self.replies(self.engine, 53),
+            Code::Wrong => self.replies(self.engine, b'5'),
             Code::Record(c) => self.record_line(c, d, store),
             Code::End => self.end_storing(&store[..]),
         }

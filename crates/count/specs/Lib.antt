@@ -1,3 +1,4 @@
+pub mod Chars
 pub mod Pick
 pub mod Paper
 pub mod Numbers

@@ -5,6 +5,7 @@ use lib.Dec.{ltb}
 use lib.IntN.{ℤ, pos, negsuc, negℤ, subℕ, _+ℤ_}
 use lib.Signed.{leZ}
 use mathlib.Core.List.{[], _∷_}
+use Rattle.count.specs.Chars.{ch}
 use Rattle.count.specs.Pick.{pick}
 use Rattle.count.specs.Paper.{Paper, says}
 use Rattle.count.specs.declared.Placed.{Placed}
@@ -65,5 +66,5 @@ far from to = (to - from) + (from - to)
 
 -- reply 9, or 0 with the place
 abbrev pub paper : Placed → Paper
-paper (At c) = says 48 (value c ∷ [])
-paper Outside = says 57 []
+paper (At c) = says (ch "0") (value c ∷ [])
+paper Outside = says (ch "9") []

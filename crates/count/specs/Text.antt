@@ -4,6 +4,7 @@ use Prim.Native.Nat.{ℕ, zero, suc, _+_, _-_, _/_, _%_}
 use lib.Dec.{ltb}
 use lib.IntN.{ℤ, pos, negsuc}
 use lib.ListN.{length, drop}
+use Rattle.count.specs.Chars.{ch}
 use Rattle.count.specs.Pick.{pick}
 use Rattle.count.specs.Numbers.{full, value}
 
@@ -25,7 +26,7 @@ wrote room t s = pick (ltb (length s) room) (written 0 s) (written (length t) (t
 
 -- 0 to 9 and A to F
 unfoldable pub hexDigit : ℕ → ℕ
-hexDigit n = pick (ltb n 10) (48 + n) (55 + n)
+hexDigit n = pick (ltb n 10) (ch "0" + n) (ch "A" + (n - 10))
 
 -- the last k hexadecimal digits of n
 unfoldable pub hexes : ℕ → ℕ → List ℕ
@@ -50,7 +51,7 @@ twoHex b = hexes 2 b
 -- the digits of n, k at most, without needless zeros
 unfoldable pub decimal : ℕ → ℕ → List ℕ
 decimal zero n = []
-decimal (suc k) n = pick (ltb n 10) ((48 + n) ∷ []) (decimal k (n / 10) ++ (48 + n % 10) ∷ [])
+decimal (suc k) n = pick (ltb n 10) ((ch "0" + n) ∷ []) (decimal k (n / 10) ++ (ch "0" + n % 10) ∷ [])
 
 -- the digits of a number of 32 bits
 unfoldable pub digits : ℕ → List ℕ
@@ -59,4 +60,4 @@ digits n = decimal 10 n
 -- a minus where it is below 0, then the digits
 unfoldable pub shown : ℤ → List ℕ
 shown (pos n) = digits n
-shown (negsuc n) = 45 ∷ digits (suc n)
+shown (negsuc n) = ch "-" ∷ digits (suc n)

@@ -13,22 +13,22 @@ const FULL: u32 = 16777216;
 
 // The hexadecimal capitals.
 const DIGITS: [u8; 16] = [
-    48,
-    49,
-    50,
-    51,
-    52,
-    53,
-    54,
-    55,
-    56,
-    57,
-    65,
-    66,
-    67,
-    68,
-    69,
-    70,
+    b'0',
+    b'1',
+    b'2',
+    b'3',
+    b'4',
+    b'5',
+    b'6',
+    b'7',
+    b'8',
+    b'9',
+    b'A',
+    b'B',
+    b'C',
+    b'D',
+    b'E',
+    b'F',
 ];
 
 // The last hexadecimal digit of a number.
@@ -99,7 +99,7 @@ fn put_minus(text: &mut [u8], n: u32) -> usize
     ensures { λ r. ⌜ (r ≡ length (shown (negsuc n))) × (now (text .exit) ≡ shown (negsuc n) ++ drop (length (shown (negsuc n))) (now (text .entry))) ⌝ }
 {
     let k = put_digits(&mut text[1..], n + 1);
-    text[0] = 45;
+    text[0] = b'-';
     k + 1
 }
 

@@ -23,11 +23,11 @@ pub(crate) fn put_head(out: &mut [u8]) -> usize
     requires { ⌜ 64 ≤ length (now out) ⌝ }
     ensures { λ r. ⌜ Wrote headText (now (out .entry)) r (now (out .exit)) ⌝ }
 {
-    out[0] = 119;
-    out[1] = 97;
-    out[2] = 108;
-    out[3] = 107;
-    out[4] = 10;
+    out[0] = b'w';
+    out[1] = b'a';
+    out[2] = b'l';
+    out[3] = b'k';
+    out[4] = b'\n';
     5
 }
 
@@ -36,15 +36,15 @@ pub(crate) fn put_limit(out: &mut [u8]) -> usize
     requires { ⌜ 64 ≤ length (now out) ⌝ }
     ensures { λ r. ⌜ Wrote limitText (now (out .entry)) r (now (out .exit)) × (r ≡ 9) ⌝ }
 {
-    out[0] = 76;
-    out[1] = 32;
-    out[2] = 49;
-    out[3] = 48;
-    out[4] = 48;
-    out[5] = 48;
-    out[6] = 48;
-    out[7] = 48;
-    out[8] = 10;
+    out[0] = b'L';
+    out[1] = b' ';
+    out[2] = b'1';
+    out[3] = b'0';
+    out[4] = b'0';
+    out[5] = b'0';
+    out[6] = b'0';
+    out[7] = b'0';
+    out[8] = b'\n';
     9
 }
 
@@ -54,7 +54,7 @@ fn put_field(out: &mut [u8], c: u32) -> usize
     ensures { λ r. ⌜ Wrote (32 ∷ shown (value c)) (now (out .entry)) r (now (out .exit)) × (r ≤ 12) ⌝ }
 {
     let k = count::put_count(&mut out[1..], c);
-    out[0] = 32;
+    out[0] = b' ';
     k + 1
 }
 
@@ -63,14 +63,14 @@ pub(crate) fn put_end(out: &mut [u8], at: Counters) -> usize
     requires { ⌜ 38 ≤ length (now out) ⌝ }
     ensures { λ r. ⌜ Wrote (positionsText at) (now (out .entry)) r (now (out .exit)) × (r ≤ 38) ⌝ }
 {
-    let e = put_one(&mut *out, 69);
+    let e = put_one(&mut *out, b'E');
     let x = put_field(&mut out[e..], at.x);
     let p = e + x;
     let y = put_field(&mut out[p..], at.y);
     let q = p + y;
     let z = put_field(&mut out[q..], at.z);
     let r = q + z;
-    let f = put_one(&mut out[r..], 10);
+    let f = put_one(&mut out[r..], b'\n');
     r + f
 }
 
@@ -82,9 +82,9 @@ pub(crate) fn put_reply(out: &mut [u8], n: usize) -> usize
     if n == 0 {
         return 0;
     }
-    out[0] = 82;
-    out[1] = 32;
+    out[0] = b'R';
+    out[1] = b' ';
     let e = n + 2;
-    out[e] = 10;
+    out[e] = b'\n';
     n + 3
 }

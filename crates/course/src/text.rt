@@ -14,9 +14,9 @@ fn sign_byte(s: Sign) -> u8
     ensures { λ r. ⌜ r ≡ signByte s ⌝ }
 {
     match s {
-        Sign::Minus => 45,
-        Sign::Rest => 46,
-        Sign::Plus => 43,
+        Sign::Minus => b'-',
+        Sign::Rest => b'.',
+        Sign::Plus => b'+',
     }
 }
 
@@ -38,7 +38,7 @@ fn put_speed(out: &mut [u8], v: u16) -> usize
         out[2] = digit(v / 100);
         out[3] = digit(v / 10);
         out[4] = digit(v);
-        out[5] = 10;
+        out[5] = b'\n';
         return 6;
     }
     if 1000 <= v {
@@ -46,24 +46,24 @@ fn put_speed(out: &mut [u8], v: u16) -> usize
         out[1] = digit(v / 100);
         out[2] = digit(v / 10);
         out[3] = digit(v);
-        out[4] = 10;
+        out[4] = b'\n';
         return 5;
     }
     if 100 <= v {
         out[0] = digit(v / 100);
         out[1] = digit(v / 10);
         out[2] = digit(v);
-        out[3] = 10;
+        out[3] = b'\n';
         return 4;
     }
     if 10 <= v {
         out[0] = digit(v / 10);
         out[1] = digit(v);
-        out[2] = 10;
+        out[2] = b'\n';
         return 3;
     }
     out[0] = digit(v);
-    out[1] = 10;
+    out[1] = b'\n';
     2
 }
 
@@ -72,12 +72,12 @@ fn put_signs(out: &mut [u8], x: u8, y: u8, z: u8)
     requires { ⌜ 12 ≤ length (now out) ⌝ }
     ensures { λ r. ⌜ now (out .exit) ≡ 80 ∷ 32 ∷ x ∷ y ∷ z ∷ 32 ∷ drop 6 (now (out .entry)) ⌝ }
 {
-    out[0] = 80;
-    out[1] = 32;
+    out[0] = b'P';
+    out[1] = b' ';
     out[2] = x;
     out[3] = y;
     out[4] = z;
-    out[5] = 32;
+    out[5] = b' ';
 }
 
 // `P`, the signs and the speed: at most twelve bytes.
@@ -101,10 +101,10 @@ fn put_sent(out: &mut [u8], b: u8) -> usize
     requires { ⌜ 12 ≤ length (now out) ⌝ }
     ensures { λ r. ⌜ Wrote (82 ∷ 32 ∷ b ∷ 10 ∷ []) (now (out .entry)) r (now (out .exit)) × (r ≤ 12) ⌝ }
 {
-    out[0] = 82;
-    out[1] = 32;
+    out[0] = b'R';
+    out[1] = b' ';
     out[2] = b;
-    out[3] = 10;
+    out[3] = b'\n';
     4
 }
 

@@ -4,6 +4,7 @@ use mathlib.Core.Bool.{Bool, false}
 use mathlib.Core.List.{List, [], _∷_}
 use lib.Dec.{eqb}
 use lib.IntN.{pos}
+use Rattle.count.specs.Chars.{ch}
 use Rattle.count.specs.Pick.{pick}
 use Rattle.count.specs.Paper.{Paper, says}
 use Rattle.count.specs.Numbers.{half}
@@ -163,8 +164,8 @@ abbrev pub noPulse : Move → Bool
 noPulse m = eqb (leftOf m) 0
 
 abbrev pub begunBy : Planned → Engine → Begun
-begunBy (planned.Going m) e = pick (noPulse m) (begun 48 e) (begun 0 (withJob e (job.Direct m)))
-begunBy planned.Outside e = begun 57 e
+begunBy (planned.Going m) e = pick (noPulse m) (begun (ch "0") e) (begun 0 (withJob e (job.Direct m)))
+begunBy planned.Outside e = begun (ch "9") e
 
 unfoldable pub beginOf : Bool → List ℕ → Engine → Begun
 beginOf absolute words e = begunBy (planOf (asked (e .axes) (e .three) (e .at) (e .origin) absolute words)) e

@@ -5,6 +5,7 @@ use mathlib.Core.Bool.{Bool, true, false}
 use mathlib.Core.List.{List, []}
 use lib.Dec.{ltb, eqb}
 use lib.ListN.{length, getD}
+use Rattle.count.specs.Chars.{ch}
 use Rattle.count.specs.Pick.{pick}
 use Rattle.motion.specs.declared.Counters.{Counters}
 use Rattle.motion.specs.declared.Move.{Move}
@@ -55,7 +56,7 @@ abbrev pub finished : ℕ → Engine → Told
 finished b e = told (ceased e) (answer.Send b)
 
 abbrev pub failed : Engine → Told
-failed e = finished 71 (emptied e)
+failed e = finished (ch "G") (emptied e)
 
 -- ---- one record
 
@@ -71,7 +72,7 @@ moving next.Over e = told (onTo job.Ready e) answer.Done
 -- it is planned as it is run, under the store's axes; 9 ends the program without a pulse of it and keeps the store
 abbrev pub movingBy : Rule → Planned → Engine → Told
 movingBy rule (planned.Going m) e = moving (rule m (e .at)) e
-movingBy rule planned.Outside e = finished 57 e
+movingBy rule planned.Outside e = finished (ch "9") e
 
 -- the pauses after this one
 abbrev pub afterPause : ℕ → Job
@@ -92,16 +93,16 @@ leading o going.Wrong c e = failed e
 unfoldable pub performed : Rule → Record → Engine → Told
 performed rule r e =
     pick (isMovement (r .code)) (movingBy rule (planOf (asked (e .held .axes) (e .three) (e .at) (e .origin) (isAbsolute (r .code)) (r .words))) e)
-    (pick (eqb (r .code) 110) (told (onTo job.Ready (originOf (getD (r .words) 0 0) e)) answer.Done)
-    (pick (eqb (r .code) 122) (told (onTo job.Ready (withThree e (eqb (getD (r .words) 0 0) 1))) answer.Done)
-    (pick (eqb (r .code) 53) (delaying (getD (r .words) 0 0) e)
-    (pick (eqb (r .code) 49) (told (onTo job.Ready e) (answer.Send (getD (r .words) 0 0)))
+    (pick (eqb (r .code) (ch "n")) (told (onTo job.Ready (originOf (getD (r .words) 0 0) e)) answer.Done)
+    (pick (eqb (r .code) (ch "z")) (told (onTo job.Ready (withThree e (eqb (getD (r .words) 0 0) 1))) answer.Done)
+    (pick (eqb (r .code) (ch "5")) (delaying (getD (r .words) 0 0) e)
+    (pick (eqb (r .code) (ch "1")) (told (onTo job.Ready e) (answer.Send (getD (r .words) 0 0)))
     (let o = onwardOf r (e .run .place) (e .held .records) (e .run .loops) in leading o (o .going) (getD (r .words) 0 0) e)))))
 
 -- the record at the place; at the end place one call sends 0; what cannot be reached and read ends with G
 abbrev pub fetched : Rule → Fetch → Engine → Told
 fetched rule (Got r) e = performed rule r e
-fetched rule End e = finished 48 e
+fetched rule End e = finished (ch "0") e
 fetched rule Wrong e = failed e
 
 -- ---- one clock call, by what is under way
@@ -109,7 +110,7 @@ fetched rule Wrong e = failed e
 -- a direct movement sends 0 by one call after its last pulse
 abbrev pub directly : Next → Engine → Told
 directly (next.Made s) e = told (withJob e (job.Direct (s .rest))) (answer.Pulse (s .signs) (s .speed))
-directly next.Over e = finished 48 e
+directly next.Over e = finished (ch "0") e
 
 -- a movement of a program with no pulse left gives way to the next record
 abbrev pub movingOn : Rule → Fetching → Next → Engine → Told

@@ -67,7 +67,7 @@ impl Engine {
     pub(crate) fn fail(self) -> Told
         ensures { λ r. ⌜ r ≡ failed self ⌝ }
     {
-        self.empty().finish(71)
+        self.empty().finish(b'G')
     }
 
     // On to the next record, with a job.
@@ -103,7 +103,7 @@ impl Engine {
     {
         match plan {
             Planned::Going(m) => self.first_pulse(m),
-            Planned::Outside => self.finish(57),
+            Planned::Outside => self.finish(b'9'),
         }
     }
 
@@ -166,12 +166,12 @@ impl Engine {
         let w = words[0];
         let code = item.code;
         match code {
-            48 => self.travel(false, words),
-            109 => self.travel(true, words),
-            110 => self.origin_at(w).on_to(Job::Ready).tell(Answer::Done),
-            122 => self.set_three(w == 1).on_to(Job::Ready).tell(Answer::Done),
-            53 => self.delay(w as u16),
-            49 => self.on_to(Job::Ready).tell(Answer::Send(w as u8)),
+            b'0' => self.travel(false, words),
+            b'm' => self.travel(true, words),
+            b'n' => self.origin_at(w).on_to(Job::Ready).tell(Answer::Done),
+            b'z' => self.set_three(w == 1).on_to(Job::Ready).tell(Answer::Done),
+            b'5' => self.delay(w as u16),
+            b'1' => self.on_to(Job::Ready).tell(Answer::Send(w as u8)),
             _ => self.lead(item),
         }
     }

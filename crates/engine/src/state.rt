@@ -284,7 +284,7 @@ impl Engine {
                 if m.left() == 0 {
                     return Begun {
                         engine: self,
-                        reply: 48,
+                        reply: b'0',
                     };
                 }
                 Begun {
@@ -294,7 +294,7 @@ impl Engine {
             }
             Planned::Outside => Begun {
                 engine: self,
-                reply: 57,
+                reply: b'9',
             },
         }
     }

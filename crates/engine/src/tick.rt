@@ -26,7 +26,7 @@ impl Engine {
                 let run = self.run;
                 self.pulse(run.with_job(Job::Direct(rest)), s)
             }
-            Next::Over => self.finish(48),
+            Next::Over => self.finish(b'0'),
         }
     }
 
@@ -42,7 +42,7 @@ impl Engine {
                 let item = f.item;
                 self.perform(item)
             }
-            Found::End => self.finish(48),
+            Found::End => self.finish(b'0'),
             Found::Wrong => self.fail(),
         }
     }

@@ -4,6 +4,7 @@ use mathlib.Core.List.{List, [], _∷_, map}
 use lib.ListN.{length}
 use lib.Dec.{eqb}
 use lib.IntN.{pos}
+use Rattle.count.specs.Chars.{ch}
 use Rattle.count.specs.Pick.{pick}
 use Rattle.count.specs.Paper.{Paper, says}
 use Rattle.count.specs.Numbers.{word}
@@ -19,19 +20,19 @@ use Rattle.line.specs.Numbers.{Numbers, are, wrong, numbersOf}
 -- what stands behind a letter or a code: nothing, or at most one space and then numbers
 unfoldable pub behind : List ℕ → Numbers
 behind [] = are []
-behind (b ∷ s) = pick (eqb b 32) (numbersOf s) (numbersOf (b ∷ s))
+behind (b ∷ s) = pick (eqb b (ch " ")) (numbersOf s) (numbersOf (b ∷ s))
 
 -- ---- a line outside storing: `@0`, a letter, then its numbers; setting axes has no letter and no space
 
 -- the letters, and no other; A, M and S may be small
 unfoldable pub letterOf : ℕ → Letter
 letterOf b =
-    pick (eqb b 65) letter.Relative (pick (eqb b 97) letter.Relative
-    (pick (eqb b 77) letter.Absolute (pick (eqb b 109) letter.Absolute
-    (pick (eqb b 110) letter.Origin (pick (eqb b 78) letter.Zero (pick (eqb b 122) letter.Three
-    (pick (eqb b 80) letter.Position (pick (eqb b 98) letter.Input (pick (eqb b 66) letter.Output
-    (pick (eqb b 105) letter.Store (pick (eqb b 107) letter.Empty
-    (pick (eqb b 83) letter.Start (pick (eqb b 115) letter.Start letter.Wrong)))))))))))))
+    pick (eqb b (ch "A")) letter.Relative (pick (eqb b (ch "a")) letter.Relative
+    (pick (eqb b (ch "M")) letter.Absolute (pick (eqb b (ch "m")) letter.Absolute
+    (pick (eqb b (ch "n")) letter.Origin (pick (eqb b (ch "N")) letter.Zero (pick (eqb b (ch "z")) letter.Three
+    (pick (eqb b (ch "P")) letter.Position (pick (eqb b (ch "b")) letter.Input (pick (eqb b (ch "B")) letter.Output
+    (pick (eqb b (ch "i")) letter.Store (pick (eqb b (ch "k")) letter.Empty
+    (pick (eqb b (ch "S")) letter.Start (pick (eqb b (ch "s")) letter.Start letter.Wrong)))))))))))))
 
 -- the line's letter, how many numbers it has and the first eight of them as words; a wrong shape has none
 abbrev pub direct : Letter → Numbers → Direct
@@ -60,16 +61,16 @@ afterAddress (b ∷ s) = byLetter (letterOf b) b s
 unfoldable pub directOf : List ℕ → Direct
 directOf [] = direct letter.Wrong wrong
 directOf (a ∷ []) = direct letter.Wrong wrong
-directOf (a ∷ b ∷ s) = pick (eqb a 64) (pick (eqb b 48) (afterAddress s) (direct letter.Wrong wrong)) (direct letter.Wrong wrong)
+directOf (a ∷ b ∷ s) = pick (eqb a (ch "@")) (pick (eqb b (ch "0")) (afterAddress s) (direct letter.Wrong wrong)) (direct letter.Wrong wrong)
 
 -- ---- a line while storing: a code, then its numbers; `9` alone ends storing
 
 -- the codes, and no other: 0 m n z 3 5 1 2 for a record, 9 for the end
 unfoldable pub codeOf : ℕ → Code
 codeOf b =
-    pick (eqb b 48) (code.Record b) (pick (eqb b 109) (code.Record b) (pick (eqb b 110) (code.Record b) (pick (eqb b 122) (code.Record b)
-    (pick (eqb b 51) (code.Record b) (pick (eqb b 53) (code.Record b) (pick (eqb b 49) (code.Record b) (pick (eqb b 50) (code.Record b)
-    (pick (eqb b 57) code.End code.Wrong))))))))
+    pick (eqb b (ch "0")) (code.Record b) (pick (eqb b (ch "m")) (code.Record b) (pick (eqb b (ch "n")) (code.Record b) (pick (eqb b (ch "z")) (code.Record b)
+    (pick (eqb b (ch "3")) (code.Record b) (pick (eqb b (ch "5")) (code.Record b) (pick (eqb b (ch "1")) (code.Record b) (pick (eqb b (ch "2")) (code.Record b)
+    (pick (eqb b (ch "9")) code.End code.Wrong))))))))
 
 abbrev pub stored : Code → Numbers → Stored
 stored k (are l) = record { code = k; count = length l; words = pad 8 (map word l) }
@@ -89,21 +90,21 @@ storedOf (b ∷ s) = byCode (codeOf b) s
 -- with its code, and the end line is `9`
 
 abbrev pub letterPaper : Letter → Paper
-letterPaper letter.Wrong = says 53 []
-letterPaper letter.Axes = says 48 []
-letterPaper letter.Relative = says 65 []
-letterPaper letter.Absolute = says 77 []
-letterPaper letter.Origin = says 110 []
-letterPaper letter.Zero = says 78 []
-letterPaper letter.Three = says 122 []
-letterPaper letter.Position = says 80 []
-letterPaper letter.Input = says 98 []
-letterPaper letter.Output = says 66 []
-letterPaper letter.Store = says 105 []
-letterPaper letter.Empty = says 107 []
-letterPaper letter.Start = says 83 []
+letterPaper letter.Wrong = says (ch "5") []
+letterPaper letter.Axes = says (ch "0") []
+letterPaper letter.Relative = says (ch "A") []
+letterPaper letter.Absolute = says (ch "M") []
+letterPaper letter.Origin = says (ch "n") []
+letterPaper letter.Zero = says (ch "N") []
+letterPaper letter.Three = says (ch "z") []
+letterPaper letter.Position = says (ch "P") []
+letterPaper letter.Input = says (ch "b") []
+letterPaper letter.Output = says (ch "B") []
+letterPaper letter.Store = says (ch "i") []
+letterPaper letter.Empty = says (ch "k") []
+letterPaper letter.Start = says (ch "S") []
 
 abbrev pub codePaper : Code → Paper
-codePaper code.Wrong = says 53 []
-codePaper (code.Record c) = says 48 (pos c ∷ [])
-codePaper code.End = says 57 []
+codePaper code.Wrong = says (ch "5") []
+codePaper (code.Record c) = says (ch "0") (pos c ∷ [])
+codePaper code.End = says (ch "9") []

@@ -4,6 +4,7 @@ use mathlib.Core.List.{List, [], _∷_}
 use lib.ListN.{length}
 use lib.Dec.{ltb, eqb}
 use lib.IntN.{ℤ, pos, negℤ}
+use Rattle.count.specs.Chars.{ch}
 use Rattle.count.specs.Pick.{pick}
 
 -- a size that is read, or a text that is none
@@ -14,7 +15,7 @@ pub data Size : Type 0 where
 -- the digits of s written behind the number v
 unfoldable pub digitsBehind : ℕ → List ℕ → Size
 digitsBehind v [] = size v
-digitsBehind v (b ∷ s) = pick (ltb b 48) no-size (pick (ltb 57 b) no-size (digitsBehind (10 * v + (b - 48)) s))
+digitsBehind v (b ∷ s) = pick (ltb b (ch "0")) no-size (pick (ltb (ch "9") b) no-size (digitsBehind (10 * v + (b - (ch "0"))) s))
 
 -- 1 to 8 digits
 unfoldable pub digitsOf : List ℕ → Size
@@ -36,7 +37,7 @@ minus no-size = no-number
 -- an optional minus and 1 to 8 digits
 unfoldable pub numberOf : List ℕ → Number
 numberOf [] = no-number
-numberOf (b ∷ s) = pick (eqb b 45) (minus (digitsOf s)) (plus (digitsOf (b ∷ s)))
+numberOf (b ∷ s) = pick (eqb b (ch "-")) (minus (digitsOf s)) (plus (digitsOf (b ∷ s)))
 
 -- an item of a line's numbers: what stands between two commas is a number and nothing else
 abbrev pub itemOf : List ℕ → Number
@@ -49,7 +50,7 @@ onto b (f ∷ fs) = (b ∷ f) ∷ fs
 
 unfoldable pub parted : List ℕ → List (List ℕ)
 parted [] = [] ∷ []
-parted (b ∷ s) = pick (eqb b 44) ([] ∷ parted s) (onto b (parted s))
+parted (b ∷ s) = pick (eqb b (ch ",")) ([] ∷ parted s) (onto b (parted s))
 
 -- the numbers that are read, or that one of the items is none
 pub data Numbers : Type 0 where

@@ -26,15 +26,15 @@ fn code_of(b: u8) -> Code
     ensures { λ r. ⌜ r ≡ codeOf b ⌝ }
 {
     match b {
-        48 => Code::Record(b),
-        109 => Code::Record(b),
-        110 => Code::Record(b),
-        122 => Code::Record(b),
-        51 => Code::Record(b),
-        53 => Code::Record(b),
-        49 => Code::Record(b),
-        50 => Code::Record(b),
-        57 => Code::End,
+        b'0' => Code::Record(b),
+        b'm' => Code::Record(b),
+        b'n' => Code::Record(b),
+        b'z' => Code::Record(b),
+        b'3' => Code::Record(b),
+        b'5' => Code::Record(b),
+        b'1' => Code::Record(b),
+        b'2' => Code::Record(b),
+        b'9' => Code::End,
         _ => Code::Wrong,
     }
 }

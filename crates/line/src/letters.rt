@@ -24,20 +24,20 @@ fn letter_of(b: u8) -> Letter
     ensures { λ r. ⌜ r ≡ letterOf b ⌝ }
 {
     match b {
-        65 => Letter::Relative,
-        97 => Letter::Relative,
-        77 => Letter::Absolute,
-        109 => Letter::Absolute,
-        110 => Letter::Origin,
-        78 => Letter::Zero,
-        122 => Letter::Three,
-        80 => Letter::Position,
-        98 => Letter::Input,
-        66 => Letter::Output,
-        105 => Letter::Store,
-        107 => Letter::Empty,
-        83 => Letter::Start,
-        115 => Letter::Start,
+        b'A' => Letter::Relative,
+        b'a' => Letter::Relative,
+        b'M' => Letter::Absolute,
+        b'm' => Letter::Absolute,
+        b'n' => Letter::Origin,
+        b'N' => Letter::Zero,
+        b'z' => Letter::Three,
+        b'P' => Letter::Position,
+        b'b' => Letter::Input,
+        b'B' => Letter::Output,
+        b'i' => Letter::Store,
+        b'k' => Letter::Empty,
+        b'S' => Letter::Start,
+        b's' => Letter::Start,
         _ => Letter::Wrong,
     }
 }
@@ -85,10 +85,10 @@ pub fn direct_line(line: &[u8]) -> Direct
     if line.len() < 3 {
         return wrong_direct();
     }
-    if line[0] != 64 {
+    if line[0] != b'@' {
         return wrong_direct();
     }
-    if line[1] != 48 {
+    if line[1] != b'0' {
         return wrong_direct();
     }
     let letter = letter_of(line[2]);

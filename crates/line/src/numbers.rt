@@ -36,16 +36,16 @@ fn read_digits(s: &[u8], minus: bool, at: usize) -> Item
     let mut i = at;
     while i < s.len() {
         let b = s[i];
-        if b == 44 {
+        if b == b',' {
             if digits == 0 {
                 return Item::Wrong;
             }
             return Item::More(count::word_of(minus, size), i + 1);
         }
-        if b < 48 {
+        if b < b'0' {
             return Item::Wrong;
         }
-        if 57 < b {
+        if b'9' < b {
             return Item::Wrong;
         }
         if 8 <= digits {
@@ -68,7 +68,7 @@ fn read_number(s: &[u8], at: usize) -> Item
     if s.len() <= at {
         return Item::Wrong;
     }
-    if s[at] == 45 {
+    if s[at] == b'-' {
         return read_digits(s, true, at + 1);
     }
     read_digits(s, false, at)
@@ -133,7 +133,7 @@ fn past_space(s: &[u8], at: usize) -> usize
     if s.len() <= at {
         return at;
     }
-    if s[at] == 32 {
+    if s[at] == b' ' {
         return at + 1;
     }
     at

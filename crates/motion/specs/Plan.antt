@@ -5,6 +5,7 @@ use Prim.Native.Nat.{ℕ}
 use lib.Dec.{ltb}
 use lib.IntN.{ℤ, pos}
 use lib.ListN.{getD}
+use Rattle.count.specs.Chars.{ch}
 use Rattle.count.specs.Pick.{pick}
 use Rattle.count.specs.Paper.{Paper, says}
 use Rattle.count.specs.Numbers.{far, added, value}
@@ -108,5 +109,5 @@ pointThen c l = value (c .x) ∷ value (c .y) ∷ value (c .z) ∷ l
 -- reply 9, or 0 with the three resting points and the three speeds
 abbrev pub plannedPaper : Planned → Paper
 plannedPaper (Going m) =
-    says 48 (pointThen (m .first) (pointThen (m .second) (pointThen (m .third) (pos (m .speed1) ∷ pos (m .speed2) ∷ pos (m .speed3) ∷ []))))
-plannedPaper Outside = says 57 []
+    says (ch "0") (pointThen (m .first) (pointThen (m .second) (pointThen (m .third) (pos (m .speed1) ∷ pos (m .speed2) ∷ pos (m .speed3) ∷ []))))
+plannedPaper Outside = says (ch "9") []

@@ -5,6 +5,7 @@ use mathlib.Core.Bool.{Bool, false, cond, not, _&&_, _||_, Bool·beq}
 use mathlib.Core.List.{[], _∷_}
 use lib.Dec.{ltb, leb, eqb}
 use lib.IntN.{pos}
+use Rattle.count.specs.Chars.{ch}
 use Rattle.count.specs.Pick.{pick}
 use Rattle.count.specs.Paper.{Paper, says}
 use Rattle.program.specs.declared.Verdict.{Verdict}
@@ -58,11 +59,11 @@ module _ (loop turn : ℕ → Bool) (far : ℕ → ℕ) (n : ℕ) where
   -- the fault of a place, the earlier letter first, or 0; d: more than seven ranges hold it
   unfoldable pub letter : ℕ → ℕ
   letter p =
-      pick (outside turn far n p) 97
-      (pick (early loop far p) 98
-      (pick (overlaps loop far p) 99
-      (pick (ltb 7 (holders loop far n p)) 100
-      (pick (strays p) 101 0))))
+      pick (outside turn far n p) (ch "a")
+      (pick (early loop far p) (ch "b")
+      (pick (overlaps loop far p) (ch "c")
+      (pick (ltb 7 (holders loop far n p)) (ch "d")
+      (pick (strays p) (ch "e") 0))))
 
   -- the smallest place with a fault, among k places from p on
   abbrev pub faultFrom : ℕ → ℕ → Verdict
@@ -74,6 +75,6 @@ module _ (loop turn : ℕ → Bool) (far : ℕ → ℕ) (n : ℕ) where
 
 -- reply 0, or G with the letter and the place
 abbrev pub verdictPaper : Verdict → Paper
-verdictPaper Sound = says 48 []
-verdictPaper (Fault l p) = says 71 (pos l ∷ pos p ∷ [])
-verdictPaper Unreadable = says 71 []
+verdictPaper Sound = says (ch "0") []
+verdictPaper (Fault l p) = says (ch "G") (pos l ∷ pos p ∷ [])
+verdictPaper Unreadable = says (ch "G") []

@@ -5,6 +5,7 @@ use mathlib.Core.List.{List, []}
 use lib.Dec.{ltb, leb, eqb}
 use lib.IntN.{ℤ, pos, natAbs, _+ℤ_}
 use lib.ListN.{getD, set, replicate}
+use Rattle.count.specs.Chars.{ch}
 use Rattle.count.specs.Pick.{pick}
 use Rattle.count.specs.Paper.{Paper, says}
 use Rattle.count.specs.Numbers.{within}
@@ -75,7 +76,7 @@ looped place target number o =
 unfoldable pub aimed : ℕ → ℕ → ℤ → Record → Loops → Way
 aimed place end offset r o =
     pick (inside place offset end)
-    (pick (eqb (r .code) 50) (went Waits (place + 1) (targetOf place offset) o)
+    (pick (eqb (r .code) (ch "2")) (went Waits (place + 1) (targetOf place offset) o)
     (pick (eqb (getD (r .words) 0 0) 0) (to (targetOf place offset) o)
     (pick (ltb 32767 (getD (r .words) 0 0)) (wrong o)
     (looped place (targetOf place offset) (getD (r .words) 0 0) o))))
@@ -85,12 +86,12 @@ aimed place end offset r o =
 unfoldable pub onwardOf : Record → ℕ → ℕ → Loops → Way
 onwardOf r place end o =
     pick (leb end place) (wrong o)
-    (pick (eqb (r .code) 51) (aimed place end (nth (r .words) 1) r o)
-    (pick (eqb (r .code) 50) (aimed place end (nth (r .words) 1) r o)
+    (pick (eqb (r .code) (ch "3")) (aimed place end (nth (r .words) 1) r o)
+    (pick (eqb (r .code) (ch "2")) (aimed place end (nth (r .words) 1) r o)
     (to (place + 1) o)))
 
 -- a record done, a wait, or G
 abbrev pub goingPaper : Going → Paper
 goingPaper To = says 4 []
-goingPaper Waits = says 50 []
-goingPaper Wrong = says 71 []
+goingPaper Waits = says (ch "2") []
+goingPaper Wrong = says (ch "G") []

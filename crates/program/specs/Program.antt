@@ -6,6 +6,7 @@ use mathlib.Core.List.{List, []}
 use lib.Dec.{ltb, eqb}
 use lib.IntN.{ℤ, pos, negsuc}
 use lib.ListN.{length, getD}
+use Rattle.count.specs.Chars.{ch}
 use Rattle.count.specs.Pick.{pick}
 use Rattle.count.specs.Ranges.{nth}
 use Rattle.record.specs.declared.Held.{Held}
@@ -31,9 +32,9 @@ shift (negsuc n) = 32767 - n
 
 unfoldable pub aimOf : Record → Aim
 aimOf r =
-    pick (eqb (r .code) 51)
+    pick (eqb (r .code) (ch "3"))
     (pick (eqb (getD (r .words) 0 0) 0) (jumps (shift (nth (r .words) 1))) (loops (getD (r .words) 0 0) (shift (nth (r .words) 1))))
-    (pick (eqb (r .code) 50) (waits (shift (nth (r .words) 1))) goes)
+    (pick (eqb (r .code) (ch "2")) (waits (shift (nth (r .words) 1))) goes)
 
 abbrev pub isLoop : Aim → Bool
 isLoop goes = false

@@ -38,13 +38,13 @@ fn kind_of(item: Record) -> u8
     ensures { λ r. ⌜ r ≡ kindOf (aimOf item) ⌝ }
 {
     let words = item.words;
-    if item.code == 51 {
+    if item.code == b'3' {
         if words[0] == 0 {
             return 2;
         }
         return 1;
     }
-    if item.code == 50 {
+    if item.code == b'2' {
         return 2;
     }
     0
@@ -54,10 +54,10 @@ fn offset_of(item: Record) -> u16
     ensures { λ r. ⌜ r ≡ kept item ⌝ }
 {
     let words = item.words;
-    if item.code == 51 {
+    if item.code == b'3' {
         return clip(words[1]);
     }
-    if item.code == 50 {
+    if item.code == b'2' {
         return clip(words[1]);
     }
     0

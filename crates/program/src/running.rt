@@ -166,7 +166,7 @@ fn aimed(item: Record, place: u16, end: u16, loops: Loops) -> Way
     let Target::At(target) = t else {
         return wrong(loops);
     };
-    if item.code == 50 {
+    if item.code == b'2' {
         return waits(place + 1, target, loops);
     }
     let number = words[0];
@@ -186,10 +186,10 @@ pub fn onward(item: Record, place: u16, end: u16, loops: Loops) -> Way
     if end <= place {
         return wrong(loops);
     }
-    if item.code == 51 {
+    if item.code == b'3' {
         return aimed(item, place, end, loops);
     }
-    if item.code == 50 {
+    if item.code == b'2' {
         return aimed(item, place, end, loops);
     }
     to(place + 1, loops)

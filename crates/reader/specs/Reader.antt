@@ -4,16 +4,17 @@ use mathlib.Core.Bool.{Bool, true, false, not, _&&_, _||_}
 use mathlib.Core.List.{List, [], _∷_}
 use lib.Dec.{ltb, leb, eqb}
 use lib.ListN.{drop}
+use Rattle.count.specs.Chars.{ch}
 use Rattle.count.specs.Pick.{pick}
 use Rattle.count.specs.Numbers.{word, withSign}
 use Rattle.reader.specs.declared.Number.{Number}
 
 abbrev pub isDigit : ℕ → Bool
-isDigit b = leb 48 b && leb b 57
+isDigit b = leb (ch "0") b && leb b (ch "9")
 
 -- one digit more, to nine digits; any other byte leaves the size
 unfoldable pub withDigit : ℕ → ℕ → ℕ
-withDigit size b = pick (ltb size 100000000 && isDigit b) (size * 10 + (b - 48)) size
+withDigit size b = pick (ltb size 100000000 && isDigit b) (size * 10 + (b - (ch "0"))) size
 
 abbrev pub number : Bool → ℕ → ℕ → Number
 number minus size at = record { word = word (withSign minus size); at = at }
@@ -23,7 +24,7 @@ number minus size at = record { word = word (withSign minus size); at = at }
 unfoldable pub reading : List ℕ → ℕ → ℕ → Bool → Bool → Number
 reading [] i size minus begun = number minus size i
 reading (b ∷ s) i size minus begun =
-    pick (begun && not (isDigit b)) (number minus size (i + 1)) (reading s (i + 1) (withDigit size b) (minus || eqb b 45) (begun || isDigit b))
+    pick (begun && not (isDigit b)) (number minus size (i + 1)) (reading s (i + 1) (withDigit size b) (minus || eqb b (ch "-")) (begun || isDigit b))
 
 -- what stands before the first digit is passed over, but a minus counts
 abbrev pub numberAt : List ℕ → ℕ → Number

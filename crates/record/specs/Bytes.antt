@@ -5,6 +5,7 @@ use mathlib.Core.List.{List, [], _∷_, _++_}
 use mathlib.Core.Bool.{Bool, _&&_}
 use lib.ListN.{length, getD, take, drop}
 use lib.Dec.{ltb, leb, eqb}
+use Rattle.count.specs.Chars.{ch}
 use Rattle.count.specs.Pick.{pick}
 use Rattle.count.specs.Words.{pad}
 use Rattle.record.specs.declared.Record.{Record}
@@ -51,7 +52,7 @@ lengthOf r = 4 + 4 * r .count
 
 -- a record is right if its code and numbers have no fault
 abbrev pub isRight : ℕ → Record → Bool
-isRight axes r = eqb (faultOf axes (r .code) (r .count) (r .words)) 48
+isRight axes r = eqb (faultOf axes (r .code) (r .count) (r .words)) (ch "0")
 
 abbrev pub ifRight : ℕ → Record → Fetch
 ifRight axes r = pick (isRight axes r) (Got r) Wrong

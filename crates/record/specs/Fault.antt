@@ -5,27 +5,28 @@ use mathlib.Core.List.{List}
 use mathlib.Core.Bool.{Bool, true, _&&_, _||_}
 use lib.Dec.{eqb}
 use lib.IntN.{ℤ, pos}
+use Rattle.count.specs.Chars.{ch}
 use Rattle.count.specs.Pick.{pick}
 use Rattle.count.specs.Numbers.{within}
 use Rattle.count.specs.Ranges.{inOffset, inBack, inLoop, inDelay, inCharacter, inSwitch, inZero, nth, rightCount, rightDistances, rightSpeeds}
 
 -- the codes: `0` and `m` movement, `n` origin, `z` 3D, `3` loop or jump, `5` delay, `1` character sent, `2` character waited for
 abbrev pub isMovement : ℕ → Bool
-isMovement code = eqb code 48 || eqb code 109
+isMovement code = eqb code (ch "0") || eqb code (ch "m")
 
 abbrev pub isAbsolute : ℕ → Bool
-isAbsolute code = eqb code 109
+isAbsolute code = eqb code (ch "m")
 
 unfoldable pub isCode : ℕ → Bool
-isCode code = isMovement code || (eqb code 110 || eqb code 122 || eqb code 51 || eqb code 53 || eqb code 49 || eqb code 50)
+isCode code = isMovement code || (eqb code (ch "n") || eqb code (ch "z") || eqb code (ch "3") || eqb code (ch "5") || eqb code (ch "1") || eqb code (ch "2"))
 
 -- 7: a movement has its axes' count; `3` and `2` have two numbers, the others one
 unfoldable pub countRight : ℕ → ℕ → ℕ → Bool
-countRight axes code n = pick (isMovement code) (rightCount axes n) (pick (eqb code 51 || eqb code 50) (eqb n 2) (eqb n 1))
+countRight axes code n = pick (isMovement code) (rightCount axes n) (pick (eqb code (ch "3") || eqb code (ch "2")) (eqb n 2) (eqb n 1))
 
 -- 3: the axes of `n` are 1 to 7 and none beyond the axes set; the sets 1, 3 and 7 hold just the values up to themselves
 unfoldable pub axesRight : ℕ → ℕ → List ℕ → Bool
-axesRight axes code l = pick (eqb code 110) (within (pos 1) (pos 7) (nth l 0) && within (pos 1) (pos axes) (nth l 0)) true
+axesRight axes code l = pick (eqb code (ch "n")) (within (pos 1) (pos 7) (nth l 0) && within (pos 1) (pos axes) (nth l 0)) true
 
 -- a loop: number 1 to 32,767 and an offset of at most -1; a jump: number 0 and any offset
 unfoldable pub loopRight : ℤ → ℤ → Bool
@@ -35,11 +36,11 @@ loopRight number offset = (inLoop number && inBack offset) || (inZero number && 
 unfoldable pub rangesRight : ℕ → ℕ → List ℕ → Bool
 rangesRight axes code l =
     pick (isMovement code) (rightDistances axes (isAbsolute code) l)
-    (pick (eqb code 122) (inSwitch (nth l 0))
-    (pick (eqb code 51) (loopRight (nth l 0) (nth l 1))
-    (pick (eqb code 53) (inDelay (nth l 0))
-    (pick (eqb code 49) (inCharacter (nth l 0))
-    (pick (eqb code 50) (inCharacter (nth l 0) && inOffset (nth l 1)) true)))))
+    (pick (eqb code (ch "z")) (inSwitch (nth l 0))
+    (pick (eqb code (ch "3")) (loopRight (nth l 0) (nth l 1))
+    (pick (eqb code (ch "5")) (inDelay (nth l 0))
+    (pick (eqb code (ch "1")) (inCharacter (nth l 0))
+    (pick (eqb code (ch "2")) (inCharacter (nth l 0) && inOffset (nth l 1)) true)))))
 
 -- D: every speed of a movement, used or not
 unfoldable pub speedsRight : ℕ → ℕ → List ℕ → Bool
@@ -50,6 +51,6 @@ unfoldable pub faultOf : ℕ → ℕ → ℕ → List ℕ → ℕ
 faultOf axes code n l =
     pick (isCode code)
     (pick (countRight axes code n)
-    (pick (axesRight axes code l) (pick (rangesRight axes code l) (pick (speedsRight axes code l) 48 68) 49) 51)
-    55)
-    53
+    (pick (axesRight axes code l) (pick (rangesRight axes code l) (pick (speedsRight axes code l) (ch "0") (ch "D")) (ch "1")) (ch "3"))
+    (ch "7"))
+    (ch "5")

@@ -5,6 +5,7 @@ use Prim.Native.Nat.{ℕ}
 use mathlib.Core.List.{List, [], _∷_, _++_}
 use lib.ListN.{length, drop}
 use lib.Dec.{ltb}
+use Rattle.count.specs.Chars.{ch}
 use Rattle.count.specs.Pick.{pick}
 use Rattle.count.specs.Numbers.{signed}
 use Rattle.count.specs.Text.{shown}
@@ -17,7 +18,7 @@ use Rattle.record.specs.Places.{Records, are, none-are, recordsOf}
 -- a comma and a number, for each of the numbers behind the first
 unfoldable pub more : List ℕ → List ℕ
 more [] = []
-more (w ∷ l) = 44 ∷ shown (signed w) ++ more l
+more (w ∷ l) = ch "," ∷ shown (signed w) ++ more l
 
 -- the numbers with commas
 unfoldable pub numbersText : List ℕ → List ℕ
@@ -26,11 +27,11 @@ numbersText (w ∷ l) = shown (signed w) ++ more l
 
 -- a record's line
 unfoldable pub lineText : Record → List ℕ
-lineText r = r .code ∷ numbersText (numbersOf r) ++ 13 ∷ []
+lineText r = r .code ∷ numbersText (numbersOf r) ++ ch "\r" ∷ []
 
 -- all lines, and the end line
 unfoldable pub listText : List Record → List ℕ
-listText [] = 57 ∷ 13 ∷ []
+listText [] = ch "9" ∷ ch "\r" ∷ []
 listText (r ∷ l) = lineText r ++ listText l
 
 -- what listing comes to, and the text buffer afterwards
@@ -43,7 +44,7 @@ telling refusal len t = record { listed = record { refusal = refusal; len = len 
 
 abbrev pub tell : Records → List ℕ → Telling
 tell (are l) t = telling 0 (length (listText l)) (listText l ++ drop (length (listText l)) t)
-tell none-are t = telling 71 0 t
+tell none-are t = telling (ch "G") 0 t
 
 unfoldable pub listOf : Held → List ℕ → List ℕ → Telling
 listOf h s t =

@@ -6,6 +6,7 @@ use mathlib.Core.List.{List, [], _∷_, _++_}
 use mathlib.Core.Bool.{Bool, true, false}
 use lib.ListN.{take, drop}
 use lib.Dec.{ltb, leb}
+use Rattle.count.specs.Chars.{ch}
 use Rattle.count.specs.Pick.{pick}
 use Rattle.count.specs.Paper.{Paper, says}
 use lib.IntN.{pos}
@@ -102,10 +103,10 @@ encodeAll (r ∷ l) = encode r ++ encodeAll l
 
 abbrev pub foundPaper : Found → Paper
 foundPaper found.Right = says 4 []
-foundPaper found.End = says 48 []
-foundPaper found.Wrong = says 71 []
+foundPaper found.End = says (ch "0") []
+foundPaper found.Wrong = says (ch "G") []
 
 abbrev pub spotPaper : Spot → Paper
 spotPaper (spot.At at) = says 4 (pos at ∷ [])
-spotPaper spot.End = says 48 []
-spotPaper spot.Wrong = says 71 []
+spotPaper spot.End = says (ch "0") []
+spotPaper spot.Wrong = says (ch "G") []

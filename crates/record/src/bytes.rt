@@ -83,7 +83,7 @@ pub(crate) fn record_in(s: &[u8], axes: u8) -> Fetched
     }
     let code = s[2];
     let words = read_numbers(&s[4..], n);
-    if record_fault(axes, code, n, words) != 48 {
+    if record_fault(axes, code, n, words) != b'0' {
         return nothing(Found::Wrong);
     }
     let item = Record {

@@ -7,19 +7,19 @@ ghost use Rattle.record.specs.Fault.{isMovement, isCode, countRight, axe
 fn is_movement(code: u8) -> bool
     ensures { λ r. ⌜ r ≡ isMovement code ⌝ }
 {
-    (code == 48) | (code == 109)
+    (code == b'0') | (code == b'm')
 }
 
 fn is_code(code: u8) -> bool
     ensures { λ r. ⌜ r ≡ isCode code ⌝ }
 {
     is_movement(code)
-        | ((code == 110)
-            | (code == 122)
-            | (code == 51)
-            | (code == 53)
-            | (code == 49)
-            | (code == 50))
+        | ((code == b'n')
+            | (code == b'z')
+            | (code == b'3')
+            | (code == b'5')
+            | (code == b'1')
+            | (code == b'2'))
 }
 
 // 7: whether a record of this code has this many numbers.
@@ -29,7 +29,7 @@ fn count_right(axes: u8, code: u8, n: usize) -> bool
     if is_movement(code) {
         return count::right_count(axes, n);
     }
-    if (code == 51) | (code == 50) {
+    if (code == b'3') | (code == b'2') {
         return n == 2;
     }
     n == 1
@@ -46,7 +46,7 @@ fn from_one(most: u8, w: u32) -> bool
 fn axes_right(axes: u8, code: u8, words: [u32; 8]) -> bool
     ensures { λ r. ⌜ r ≡ axesRight axes code words ⌝ }
 {
-    if code == 110 {
+    if code == b'n' {
         return from_one(7, words[0]) & from_one(axes, words[0]);
     }
     true
@@ -65,13 +65,13 @@ fn ranges_right(axes: u8, code: u8, words: [u32; 8]) -> bool
     ensures { λ r. ⌜ r ≡ rangesRight axes code words ⌝ }
 {
     match code {
-        48 => count::right_distances(axes, false, words),
-        109 => count::right_distances(axes, true, words),
-        122 => count::is_switch(words[0]),
-        51 => loop_right(words[0], words[1]),
-        53 => count::is_delay(words[0]),
-        49 => count::is_character(words[0]),
-        50 => count::is_character(words[0]) & count::is_offset(words[1]),
+        b'0' => count::right_distances(axes, false, words),
+        b'm' => count::right_distances(axes, true, words),
+        b'z' => count::is_switch(words[0]),
+        b'3' => loop_right(words[0], words[1]),
+        b'5' => count::is_delay(words[0]),
+        b'1' => count::is_character(words[0]),
+        b'2' => count::is_character(words[0]) & count::is_offset(words[1]),
         _ => true,
     }
 }
@@ -91,19 +91,19 @@ pub fn record_fault(axes: u8, code: u8, count: usize, words: [u32; 8]) -> u8
     ensures { λ r. ⌜ r ≡ faultOf axes code count words ⌝ }
 {
     if !is_code(code) {
-        return 53;
+        return b'5';
     }
     if !count_right(axes, code, count) {
-        return 55;
+        return b'7';
     }
     if !axes_right(axes, code, words) {
-        return 51;
+        return b'3';
     }
     if !ranges_right(axes, code, words) {
-        return 49;
+        return b'1';
     }
     if !speeds_right(axes, code, words) {
-        return 68;
+        return b'D';
     }
-    48
+    b'0'
 }

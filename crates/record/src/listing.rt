@@ -24,7 +24,7 @@ fn put_item(text: &mut [u8], i: usize, w: u32) -> usize
         return count::put_word(text, w);
     }
     let k = count::put_word(&mut text[1..], w);
-    text[0] = 44;
+    text[0] = b',';
     k + 1
 }
 
@@ -41,7 +41,7 @@ fn put_tail(text: &mut [u8], n: usize, words: [u32; 8]) -> usize
         at = at + k;
         i = i + 1;
     }
-    text[at] = 13;
+    text[at] = b'\r';
     at + 1
 }
 
@@ -73,8 +73,8 @@ fn put_lines(text: &mut [u8], s: &[u8], axes: u8, k: u16) -> usize
         at = at + (f.len as usize);
         left = left - 1;
     }
-    text[out] = 57;
-    text[out + 1] = 13;
+    text[out] = b'9';
+    text[out + 1] = b'\r';
     out + 2
 }
 
@@ -96,7 +96,7 @@ pub fn list(store: &[u8], held: Held, text: &mut [u8]) -> Listed
     }
     if !readable(store, held) {
         return Listed {
-            refusal: 71,
+            refusal: 71, // G
             len: 0,
         };
     }

@@ -158,9 +158,6 @@ all-runs es = all-kept Runs byte-runs clock-runs es fresh (at-rest (fresh .engin
 pub event-runs : (e : Event) (b : Board) → Runs b → Runs (next ours e b)
 event-runs e b h = event-kept Runs byte-runs clock-runs e b h
 
-pub always-sound : (es : List Event) → sound (afterAll ours es fresh) ≡ true
-always-sound es = all-sound fresh-sound hearing-sound clocking-sound es fresh fresh-sound
-
 -- where something is under way and does not stand, no line is begun
 pub clear-line : (b : Board) → Fit b → rests b ≡ false → b .standing ≡ false → b .line ≡ noLine
 clear-line b f r s = by (b .standing) (b .engine .run .job) (f .clear) r s

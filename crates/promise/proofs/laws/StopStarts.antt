@@ -26,7 +26,8 @@ use Rattle.promise.specs.Stop.{restsBy, waits, rests, counts, delaysBy, 
 use Rattle.promise.proofs.laws.KeepsReturn.{out-so, keeps-silent-return}
 use Rattle.promise.proofs.laws.KeepsOn.{event-kept}
 use Rattle.promise.proofs.laws.StopHolds.{Stood, both}
-use Rattle.promise.proofs.laws.StopBegins.{all-runs, event-runs, always-sound, clear-line}
+use Rattle.promise.proofs.laws.KeepsAlways.{always-sound}
+use Rattle.promise.proofs.laws.StopBegins.{all-runs, event-runs, clear-line}
 
 -- ---- LineBegins
 

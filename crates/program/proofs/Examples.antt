@@ -12,8 +12,8 @@ use Rattle.record.specs.Bytes.{made, encode, numBytes, bytes4, wordAt, wordsOf,
 use Rattle.record.specs.Places.{encodeAll, recordsFrom, recordsOf}
 use Rattle.record.specs.Fault.{isCode, countRight, axesRight, rangesRight, speedsRight, loopRight, faultOf}
 use Rattle.count.specs.Ranges.{inOffset, inBack, inLoop, inZero, inSwitch}
-use Rattle.program.specs.Check.{outside, early, meets, overlaps, holds, holders, strays, letter, checked, verdictPaper}
-use Rattle.program.specs.Program.{aimOf, checkOf, verdictOf}
+use Rattle.program.specs.Check.{outside, early, share, around, crosses, overlaps, holds, holders, strays, letter, checked, verdictPaper}
+use Rattle.program.specs.Program.{checkOf, verdictOf}
 use Rattle.program.specs.Onward.{noLoops, inside, again, opens, looped, aimed, onwardOf, goingPaper}
 use Rattle.program.proofs.laws.Run.{Stands, begin, runOf, turnsOf}
 
@@ -41,7 +41,7 @@ pub runs-26 :
     × (length (turnsOf spin 0 (replicate 52 false) begin) ≡ 26)
     × (turnsOf spin 1 (replicate 50 false) begin ≡ replicate 25 0)
     × (turnsOf spin 1 (replicate 52 false) (runOf spin (replicate 50 false) begin) ≡ 2 ∷ [])
-unfolding encodeAll encode numBytes bytes4 verdictOf recordsOf recordsFrom front wordsOf wordAt faultOf isCode countRight axesRight rangesRight speedsRight loopRight inOffset inBack inLoop inZero inSwitch signed within aimOf checkOf checked letter outside early overlaps meets holders holds strays onwardOf aimed looped opens again inside runOf turnsOf
+unfolding encodeAll encode numBytes bytes4 verdictOf recordsOf recordsFrom front wordsOf wordAt faultOf isCode countRight axesRight rangesRight speedsRight loopRight inOffset inBack inLoop inZero inSwitch signed within checkOf checked letter outside early overlaps crosses share around holders holds strays onwardOf aimed looped opens again inside runOf turnsOf
 runs-26 = (refl, refl, refl, refl, refl)
 
 -- ---- (4) `3 0,5` at place 0 goes to 5
@@ -53,12 +53,12 @@ goes-to-5 = (refl, refl)
 -- ---- (5) in a two-record field, target 2 passes and 3 is G
 
 pub target-2 : (reply (three 0 2 ∷ other ∷ []) ≡ says 48 []) × (reply (three 0 3 ∷ other ∷ []) ≡ says 71 (pos 97 ∷ pos 0 ∷ []))
-unfolding encodeAll encode numBytes bytes4 verdictOf recordsOf recordsFrom front wordsOf wordAt faultOf isCode countRight axesRight rangesRight speedsRight loopRight inOffset inBack inLoop inZero inSwitch signed within aimOf checkOf checked letter outside early overlaps meets holders holds strays
+unfolding encodeAll encode numBytes bytes4 verdictOf recordsOf recordsFrom front wordsOf wordAt faultOf isCode countRight axesRight rangesRight speedsRight loopRight inOffset inBack inLoop inZero inSwitch signed within checkOf checked letter outside early overlaps crosses share around holders holds strays
 target-2 = (refl, refl)
 
 -- ---- (6) `3 2,-1` directly after `3 25,-1` is G: their ranges are 0 to 1 and 1 to 2, and only the overlap is at fault
 
 pub overlap : (reply (other ∷ three 25 4294967295 ∷ three 2 4294967295 ∷ []) ≡ says 71 (pos 99 ∷ pos 2 ∷ []))
     × (reply (other ∷ three 25 4294967295 ∷ other ∷ three 2 4294967295 ∷ []) ≡ says 48 [])
-unfolding encodeAll encode numBytes bytes4 verdictOf recordsOf recordsFrom front wordsOf wordAt faultOf isCode countRight axesRight rangesRight speedsRight loopRight inOffset inBack inLoop inZero inSwitch signed within aimOf checkOf checked letter outside early overlaps meets holders holds strays
+unfolding encodeAll encode numBytes bytes4 verdictOf recordsOf recordsFrom front wordsOf wordAt faultOf isCode countRight axesRight rangesRight speedsRight loopRight inOffset inBack inLoop inZero inSwitch signed within checkOf checked letter outside early overlaps crosses share around holders holds strays
 overlap = (refl, refl)

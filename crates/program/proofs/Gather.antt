@@ -20,10 +20,13 @@ use Rattle.record.specs.Places.{inUse, recordAt, answered, Records, are, none-a
 use Rattle.record.proofs.laws.Walk.{front-stands}
 use Rattle.program.specs.declared.Verdict.{Verdict}
 use Rattle.program.specs.declared.Verdict.the-variants.{Unreadable}
-use Rattle.program.specs.Check.{checked}
-use Rattle.program.specs.Program.{Aim, goes, jumps, waits, loops, aimOf, isLoop, isTurn, offsetOf, aimAt, loopAt, turnAt, farAt, checkOf, verdictOn, verdictOf}
+use Rattle.program.specs.work.Marks.{checked}
+use Rattle.program.specs.work.Aims.{Aim, goes, jumps, waits, loops, aimOf, isLoop, isTurn, offsetOf, aimAt, loopAt, turnAt, farAt, markedOf}
+use Rattle.program.specs.Program.{verdictOn, verdictOf}
 use Rattle.program.specs.work.Work.{loopIn, turnIn, farIn}
 use Rattle.program.proofs.laws.Decode.{kept-same}
+use Rattle.program.proofs.laws.Marks.{marked-same}
+use Rattle.program.proofs.laws.Accepting.{Rights, rights}
 use Rattle.program.specs.work.Decode.{kindOf, kept}
 
 abbrev pub found : Fetch → (Record → Verdict) → Verdict
@@ -108,14 +111,23 @@ module _ (l : List Record) (h : length l ≤ 1000) where
   fars-same = fun-ext (λ i. ap (λ (o : ℕ). i + o) (getD-maps 1000 off off-none l i h))
 
   -- the check of the arrays is the check of the list
-  whole : checked (loopIn (pad 1000 (maps kind l))) (turnIn (pad 1000 (maps kind l))) (farIn (pad 1000 (maps off l))) (length l) ≡ checkOf l
-  unfolding checkOf
+  whole : checked (loopIn (pad 1000 (maps kind l))) (turnIn (pad 1000 (maps kind l))) (farIn (pad 1000 (maps off l))) (length l) ≡ markedOf l
+  unfolding markedOf
   whole =
       ap (λ (f : ℕ → Bool). checked f (turnIn (pad 1000 (maps kind l))) (farIn (pad 1000 (maps off l))) (length l)) loops-same
       ∙ ap (λ (f : ℕ → Bool). checked (loopAt l) f (farIn (pad 1000 (maps off l))) (length l)) turns-same
       ∙ ap (λ (f : ℕ → ℕ). checked (loopAt l) (turnAt l) f (length l)) fars-same
 
 -- ---- the walk and the list
+
+-- the check over marks, of what was read
+abbrev markedOn : Records → Verdict
+markedOn (are l) = markedOf l
+markedOn none-are = Unreadable
+
+joined : (axes : ℕ) (x : Records) → Rights axes x → markedOn x ≡ verdictOn x
+joined axes (are l) r = sym (marked-same l axes r)
+joined axes none-are r = refl
 
 abbrev behind : List Record → Records → Records
 behind l none-are = none-are
@@ -132,28 +144,28 @@ behind-none (are l) = refl
 module _ (h : Held) (s : List ℕ) (n : ℕ) (few : n ≤ 1000) where
   abbrev Same : ℕ → Type 0
   Same k = (at : ℕ) (l : List Record) → length l + k ≡ n
-      → walk h s n k at (length l) (pad 1000 (maps kind l)) (pad 1000 (maps off l)) ≡ verdictOn (behind l (recordsFrom (h .axes) k (drop at (inUse h s))))
+      → walk h s n k at (length l) (pad 1000 (maps kind l)) (pad 1000 (maps off l)) ≡ markedOn (behind l (recordsFrom (h .axes) k (drop at (inUse h s))))
 
   same-end : (at : ℕ) (l : List Record) (u : List ℕ) → drop at (inUse h s) ≡ u → length l ≡ n
       → pick (ltb at (length (inUse h s))) Unreadable (checked (loopIn (pad 1000 (maps kind l))) (turnIn (pad 1000 (maps kind l))) (farIn (pad 1000 (maps off l))) n)
-      ≡ verdictOn (behind l (recordsFrom (h .axes) 0 u))
+      ≡ markedOn (behind l (recordsFrom (h .axes) 0 u))
   unfolding recordsFrom
   same-end at l [] e m =
       let d : 0 ≡ length (inUse h s) - at = ap length (sym e) ∙ length-drop at (inUse h s) in
-      rw (le-ltb at (length (inUse h s)) (omega arith), ← m) (whole l (omega arith) ∙ ap checkOf (sym (append-nil l)))
+      rw (le-ltb at (length (inUse h s)) (omega arith), ← m) (whole l (omega arith) ∙ ap markedOf (sym (append-nil l)))
   same-end at l (x ∷ u) e m =
       let d : suc (length u) ≡ length (inUse h s) - at = ap length (sym e) ∙ length-drop at (inUse h s) in
       rw (lt-ltb at (length (inUse h s)) (omega arith))
 
   same-next : (k at : ℕ) (l : List Record) (x : Fetch) → recordAt h s at ≡ x → Same k → length l + suc k ≡ n
       → found x (λ r. walk h s n k (at + lengthOf r) (length l + 1) (set (pad 1000 (maps kind l)) (length l) (kind r)) (set (pad 1000 (maps off l)) (length l) (kept r)))
-      ≡ verdictOn (behind l (then x (λ r. recordsFrom (h .axes) k (drop (lengthOf r) (drop at (inUse h s))))))
+      ≡ markedOn (behind l (then x (λ r. recordsFrom (h .axes) k (drop (lengthOf r) (drop at (inUse h s))))))
   unfolding recordAt
   same-next k at l (Got r) e g m =
       let c : length (l ++ r ∷ []) ≡ length l + 1 = length-append l (r ∷ []) in
       let o : kept r ≡ off r = kept-same (h .axes) r (front-stands (h .axes) (drop at (inUse h s)) e .right) in
       rw (o, put-more kind l r, put-more off l r, ← c, drop-drop)
-      (g (at + lengthOf r) (l ++ r ∷ []) (omega arith) ∙ ap verdictOn (behind-next l r (recordsFrom (h .axes) k (drop (at + lengthOf r) (inUse h s)))))
+      (g (at + lengthOf r) (l ++ r ∷ []) (omega arith) ∙ ap markedOn (behind-next l r (recordsFrom (h .axes) k (drop (at + lengthOf r) (inUse h s)))))
   same-next k at l End e g m = refl
   same-next k at l Wrong e g m = refl
 
@@ -167,7 +179,9 @@ pub start : (h : Held) (s : List ℕ) → h .records ≤ 1000 → verdictOf h s 
 unfolding verdictOf recordsOf
 start h s few =
     rw (le-ltb 1000 (h .records) few, pad-none 1000)
-    (sym (same h s (h .records) few (h .records) 0 [] (omega arith) ∙ ap verdictOn (behind-none (recordsFrom (h .axes) (h .records) (inUse h s)))))
+    (sym (same h s (h .records) few (h .records) 0 [] (omega arith)
+    ∙ ap markedOn (behind-none (recordsFrom (h .axes) (h .records) (inUse h s)))
+    ∙ joined (h .axes) (recordsFrom (h .axes) (h .records) (inUse h s)) (rights (h .axes) (h .records) (inUse h s))))
 
 pub too-many : (h : Held) (s : List ℕ) → 1000 < h .records → Unreadable ≡ verdictOf h s
 unfolding verdictOf

@@ -5,7 +5,8 @@ use mathlib.Core.Bool.{Bool, true, false, cond, not, Bool·beq}
 use native.Mathlib.Omega.{arith}
 use native.Mathlib.Numerals.{sub-one, add-one}
 use borrow.Author.Tests.{eq-eqb, ne-eqb}
-use Rattle.program.specs.Check.{some, tally, mark, meets, overlaps, letter, faultFrom, checked}
+use Rattle.program.specs.work.Marks.{mark, meets, overlaps, letter, checked}
+use Rattle.program.specs.Check.{some, tally, faultFrom}
 use Rattle.program.proofs.laws.Work.{letter-same}
 use Rattle.program.specs.work.Work.{spans, heldBy, straysBy, letterBy, Lists}
 use borrow.Author.Tests.{eqb-true, eqb-false}
@@ -54,19 +55,19 @@ differ e f = rw (e, f)
 
 -- the walk up from place to place, whose whole answer is w
 module _ (loop turn : ℕ → Bool) (far : ℕ → ℕ) (n : ℕ) where
-  pub from-hit : {w : Verdict} {l : ℕ} (k p : ℕ) → w ≡ faultFrom loop turn far n k p → 0 < k → l ≡ letter loop turn far n p → (l ≡ 0 → ⊥) → Fault l p ≡ w
+  pub from-hit : {w : Verdict} {l : ℕ} (k p : ℕ) → w ≡ faultFrom (letter loop turn far n) k p → 0 < k → l ≡ letter loop turn far n p → (l ≡ 0 → ⊥) → Fault l p ≡ w
   from-hit zero p v h e t = absurd (omega arith)
   from-hit (suc k) p v h e t = rw e (sym (v ∙ rw (ne-eqb _ 0 (λ z. t (e ∙ z)))))
 
-  pub from-on : {w : Verdict} {l : ℕ} (k p : ℕ) → w ≡ faultFrom loop turn far n k p → 0 < k → l ≡ letter loop turn far n p → l ≡ 0 → w ≡ faultFrom loop turn far n (k - 1) (p + 1)
+  pub from-on : {w : Verdict} {l : ℕ} (k p : ℕ) → w ≡ faultFrom (letter loop turn far n) k p → 0 < k → l ≡ letter loop turn far n p → l ≡ 0 → w ≡ faultFrom (letter loop turn far n) (k - 1) (p + 1)
   from-on zero p v h e t = absurd (omega arith)
   from-on (suc k) p v h e t = rw (sub-one, add-one) (v ∙ rw (eq-eqb _ 0 (sym e ∙ t)))
 
-  pub from-end : {w : Verdict} (k p : ℕ) → w ≡ faultFrom loop turn far n k p → k ≤ 0 → Sound ≡ w
+  pub from-end : {w : Verdict} (k p : ℕ) → w ≡ faultFrom (letter loop turn far n) k p → k ≤ 0 → Sound ≡ w
   from-end zero p v h = sym v
   from-end (suc k) p v h = absurd (omega arith)
 
-  pub from-start : checked loop turn far n ≡ faultFrom loop turn far n n 0
+  pub from-start : checked loop turn far n ≡ faultFrom (letter loop turn far n) n 0
   unfolding checked
   from-start = refl
 

@@ -11,6 +11,7 @@ pub mod Exact
 pub mod First
 pub mod Accepting
 pub mod Right
+pub mod Marks
 pub mod Decode
 pub mod Target
 pub mod Work

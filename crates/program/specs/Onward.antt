@@ -3,7 +3,7 @@ use Prim.Native.Nat.{ℕ, _+_, _-_}
 use mathlib.Core.Bool.{Bool, _&&_}
 use mathlib.Core.List.{List, []}
 use lib.Dec.{ltb, leb, eqb}
-use lib.IntN.{ℤ, pos, natAbs, _+ℤ_}
+use lib.IntN.{ℤ, pos, natAbs}
 use lib.ListN.{getD, set, replicate}
 use Rattle.count.specs.Chars.{ch}
 use Rattle.count.specs.Pick.{pick}
@@ -16,6 +16,7 @@ use Rattle.program.specs.declared.Loops.{Loops}
 use Rattle.program.specs.declared.Going.{Going}
 use Rattle.program.specs.declared.Going.the-variants.{To, Waits, Wrong}
 use Rattle.program.specs.declared.Way.{Way}
+use Rattle.program.specs.Program.{leadsTo}
 
 -- ---- the open loops: each with its place and the goes back still to make; the entries past the last are 0
 
@@ -47,10 +48,10 @@ wrong o = went Wrong 0 0 o
 
 -- own place plus offset lies between place 0 and the end place
 unfoldable pub inside : ℕ → ℤ → ℕ → Bool
-inside place offset end = within (pos 0) (pos end) (pos place +ℤ offset)
+inside place offset end = within (pos 0) (pos end) (leadsTo place offset)
 
 abbrev pub targetOf : ℕ → ℤ → ℕ
-targetOf place offset = natAbs (pos place +ℤ offset)
+targetOf place offset = natAbs (leadsTo place offset)
 
 -- the counter opened last is used: back again while it has goes left, else it closes and the run goes on
 unfoldable pub again : ℕ → ℕ → Loops → Way

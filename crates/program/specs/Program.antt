@@ -1,10 +1,10 @@
 -- A program as a list of records, as far as they say where to go, and what makes it an accepted one (01, "Running a program",
 -- paragraph 2).
-use Prim.Native.Nat.{ℕ, _+_, _-_}
-use mathlib.Core.Bool.{Bool, true, false, _&&_, _||_}
+use Prim.Native.Nat.{ℕ}
+use mathlib.Core.Bool.{Bool, true, false, not, _&&_, _||_}
 use mathlib.Core.List.{List, []}
 use lib.Dec.{ltb, eqb}
-use lib.IntN.{ℤ, pos, negsuc}
+use lib.IntN.{ℤ, pos, _+ℤ_}
 use lib.ListN.{length, getD}
 use Rattle.count.specs.Chars.{ch}
 use Rattle.count.specs.Pick.{pick}
@@ -18,59 +18,28 @@ use Rattle.program.specs.declared.Verdict.{Verdict}
 use Rattle.program.specs.declared.Verdict.the-variants.{Sound, Fault, Unreadable}
 use Rattle.program.specs.Check.{checked}
 
--- where a record leads: `3` with number 0 jumps, with another number it is a loop; `2` waits; the others go on. Offsets are counted
--- from -32,768, so that every offset of a right record is a natural number.
-pub data Aim : Type 0 where
-  goes : Aim
-  jumps : ℕ → Aim
-  waits : ℕ → Aim
-  loops : ℕ → ℕ → Aim
+-- the record at a place
+abbrev pub recordIn : List Record → ℕ → Record
+recordIn l i = getD l i (made 0 [])
 
-abbrev pub shift : ℤ → ℕ
-shift (pos n) = n + 32768
-shift (negsuc n) = 32767 - n
-
-unfoldable pub aimOf : Record → Aim
-aimOf r =
-    pick (eqb (r .code) (ch "3"))
-    (pick (eqb (getD (r .words) 0 0) 0) (jumps (shift (nth (r .words) 1))) (loops (getD (r .words) 0 0) (shift (nth (r .words) 1))))
-    (pick (eqb (r .code) (ch "2")) (waits (shift (nth (r .words) 1))) goes)
-
-abbrev pub isLoop : Aim → Bool
-isLoop goes = false
-isLoop (jumps o) = false
-isLoop (waits o) = false
-isLoop (loops c o) = true
-
-abbrev pub isTurn : Aim → Bool
-isTurn goes = false
-isTurn (jumps o) = true
-isTurn (waits o) = true
-isTurn (loops c o) = false
-
-abbrev pub offsetOf : Aim → ℕ
-offsetOf goes = 0
-offsetOf (jumps o) = o
-offsetOf (waits o) = o
-offsetOf (loops c o) = o
-
--- ---- of a list of records, by place
-
-abbrev pub aimAt : List Record → ℕ → Aim
-aimAt l i = aimOf (getD l i (made 0 []))
+-- ---- by place: a loop is a `3` with a number other than 0; a `3` with number 0 is a jump and a `2` is a wait
 
 abbrev pub loopAt : List Record → ℕ → Bool
-loopAt l i = isLoop (aimAt l i)
+loopAt l i = eqb (recordIn l i .code) (ch "3") && not (eqb (getD (recordIn l i .words) 0 0) 0)
 
 abbrev pub turnAt : List Record → ℕ → Bool
-turnAt l i = isTurn (aimAt l i)
+turnAt l i = (eqb (recordIn l i .code) (ch "3") && eqb (getD (recordIn l i .words) 0 0) 0) || eqb (recordIn l i .code) (ch "2")
 
--- the mark of the target: own place and offset
-abbrev pub farAt : List Record → ℕ → ℕ
-farAt l i = i + offsetOf (aimAt l i)
+-- where a loop, jump or wait leads to: own place plus offset
+abbrev pub leadsTo : ℕ → ℤ → ℤ
+leadsTo place offset = pos place +ℤ offset
+
+-- its offset is its second number
+abbrev pub targetAt : List Record → ℕ → ℤ
+targetAt l i = leadsTo i (nth (recordIn l i .words) 1)
 
 unfoldable pub checkOf : List Record → Verdict
-checkOf l = checked (loopAt l) (turnAt l) (farAt l) (length l)
+checkOf l = checked (loopAt l) (turnAt l) (targetAt l) (length l)
 
 -- ---- of a store: its part in use is read first. More than 1,000 records is a state that every call refuses (103).
 

@@ -1,3 +1,5 @@
+pub mod Marks
+pub mod Aims
 pub mod Work
 pub mod Target
 pub mod Decode

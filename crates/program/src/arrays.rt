@@ -3,7 +3,8 @@ ghost use mathlib.Core.Path.{_≡_};
 ghost use mathlib.Core.Bool.{cond};
 ghost use Prim.Native.Nat.{_+_, _≤_};
 ghost use lib.ListN.{getD};
-ghost use Rattle.program.specs.Check.{tally, meets, overlaps, early, outside, checked, mark};
+ghost use Rattle.program.specs.work.Marks.{meets, overlaps, early, outside, checked, mark};
+ghost use Rattle.program.specs.Check.{tally};
 ghost use Rattle.program.specs.work.Work.{loopIn, turnIn, farIn, spans, heldBy, straysBy, letterBy, Lists};
 use crate::Verdict;
 

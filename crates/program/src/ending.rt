@@ -1,7 +1,8 @@
 // The check at the end line, from the bytes of a store: each record is read once, into the arrays of the call.
 ghost use mathlib.Core.Path.{_≡_};
 ghost use lib.ListN.{length, take};
-ghost use Rattle.program.specs.Program.{aimOf, verdictOf};
+ghost use Rattle.program.specs.work.Aims.{aimOf};
+ghost use Rattle.program.specs.Program.{verdictOf};
 ghost use Rattle.program.specs.work.Decode.{kindOf, clip, kept};
 use crate::Verdict;
 use crate::arrays::check_arrays;

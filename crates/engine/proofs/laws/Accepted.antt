@@ -19,7 +19,8 @@ use Rattle.program.specs.declared.Loops.{Loops}
 use Rattle.program.specs.declared.Way.{Way}
 use Rattle.program.specs.declared.Going.{Going}
 use Rattle.program.specs.Onward.{onwardOf}
-use Rattle.program.proofs.laws.Run.{recordIn, Accepted}
+use Rattle.program.specs.Program.{recordIn}
+use Rattle.program.proofs.laws.Run.{Accepted}
 use Rattle.program.proofs.laws.Sends.{on-other}
 use Rattle.program.proofs.laws.Discipline.{Disciplined, FaresBy, Fares, fares}
 use Rattle.engine.specs.declared.Answer.the-variants as answer

@@ -17,8 +17,8 @@ use Rattle.record.specs.Places.{inUse, Records, are, none-are, onto, then, reco
 use Rattle.record.proofs.laws.Walk.{front-stands}
 use Rattle.program.specs.declared.Verdict.{Verdict}
 use Rattle.program.specs.declared.Verdict.the-variants.{Sound, Unreadable}
-use Rattle.program.specs.Program.{verdictOn, verdictOf, isSound, passes, axesSet, passing, accepted}
-use Rattle.program.proofs.laws.Run.{recordIn, Accepted}
+use Rattle.program.specs.Program.{recordIn, verdictOn, verdictOf, isSound, passes, axesSet, passing, accepted}
+use Rattle.program.proofs.laws.Run.{Accepted}
 
 -- ---- the check computes it
 
@@ -74,7 +74,7 @@ records-count h s l e = subst (Counted (h .records)) e (counted (h .axes) (h .re
 
 -- ---- every record of a readable store is right
 
-abbrev Rights : ℕ → Records → Type 0
+abbrev pub Rights : ℕ → Records → Type 0
 Rights axes (are l) = (i : ℕ) → i < length l → isRight axes (recordIn l i) ≡ true
 Rights axes none-are = Unit
 
@@ -92,7 +92,7 @@ rights-then axes k s (Got r) e f = rights-onto axes r (recordsFrom axes k (drop 
 rights-then axes k s End e f = tt
 rights-then axes k s Wrong e f = tt
 
-rights : (axes k : ℕ) (s : List ℕ) → Rights axes (recordsFrom axes k s)
+pub rights : (axes k : ℕ) (s : List ℕ) → Rights axes (recordsFrom axes k s)
 unfolding recordsFrom
 rights axes zero [] = λ i u. absurd (omega arith)
 rights axes zero (b ∷ s) = tt

@@ -10,7 +10,8 @@ use Rattle.count.specs.Pick.{pick}
 use Rattle.count.proofs.laws.Truth.{never, and-parts, both}
 use Rattle.program.specs.declared.Verdict.{Verdict}
 use Rattle.program.specs.declared.Verdict.the-variants.{Sound, Fault}
-use Rattle.program.specs.Check.{mark, some, tally, holds, meets, overlaps, holders, strays, outside, early, letter, faultFrom, checked}
+use Rattle.program.specs.work.Marks.{mark, holds, meets, overlaps, holders, strays, outside, early, letter, checked}
+use Rattle.program.specs.Check.{some, tally, faultFrom}
 use Rattle.program.proofs.laws.Flow.{Flow}
 use Rattle.program.proofs.laws.Flow as flow
 
@@ -44,7 +45,7 @@ module _ (loop turn : ℕ → Bool) (far : ℕ → ℕ) (n : ℕ) where
   at-or-behind : {p i : ℕ} → (i ≡ p → ⊥) → p ≤ i → suc p ≤ i
   at-or-behind d h = omega arith
 
-  fine-at : (k p : ℕ) → faultFrom loop turn far n k p ≡ Sound → (i : ℕ) → p ≤ i → i < p + k → letter loop turn far n i ≡ 0
+  fine-at : (k p : ℕ) → faultFrom (letter loop turn far n) k p ≡ Sound → (i : ℕ) → p ≤ i → i < p + k → letter loop turn far n i ≡ 0
   fine-at zero p e i g h = absurd (omega arith)
   fine-at (suc k) p e i g h =
       let d = fine-go (eqb (letter loop turn far n p) 0) k p i (letter loop turn far n p) refl e in

@@ -15,7 +15,7 @@ use Rattle.count.proofs.laws.Laws.{signed-low, signed-high}
 use Rattle.count.proofs.laws.Truth.{and-left}
 use Rattle.record.specs.declared.Record.{Record}
 use Rattle.record.specs.Bytes.{isRight}
-use Rattle.program.specs.Program.{aimOf, goes, jumps, waits, loops, shift, offsetOf}
+use Rattle.program.specs.work.Aims.{aimOf, goes, jumps, waits, loops, shift, offsetOf}
 use Rattle.program.proofs.laws.Right.{wait-right, jump-right, loop-right, back-in}
 use Rattle.program.specs.work.Decode.{clip, kept}
 

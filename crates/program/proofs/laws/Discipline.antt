@@ -13,7 +13,6 @@ use Rattle.count.specs.Pick.{pick}
 use Rattle.count.specs.Ranges.{nth}
 use Rattle.count.proofs.laws.Truth.{never}
 use Rattle.record.specs.declared.Record.{Record}
-use Rattle.record.specs.Bytes.{isRight}
 use Rattle.program.specs.declared.Verdict.{Verdict}
 use Rattle.program.specs.declared.Verdict.the-variants.{Sound, Fault, Unreadable}
 use Rattle.program.specs.declared.Loop.{Loop}
@@ -21,17 +20,19 @@ use Rattle.program.specs.declared.Loops.{Loops}
 use Rattle.program.specs.declared.Going.{Going}
 use Rattle.program.specs.declared.Going.the-variants.{To, Waits, Wrong}
 use Rattle.program.specs.declared.Way.{Way}
-use Rattle.program.specs.Check.{mark}
-use Rattle.program.specs.Program.{Aim, goes, jumps, waits, loops, shift, aimOf, isLoop, isTurn, offsetOf, aimAt, loopAt, turnAt, checkOf, isSound, passes}
+use Rattle.program.specs.work.Marks.{mark}
+use Rattle.program.specs.work.Aims.{Aim, goes, jumps, waits, loops, shift, aimOf, isLoop, isTurn, offsetOf, aimAt, loopAt, turnAt, markedOf}
+use Rattle.program.specs.Program.{recordIn, checkOf, isSound, passes}
 use Rattle.program.specs.Onward.{noLoops, onwardOf}
-use Rattle.program.proofs.laws.Right.{loop-right, back-in}
+use Rattle.program.proofs.laws.Right.{loop-right}
+use Rattle.program.proofs.laws.Marks.{aimBy, loop-offset, turn-offset, marked-same}
 use Rattle.program.proofs.laws.Flow.{Next, Fail, Here}
 use Rattle.program.proofs.laws.Flow as flow
 use Rattle.program.proofs.laws.Nest.{Secure, Inv, Good, good-goes}
 use Rattle.program.proofs.laws.Secure.{Back, placed, inField, flowAt, secure, target-in, start-in}
 use Rattle.program.proofs.laws.Stack.{stackOf, viewBy, view, view-looped, Shaped, shaped-none, shaped-onward}
 use Rattle.program.proofs.laws.Sends.{on-other, on-wait, on-jump, on-loop}
-use Rattle.program.proofs.laws.Run.{recordIn, Accepted, Standing, Stands, Lost, takenBy, taken, stepOf, runOf, begin}
+use Rattle.program.proofs.laws.Run.{Accepted, Standing, Stands, Lost, takenBy, taken, stepOf, runOf, begin}
 
 -- ---- the invariant
 
@@ -58,25 +59,13 @@ sound-of Sound e = refl
 sound-of (Fault a p) e = never e
 sound-of Unreadable e = never e
 
--- a record by its tests
-abbrev aimBy : Bool → Bool → Bool → ℕ → ℕ → Aim
-aimBy x y z c s = pick x (pick z (jumps s) (loops c s)) (pick y (waits s) goes)
-
 module _ (axes : ℕ) (l : List Record) (a : Accepted axes l) where
-  pub fine : checkOf l ≡ Sound
+  pub fine : markedOf l ≡ Sound
   unfolding passes
-  fine = sound-of (checkOf l) (a .passing)
-
-  back-by : (r : Record) → isRight axes r ≡ true → (x y z : Bool) → eqb (r .code) 51 ≡ x → eqb (getD (r .words) 0 0) 0 ≡ z
-      → isLoop (aimBy x y z (getD (r .words) 0 0) (shift (nth (r .words) 1))) ≡ true → offsetOf (aimBy x y z (getD (r .words) 0 0) (shift (nth (r .words) 1))) ≤ 32767
-  back-by r h true y true p q e = never e
-  back-by r h true y false p q e = back-in (nth (r .words) 1) (loop-right axes r h (eqb-true _ _ p) (eqb-false _ _ q) .2) .1
-  back-by r h false true z p q e = never e
-  back-by r h false false z p q e = never e
+  fine = sym (marked-same l axes (a .right)) ∙ sound-of (checkOf l) (a .passing)
 
   pub back : Back l
-  unfolding aimOf
-  back i h = back-by (recordIn l i) (a .right i h) (eqb (recordIn l i .code) 51) (eqb (recordIn l i .code) 50) (eqb (getD (recordIn l i .words) 0 0) 0) refl refl
+  back i h e = let d = loop-offset axes (recordIn l i) (a .right i h) e in omega (arith, d .1, d .2)
 
   pub secured : Secure (flowAt l) (length l)
   secured = secure l back fine
@@ -107,18 +96,6 @@ module _ (axes : ℕ) (l : List Record) (a : Accepted axes l) where
         ap (view b) (on-wait axes r (a .right p g) p (length l) o g (d .0) (d .1) h i)
     step-by false false z h i j t k = ap (view b) (on-other r p (length l) o g h i)
 
-    off-turn : (x y z : Bool) → isTurn (aimBy x y z (getD (r .words) 0 0) off) ≡ true → offsetOf (aimBy x y z (getD (r .words) 0 0) off) ≡ off
-    off-turn true y true e = refl
-    off-turn true y false e = refl
-    off-turn false true z e = refl
-    off-turn false false z e = never e
-
-    off-loop : (x y z : Bool) → isLoop (aimBy x y z (getD (r .words) 0 0) off) ≡ true → offsetOf (aimBy x y z (getD (r .words) 0 0) off) ≡ off
-    off-loop true y true e = refl
-    off-loop true y false e = refl
-    off-loop false true z e = refl
-    off-loop false false z e = never e
-
     abbrev x : Bool
     x = eqb (r .code) 51
 
@@ -129,12 +106,10 @@ module _ (axes : ℕ) (l : List Record) (a : Accepted axes l) where
     z = eqb (getD (r .words) 0 0) 0
 
     turn-facts : turnAt l p ≡ true → (32768 ≤ p + off) × (p + off ≤ mark (length l))
-    unfolding aimOf
-    turn-facts e = let d = target-in l back fine p g e in let f = off-turn x y z e in (omega (arith, d .0), omega (arith, d .1))
+    turn-facts e = let d = target-in l back fine p g e in let f = turn-offset axes r (a .right p g) e .1 in (omega (arith, d .0), omega (arith, d .1))
 
     loop-facts : loopAt l p ≡ true → (32768 ≤ p + off) × (p + off < mark p)
-    unfolding aimOf
-    loop-facts e = let d = start-in l back fine p g e in let f = off-loop x y z e in (omega (arith, d .0), omega (arith, d .1))
+    loop-facts e = let d = start-in l back fine p g e in let f = loop-offset axes r (a .right p g) e .1 in (omega (arith, d .0), omega (arith, d .1))
 
     pub step : view b (onwardOf r p (length l) o) ≡ flow.goes (flowAt l p) b p (stackOf o)
     unfolding aimOf

@@ -7,7 +7,7 @@ use mathlib.Core.Path.{_≡_, refl, sym, _∙_, ap, subst}
 use native.Mathlib.Omega.{arith}
 use borrow.Author.Tests.{leb-true, lt-ltb, ltb-true, eqb-true, eqb-false, eq-eqb, ne-eqb}
 use lib.Dec.{ltb, leb, eqb}
-use lib.IntN.{ℤ, negsuc}
+use lib.IntN.{ℤ, pos, negsuc}
 use lib.ListN.{length, getD}
 use Rattle.count.specs.Pick.{pick}
 use Rattle.count.specs.Ranges.{nth, inBack}
@@ -19,11 +19,14 @@ use Rattle.program.specs.declared.Loops.{Loops}
 use Rattle.program.specs.declared.Going.{Going}
 use Rattle.program.specs.declared.Going.the-variants.{To, Waits, Wrong}
 use Rattle.program.specs.declared.Way.{Way}
-use Rattle.program.specs.Check.{mark, holds}
-use Rattle.program.specs.Program.{Aim, goes, loops, shift, aimOf, isLoop, offsetOf, aimAt, loopAt, farAt}
+use Rattle.program.specs.Check.{holds}
+use Rattle.program.specs.work.Marks.{mark}
+use Rattle.program.specs.work.Marks as marks
+use Rattle.program.specs.work.Aims.{Aim, goes, loops, shift, aimOf, isLoop, offsetOf, aimAt, loopAt, turnAt, farAt}
 use Rattle.program.specs.Onward.{counter, onwardOf}
 use Rattle.program.specs.Rounds.{Rounds}
 use Rattle.program.proofs.laws.Right.{loop-right}
+use Rattle.program.proofs.laws.Marks.{mark-is, holds-same, loops-same, goes-back, leads-on}
 use Rattle.program.proofs.laws.Clean.{holds-yes}
 use Rattle.program.proofs.laws.Flow.{Round, Next, Fail, Here, nextOf, noted}
 use Rattle.program.proofs.laws.Flow as flow
@@ -32,7 +35,9 @@ use Rattle.program.proofs.laws.Nest as nest
 use Rattle.program.proofs.laws.Turns.{due, dueN, cycle-go}
 use Rattle.program.proofs.laws.Secure.{placed, inField, flowAt, loop-in, start-in}
 use Rattle.program.proofs.laws.Stack.{stack, stackOf, viewBy}
-use Rattle.program.proofs.laws.Run.{recordIn, Accepted, Standing, Stands, Lost, takenBy, taken, stepOf, begin, placeOf, turnsOf}
+use Rattle.program.specs.Program.{recordIn, targetAt}
+use Rattle.program.specs.Program as program
+use Rattle.program.proofs.laws.Run.{Accepted, Standing, Stands, Lost, takenBy, taken, stepOf, begin, placeOf, turnsOf}
 use Rattle.program.proofs.laws.Discipline.{Disciplined, Fine, back, fine, secured, step, steps, begins}
 
 -- ---- the open counters
@@ -70,14 +75,20 @@ module _ (axes : ℕ) (l : List Record) (a : Accepted axes l) where
       go true e f = rw (eqb-true j d e) g
       go false e f = f (less h (eqb-false _ _ e))
 
+  held : (p i : ℕ) → holds (program.loopAt l) (targetAt l) i (pos p) ≡ marks.holds (loopAt l) (farAt l) i (mark p)
+  held p i =
+      ap (λ (t : ℕ → Bool). holds t (targetAt l) i (pos p)) (loops-same l)
+      ∙ holds-same (loopAt l) (turnAt l) (targetAt l) (farAt l) (length l) (goes-back l axes (a .right)) (leads-on l axes (a .right)) i (mark p) (pos p) (mark-is p)
+
   -- EVERY OPEN COUNTER belongs to a loop whose range holds the place
   pub open-holds : (p : ℕ) (o : Loops) → Disciplined l p o → (j : ℕ) → j < o .depth
-      → (placeAt o j < length l) × (loopAt l (placeAt o j) ≡ true) × (holds (loopAt l) (farAt l) (placeAt o j) (mark p) ≡ true)
+      → (placeAt o j < length l) × (program.loopAt l (placeAt o j) ≡ true) × (holds (program.loopAt l) (targetAt l) (placeAt o j) (pos p) ≡ true)
   open-holds p o d j h =
       let b = begun-at p (o .at) (o .depth) j (d .nested .begun) h in
       let c = covers-at p (o .at) (o .depth) j (covers (flowAt l) (length l) p p (stackOf o) (omega arith) (d .nested .rising)) h in
       let e = loop-in l (back axes l a) (fine axes l a) (placeAt o j) (b .0) in
-      (e .0, e .1, holds-yes (loopAt l) (farAt l) (placeAt o j) (mark p) (e .1) (omega (arith, e .2, b .1)) (omega arith))
+      let f = holds-yes (loopAt l) (farAt l) (placeAt o j) (mark p) (e .1) (omega (arith, e .2, b .1)) (omega arith) in
+      (e .0, ap (λ (t : ℕ → Bool). t (placeAt o j)) (loops-same l) ∙ e .1, held p (placeAt o j) ∙ f)
 
   rises : (m : List Loop) (d n j k : ℕ) → Rising (flowAt l) (length l) n (stack d m) → j < k → k < d → getD m k (counter 0 0) .place < getD m j (counter 0 0) .place
   rises m zero n j k r h g = absurd (omega arith)

@@ -1,40 +1,41 @@
 -- What the check's answer means: nothing at any place, or the fault of the smallest place that has one, and of this place's faults the
 -- earlier letter. Assumes nothing.
-use Prim.Native.Nat.{ℕ, zero, suc, _+_, _-_, _≤_, _<_}
+use Prim.Native.Nat.{ℕ, zero, suc, _+_, _≤_, _<_}
 use mathlib.Core.Bool.{Bool, true, false}
 use mathlib.Core.Path.{_≡_, refl, sym, subst}
 use native.Mathlib.Omega.{arith}
 use borrow.Author.Tests.{eqb-true, eqb-false}
 use lib.Dec.{eqb, ltb}
+use lib.IntN.{ℤ}
 use Rattle.program.specs.declared.Verdict.{Verdict}
 use Rattle.program.specs.declared.Verdict.the-variants.{Sound, Fault, Unreadable}
 use Rattle.count.specs.Pick.{pick}
 use Rattle.program.specs.Check.{outside, early, overlaps, holders, strays, letter, faultFrom, checked}
 
-module _ (loop turn : ℕ → Bool) (far : ℕ → ℕ) (n : ℕ) where
+module _ (loop turn : ℕ → Bool) (target : ℕ → ℤ) (n : ℕ) where
   -- no fault among k places from p on
-  none : (k p : ℕ) → ((i : ℕ) → p ≤ i → i < p + k → letter loop turn far n i ≡ 0) → faultFrom loop turn far n k p ≡ Sound
+  none : (k p : ℕ) → ((i : ℕ) → p ≤ i → i < p + k → letter loop turn target n i ≡ 0) → faultFrom (letter loop turn target n) k p ≡ Sound
   none zero p h = refl
   none (suc k) p h = rw (h p (omega arith) (omega arith)) (none k (suc p) (λ i g f. h i (omega arith) (omega arith)))
 
   -- SOUND if no place has a fault (and only then: `clean` of Clean)
-  pub sound-if : ((i : ℕ) → i < n → letter loop turn far n i ≡ 0) → checked loop turn far n ≡ Sound
+  pub sound-if : ((i : ℕ) → i < n → letter loop turn target n i ≡ 0) → checked loop turn target n ≡ Sound
   unfolding checked
   sound-if h = none n 0 (λ i g f. h i (omega arith))
 
   -- what a fault found says
   pub record First (a p : ℕ) : Type 0 where
     pub in-field : p < n
-    pub its-letter : letter loop turn far n p ≡ a
+    pub its-letter : letter loop turn target n p ≡ a
     pub a-fault : a ≡ 0 → ⊥
-    pub smallest : (i : ℕ) → i < p → letter loop turn far n i ≡ 0
+    pub smallest : (i : ℕ) → i < p → letter loop turn target n i ≡ 0
 
   abbrev Told : ℕ → ℕ → Verdict → Type 0
   Told k p Sound = Unit
   Told k p Unreadable = ⊥
-  Told k p (Fault a q) = (p ≤ q) × (q < p + k) × (letter loop turn far n q ≡ a) × (a ≡ 0 → ⊥) × ((i : ℕ) → p ≤ i → i < q → letter loop turn far n i ≡ 0)
+  Told k p (Fault a q) = (p ≤ q) × (q < p + k) × (letter loop turn target n q ≡ a) × (a ≡ 0 → ⊥) × ((i : ℕ) → p ≤ i → i < q → letter loop turn target n i ≡ 0)
 
-  told-up : (k p : ℕ) (v : Verdict) → letter loop turn far n p ≡ 0 → Told k (suc p) v → Told (suc k) p v
+  told-up : (k p : ℕ) (v : Verdict) → letter loop turn target n p ≡ 0 → Told k (suc p) v → Told (suc k) p v
   told-up k p Sound e t = tt
   told-up k p Unreadable e t = t
   told-up k p (Fault a q) e (g, h, l, z, s) = (omega arith, omega arith, l, z, (λ i f u. go (eqb i p) i refl f u))
@@ -42,21 +43,21 @@ module _ (loop turn : ℕ → Bool) (far : ℕ → ℕ) (n : ℕ) where
       beyond : {p i : ℕ} → (i ≡ p → ⊥) → p ≤ i → suc p ≤ i
       beyond d h = omega arith
 
-      go : (b : Bool) (i : ℕ) → eqb i p ≡ b → p ≤ i → i < q → letter loop turn far n i ≡ 0
-      go true i b f u = subst (λ (j : ℕ). letter loop turn far n j ≡ 0) (sym (eqb-true _ _ b)) e
+      go : (b : Bool) (i : ℕ) → eqb i p ≡ b → p ≤ i → i < q → letter loop turn target n i ≡ 0
+      go true i b f u = subst (λ (j : ℕ). letter loop turn target n j ≡ 0) (sym (eqb-true _ _ b)) e
       go false i b f u = s i (beyond (eqb-false _ _ b) f) u
 
-  told-go : (b : Bool) (k p : ℕ) → eqb (letter loop turn far n p) 0 ≡ b → Told k (suc p) (faultFrom loop turn far n k (suc p))
-      → Told (suc k) p (pick b (faultFrom loop turn far n k (suc p)) (Fault (letter loop turn far n p) p))
-  told-go true k p e t = told-up k p (faultFrom loop turn far n k (suc p)) (eqb-true _ _ e) t
+  told-go : (b : Bool) (k p : ℕ) → eqb (letter loop turn target n p) 0 ≡ b → Told k (suc p) (faultFrom (letter loop turn target n) k (suc p))
+      → Told (suc k) p (pick b (faultFrom (letter loop turn target n) k (suc p)) (Fault (letter loop turn target n p) p))
+  told-go true k p e t = told-up k p (faultFrom (letter loop turn target n) k (suc p)) (eqb-true _ _ e) t
   told-go false k p e t = (omega arith, omega arith, refl, eqb-false _ _ e, (λ i f u. absurd (omega arith)))
 
-  told : (k p : ℕ) → Told k p (faultFrom loop turn far n k p)
+  told : (k p : ℕ) → Told k p (faultFrom (letter loop turn target n) k p)
   told zero p = tt
-  told (suc k) p = told-go (eqb (letter loop turn far n p) 0) k p refl (told k (suc p))
+  told (suc k) p = told-go (eqb (letter loop turn target n p) 0) k p refl (told k (suc p))
 
   -- A FAULT is that of the smallest place
-  pub first : (a p : ℕ) → checked loop turn far n ≡ Fault a p → First a p
+  pub first : (a p : ℕ) → checked loop turn target n ≡ Fault a p → First a p
   unfolding checked
   first a p e =
       let t = subst (Told n 0) e (told n 0) in
@@ -66,14 +67,14 @@ module _ (loop turn : ℕ → Bool) (far : ℕ → ℕ) (n : ℕ) where
 
   -- what each letter says of a place: its own condition holds, and none of those before it
   pub record Says (p a : ℕ) : Type 0 where
-    pub says-a : a ≡ 97 → outside turn far n p ≡ true
-    pub says-b : a ≡ 98 → (outside turn far n p ≡ false) × (early loop far p ≡ true)
-    pub says-c : a ≡ 99 → (outside turn far n p ≡ false) × (early loop far p ≡ false) × (overlaps loop far p ≡ true)
-    pub says-d : a ≡ 100 → (outside turn far n p ≡ false) × (early loop far p ≡ false) × (overlaps loop far p ≡ false) × (ltb 7 (holders loop far n p) ≡ true)
+    pub says-a : a ≡ 97 → outside turn target n p ≡ true
+    pub says-b : a ≡ 98 → (outside turn target n p ≡ false) × (early loop target p ≡ true)
+    pub says-c : a ≡ 99 → (outside turn target n p ≡ false) × (early loop target p ≡ false) × (overlaps loop target p ≡ true)
+    pub says-d : a ≡ 100 → (outside turn target n p ≡ false) × (early loop target p ≡ false) × (overlaps loop target p ≡ false) × (ltb 7 (holders loop target n p) ≡ true)
     pub says-e : a ≡ 101
-        → (outside turn far n p ≡ false) × (early loop far p ≡ false) × (overlaps loop far p ≡ false) × (ltb 7 (holders loop far n p) ≡ false) × (strays loop turn far n p ≡ true)
+        → (outside turn target n p ≡ false) × (early loop target p ≡ false) × (overlaps loop target p ≡ false) × (ltb 7 (holders loop target n p) ≡ false) × (strays loop turn target n p ≡ true)
 
-  says-by : (p : ℕ) (a b c d e : Bool) → outside turn far n p ≡ a → early loop far p ≡ b → overlaps loop far p ≡ c → ltb 7 (holders loop far n p) ≡ d → strays loop turn far n p ≡ e
+  says-by : (p : ℕ) (a b c d e : Bool) → outside turn target n p ≡ a → early loop target p ≡ b → overlaps loop target p ≡ c → ltb 7 (holders loop target n p) ≡ d → strays loop turn target n p ≡ e
       → Says p (pick a 97 (pick b 98 (pick c 99 (pick d 100 (pick e 101 0)))))
   says-by p true b c d e q r s t u =
       record { says-a = λ z. q; says-b = λ z. absurd (omega arith); says-c = λ z. absurd (omega arith); says-d = λ z. absurd (omega arith); says-e = λ z. absurd (omega arith) }
@@ -89,6 +90,6 @@ module _ (loop turn : ℕ → Bool) (far : ℕ → ℕ) (n : ℕ) where
       record { says-a = λ z. absurd (omega arith); says-b = λ z. absurd (omega arith); says-c = λ z. absurd (omega arith); says-d = λ z. absurd (omega arith); says-e = λ z. absurd (omega arith) }
 
   -- THE EARLIER LETTER
-  pub earlier : (p : ℕ) → Says p (letter loop turn far n p)
+  pub earlier : (p : ℕ) → Says p (letter loop turn target n p)
   unfolding letter
-  earlier p = says-by p (outside turn far n p) (early loop far p) (overlaps loop far p) (ltb 7 (holders loop far n p)) (strays loop turn far n p) refl refl refl refl refl
+  earlier p = says-by p (outside turn target n p) (early loop target p) (overlaps loop target p) (ltb 7 (holders loop target n p)) (strays loop turn target n p) refl refl refl refl refl

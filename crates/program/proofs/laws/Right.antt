@@ -18,7 +18,7 @@ use Rattle.count.proofs.laws.Truth.{never, and-parts}
 use Rattle.record.specs.declared.Record.{Record}
 use Rattle.record.specs.Fault.{isCode, countRight, axesRight, rangesRight, speedsRight, loopRight, faultOf}
 use Rattle.record.specs.Bytes.{isRight}
-use Rattle.program.specs.Program.{shift}
+use Rattle.program.specs.work.Aims.{shift}
 
 fourth : (a b c d e : Bool) → pick {A = ℕ} a (pick b (pick c (pick d (pick e 48 68) 49) 51) 55) 53 ≡ 48 → d ≡ true
 fourth true true true true e h = refl

@@ -10,9 +10,9 @@ use lib.ListN.{length}
 use Rattle.count.proofs.laws.Truth.{and-parts}
 use Rattle.record.specs.declared.Record.{Record}
 use Rattle.program.specs.declared.Verdict.the-variants.{Sound}
-use Rattle.program.specs.Check.{mark, holds, meets, overlaps, holders, strays, outside, early}
-use Rattle.program.specs.Program.{Aim, goes, jumps, waits, loops, offsetOf, aimAt, loopAt, turnAt, farAt, checkOf}
-use Rattle.program.specs.Program as program
+use Rattle.program.specs.work.Marks.{mark, holds, meets, overlaps, holders, strays, outside, early}
+use Rattle.program.specs.work.Aims.{Aim, goes, jumps, waits, loops, offsetOf, aimAt, loopAt, turnAt, farAt, markedOf}
+use Rattle.program.specs.work.Aims as aims
 use Rattle.program.proofs.laws.Flow.{Flow, Ahead, Jump, Wait, Round, Halt}
 use Rattle.program.proofs.laws.Flow as flow
 use Rattle.program.proofs.laws.Nest.{is-true, Secure}
@@ -33,21 +33,21 @@ inField false f = Halt
 abbrev pub flowAt : List Record → ℕ → Flow
 flowAt l i = inField (ltb i (length l)) (placed i (aimAt l i))
 
-loop-case : (i : ℕ) (b : Bool) (x : Aim) → T (flow.isLoop (inField b (placed i x))) → (b ≡ true) × (program.isLoop x ≡ true) × (flow.startOf (inField b (placed i x)) ≡ i + offsetOf x - 32768)
+loop-case : (i : ℕ) (b : Bool) (x : Aim) → T (flow.isLoop (inField b (placed i x))) → (b ≡ true) × (aims.isLoop x ≡ true) × (flow.startOf (inField b (placed i x)) ≡ i + offsetOf x - 32768)
 loop-case i false x t = absurd t
 loop-case i true goes t = absurd t
 loop-case i true (jumps o) t = absurd t
 loop-case i true (waits o) t = absurd t
 loop-case i true (loops c o) t = (refl, refl, refl)
 
-pub jump-case : (i q : ℕ) (b : Bool) (x : Aim) → inField b (placed i x) ≡ Jump q → (b ≡ true) × (program.isTurn x ≡ true) × (q ≡ i + offsetOf x - 32768)
+pub jump-case : (i q : ℕ) (b : Bool) (x : Aim) → inField b (placed i x) ≡ Jump q → (b ≡ true) × (aims.isTurn x ≡ true) × (q ≡ i + offsetOf x - 32768)
 jump-case i q false x t = (cc, cc, cc)
 jump-case i q true goes t = (cc, cc, cc)
 jump-case i q true (jumps o) t = (cc, cc, cc)
 jump-case i q true (waits o) t = (cc, cc, cc)
 jump-case i q true (loops c o) t = (cc, cc, cc)
 
-pub wait-case : (i q : ℕ) (b : Bool) (x : Aim) → inField b (placed i x) ≡ Wait q → (b ≡ true) × (program.isTurn x ≡ true) × (q ≡ i + offsetOf x - 32768)
+pub wait-case : (i q : ℕ) (b : Bool) (x : Aim) → inField b (placed i x) ≡ Wait q → (b ≡ true) × (aims.isTurn x ≡ true) × (q ≡ i + offsetOf x - 32768)
 wait-case i q false x t = (cc, cc, cc)
 wait-case i q true goes t = (cc, cc, cc)
 wait-case i q true (jumps o) t = (cc, cc, cc)
@@ -58,9 +58,9 @@ wait-case i q true (loops c o) t = (cc, cc, cc)
 abbrev pub Back : List Record → Type 0
 Back l = (i : ℕ) → i < length l → loopAt l i ≡ true → offsetOf (aimAt l i) ≤ 32767
 
-module _ (l : List Record) (back : Back l) (fine : checkOf l ≡ Sound) where
+module _ (l : List Record) (back : Back l) (fine : markedOf l ≡ Sound) where
   pub cleans : (p : ℕ) → p < length l → Clean (loopAt l) (turnAt l) (farAt l) (length l) p
-  unfolding checkOf
+  unfolding markedOf
   cleans = clean (loopAt l) (turnAt l) (farAt l) (length l) fine
 
   abbrev IsLoop : ℕ → Type 0

@@ -16,8 +16,8 @@ use Rattle.record.specs.declared.Record.{Record}
 use Rattle.record.specs.Bytes.{isRight}
 use Rattle.program.specs.declared.Loops.{Loops}
 use Rattle.program.specs.declared.Going.the-variants.{Waits}
-use Rattle.program.specs.Check.{mark}
-use Rattle.program.specs.Program.{shift}
+use Rattle.program.specs.work.Marks.{mark}
+use Rattle.program.specs.work.Aims.{shift}
 use Rattle.program.specs.Onward.{inside, targetOf, aimed, looped, onwardOf, went, to}
 use Rattle.program.proofs.laws.Right.{wait-right, jump-right, loop-right, back-in}
 use Rattle.program.proofs.laws.Target.{sends}

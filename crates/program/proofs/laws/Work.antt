@@ -1,5 +1,5 @@
 -- The check as the code makes it: over two arrays, with the places of the loops kept in a third, so that each walk goes over the loops
--- alone; and that it gives the letters of Check. Assumes nothing.
+-- alone; and that it gives the letters of Marks. Assumes nothing.
 use Prim.Native.Nat.{ℕ, zero, suc, _+_}
 use mathlib.Core.Bool.{Bool, true, false, cond, not, _&&_, _||_, Bool·beq}
 use mathlib.Core.List.{List}
@@ -7,7 +7,8 @@ use mathlib.Core.Path.{_≡_, refl, sym, _∙_, ap, fun-ext}
 use native.Mathlib.Omega.{arith}
 use lib.Dec.{leb}
 use lib.ListN.{getD}
-use Rattle.program.specs.Check.{mark, some, tally, holds, holders, strays, letter}
+use Rattle.program.specs.work.Marks.{mark, holds, holders, strays, letter}
+use Rattle.program.specs.Check.{some, tally}
 use Rattle.program.specs.work.Work.{Lists, heldBy, letterBy, spans, straysBy}
 
 module _ (loop : ℕ → Bool) (es : List ℕ) where

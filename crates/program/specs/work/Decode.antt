@@ -4,7 +4,7 @@ use lib.Dec.{eqb, ltb}
 use lib.ListN.{getD}
 use Rattle.count.specs.Pick.{pick}
 use Rattle.record.specs.declared.Record.{Record}
-use Rattle.program.specs.Program.{Aim, goes, jumps, waits, loops}
+use Rattle.program.specs.work.Aims.{Aim, goes, jumps, waits, loops}
 
 -- 1 a loop, 2 a jump or wait, 0 neither
 abbrev pub kindOf : Aim → ℕ

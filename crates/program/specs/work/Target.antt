@@ -4,7 +4,7 @@ use lib.IntN.{ℤ}
 use Rattle.count.specs.Pick.{pick}
 use Rattle.program.specs.declared.Target.{Target}
 use Rattle.program.specs.declared.Target.the-variants.{At, Outside}
-use Rattle.program.specs.Onward.{inside, targetOf, to}
+use Rattle.program.specs.Onward.{inside, targetOf}
 
 -- a place from place 0 to the end place, or outside
 unfoldable pub leads : ℕ → ℤ → ℕ → Target

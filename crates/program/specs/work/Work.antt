@@ -6,7 +6,8 @@ use mathlib.Core.Path.{_≡_}
 use lib.Dec.{ltb, leb, eqb}
 use lib.ListN.{getD}
 use Rattle.count.specs.Pick.{pick}
-use Rattle.program.specs.Check.{mark, some, tally, holds, outside, early, overlaps}
+use Rattle.program.specs.work.Marks.{mark, outside, early, overlaps}
+use Rattle.program.specs.Check.{some, tally}
 
 -- a program as two lists: what each place is, and its offset counted from -32,768
 abbrev pub loopIn : List ℕ → ℕ → Bool

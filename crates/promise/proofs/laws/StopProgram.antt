@@ -14,8 +14,8 @@ use Rattle.record.specs.Bytes.{bytes4, numBytes, encode, wordAt, wordsOf, front
 use Rattle.record.specs.Fault.{isCode, countRight, axesRight, loopRight, rangesRight, speedsRight, faultOf}
 use Rattle.record.specs.Keep.{hasRoom, storeOf}
 use Rattle.record.specs.Places.{recordsFrom, recordsOf}
-use Rattle.program.specs.Check.{holds, meets, early, overlaps, holders, outside, strays, letter, checked}
-use Rattle.program.specs.Program.{aimOf, checkOf, verdictOf}
+use Rattle.program.specs.Check.{holds, share, around, crosses, early, overlaps, holders, outside, strays, letter, checked}
+use Rattle.program.specs.Program.{checkOf, verdictOf}
 use Rattle.board.specs.Storing.{recordReply, storedSaid}
 use Rattle.engine.specs.declared.Job.the-variants as job
 use Rattle.engine.specs.Sound.{soundOf}
@@ -67,7 +67,7 @@ computed : (idles (almost .0) ≡ true)
     × (receiving 13 noPorts (almost .0) (replicate 32 0) (almost .1) .result .refusal ≡ 0)
     × (receiving 13 noPorts (almost .0) (replicate 32 0) (almost .1) .result .len ≡ 0)
     × (program .0 .engine .run .job ≡ job.Ready) × (program .0 .engine .held .records ≡ 1) × (stoppable (program .0) ≡ true)
-unfolding reached text within in24 signed word placed added inSpeed rightCount rightZ2 rightDistances rightSpeeds counted behind letterOf afterAddress directOf codeOf storedOf digitsBehind digitsOf numberOf parted itemsOf numbersOf bytes4 numBytes encode wordAt wordsOf front isCode countRight axesRight loopRight rangesRight speedsRight faultOf hasRoom storeOf recordsFrom recordsOf holds meets early overlaps holders outside strays letter checked aimOf checkOf verdictOf soundOf receiving first replyOf directSaid earOf returned gathering hearing gathered sound recordReply storedSaid
+unfolding reached text within in24 signed word placed added inSpeed rightCount rightZ2 rightDistances rightSpeeds counted behind letterOf afterAddress directOf codeOf storedOf digitsBehind digitsOf numberOf parted itemsOf numbersOf bytes4 numBytes encode wordAt wordsOf front isCode countRight axesRight loopRight rangesRight speedsRight faultOf hasRoom storeOf recordsFrom recordsOf holds share around crosses early overlaps holders outside strays letter checked checkOf verdictOf soundOf receiving first replyOf directSaid earOf returned gathering hearing gathered sound recordReply storedSaid
 computed = (refl, refl, refl, refl, refl, refl)
 
 pub program-begun : Begun ours program

@@ -1,6 +1,6 @@
 -- `program::early` meets its contract. Assumes nothing.
 use borrow.Author.Needs.{needs}
-use Rattle.program.specs.Check.{early}
+use Rattle.program.specs.work.Marks.{early}
 use Rattle.program.proofs.arrays.early.Statement.{statement}
 use Rattle.program.proofs.arrays.early.Tie as tie
 

@@ -2,7 +2,8 @@
 use Prim.Native.Nat.{_+_, _-_}
 use mathlib.Core.Path.{_≡_}
 use native.Mathlib.Omega.{arith}
-use Rattle.program.specs.Check.{checked, faultFrom}
+use Rattle.program.specs.work.Marks.{letter, checked}
+use Rattle.program.specs.Check.{faultFrom}
 use Rattle.program.specs.work.Work.{loopIn, turnIn, farIn}
 use Rattle.program.proofs.Walks.{from-start, from-hit, from-on, from-end, quick-letter}
 use borrow.Author.Needs.{needs}
@@ -11,7 +12,7 @@ use Rattle.program.proofs.arrays.first_fault.Tie as tie
 
 abbrev Inv-loop : tie.InvT-loop
 Inv-loop ends count kinds offsets n p₀ left₀ p left =
-    (p + left ≡ n) × (checked (loopIn kinds) (turnIn kinds) (farIn offsets) n ≡ faultFrom (loopIn kinds) (turnIn kinds) (farIn offsets) n left p)
+    (p + left ≡ n) × (checked (loopIn kinds) (turnIn kinds) (farIn offsets) n ≡ faultFrom (letter (loopIn kinds) (turnIn kinds) (farIn offsets) n) left p)
 
 abbrev μ-loop : tie.MeasureT-loop
 μ-loop ends count kinds offsets n p₀ left₀ p left = left

@@ -1,6 +1,6 @@
 -- `program::meets` meets its contract. Assumes nothing.
 use borrow.Author.Needs.{needs}
-use Rattle.program.specs.Check.{meets}
+use Rattle.program.specs.work.Marks.{meets}
 use Rattle.program.proofs.arrays.meets.Statement.{statement}
 use Rattle.program.proofs.arrays.meets.Tie as tie
 

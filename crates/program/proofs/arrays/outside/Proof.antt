@@ -1,6 +1,6 @@
 -- `program::outside` meets its contract. Assumes nothing.
 use borrow.Author.Needs.{needs}
-use Rattle.program.specs.Check.{outside}
+use Rattle.program.specs.work.Marks.{outside}
 use Rattle.program.proofs.arrays.outside.Statement.{statement}
 use Rattle.program.proofs.arrays.outside.Tie as tie
 

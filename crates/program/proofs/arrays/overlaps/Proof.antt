@@ -1,7 +1,8 @@
 -- `program::overlaps` meets its contract. Assumes nothing.
 use borrow.Author.Needs.{needs}
 use mathlib.Core.Path.{_≡_, sym}
-use Rattle.program.specs.Check.{some, overlaps, meets}
+use Rattle.program.specs.work.Marks.{overlaps, meets}
+use Rattle.program.specs.Check.{some}
 use Rattle.program.specs.work.Work.{loopIn, farIn}
 use Rattle.program.proofs.Walks.{some-hit, some-miss, some-end, overlaps-start, overlaps-not}
 use Rattle.program.proofs.arrays.overlaps.Statement.{statement}

@@ -1,6 +1,6 @@
 -- `program::kind_of` meets its contract. Assumes nothing.
 use borrow.Author.Tests.{eq-eqb, ne-eqb}
-use Rattle.program.specs.Program.{aimOf}
+use Rattle.program.specs.work.Aims.{aimOf}
 use borrow.Author.Needs.{needs}
 use Rattle.program.proofs.ending.kind_of.Statement.{statement}
 use Rattle.program.proofs.ending.kind_of.Tie as tie

@@ -1,7 +1,7 @@
 -- The machines of the fakes: 01's five ("How tight the statements are"), the fourth in both its readings, and others that the demands must
 -- shut out. Each is ours but for the one thing that it does wrong; the files Fakes.. of proofs/laws show which demand it fails.
 use Prim.Native.Nat.{ℕ, _+_}
-use mathlib.Core.Bool.{Bool, true, false, not, _&&_, _||_}
+use mathlib.Core.Bool.{Bool, false, not, _&&_, _||_}
 use mathlib.Core.List.{List, [], _∷_, _++_}
 use lib.Dec.{eqb, ltb}
 use lib.IntN.{pos}

@@ -1,7 +1,7 @@
 -- The fakes that spoil a run at a stop, or at a call that is refused, fail demand 3 in the middle of a run: a direct movement of three steps
 -- on x at speed 600 that each of them comes to from its first state. Assumes nothing.
-use Prim.Native.Nat.{ℕ, suc, _≤_}
-use mathlib.Core.Bool.{Bool, true, false}
+use Prim.Native.Nat.{ℕ, suc}
+use mathlib.Core.Bool.{true}
 use mathlib.Core.List.{List, [], _∷_, _++_, map}
 use mathlib.Core.Path.{_≡_, refl, sym, _∙_, ap}
 use borrow.Author.Tests.{leb-true, eqb-false}

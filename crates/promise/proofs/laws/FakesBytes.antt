@@ -1,8 +1,8 @@
 -- A board that answers every line as ours does and loses the bytes at the end line fails the round trip. Assumes nothing.
 use Prim.Native.Nat.{ℕ, zero, suc, _<_, _≤_}
 use native.Mathlib.Omega.{arith}
-use mathlib.Core.Bool.{true, false}
-use mathlib.Core.List.{List, [], _∷_}
+use mathlib.Core.Bool.{true}
+use mathlib.Core.List.{List, _∷_}
 use mathlib.Core.Path.{_≡_, refl, ap}
 use borrow.Author.Tests.{eqb-false, leb-true}
 use lib.ListN.{getD, length, replicate}

@@ -1,6 +1,5 @@
 -- A fake that is ours up to the first stop and afterwards shows another board or gives other answers (`sinceStop`) makes our steps,
 -- whatever it shows: its places, and what of its schedules counts, are ours. Assumes nothing.
-use Prim.Native.Nat.{ℕ}
 use mathlib.Core.Bool.{Bool, true, false, _&&_}
 use mathlib.Core.List.{List, [], _∷_}
 use mathlib.Core.Path.{_≡_, refl, _∙_, ap}

@@ -1,9 +1,8 @@
 -- 01's first three fakes fail demand 2 on a state that they come to from their first one: they do not follow the definitions. So does the
 -- machine that does not see what 103 refuses, on a state that it is given. Assumes nothing.
-use Prim.Native.Nat.{ℕ}
 use mathlib.Core.Bool.{false}
-use mathlib.Core.List.{List, [], _∷_}
-use mathlib.Core.Path.{_≡_, refl, ap}
+use mathlib.Core.List.{[]}
+use mathlib.Core.Path.{refl, ap}
 use borrow.Author.Tests.{eqb-false}
 use lib.ListN.{getD}
 use Rattle.count.specs.Numbers.{within, in24, signed, word, placed, added}

@@ -1,8 +1,8 @@
 -- The client's fault and its like: a machine whose loops go back one record short, and one that passes over a record after a movement, come
 -- by another route through a program than demand 2 says. Each program is typed in from the machine's first state. Assumes nothing.
-use Prim.Native.Nat.{ℕ, zero, suc, _<_}
+use Prim.Native.Nat.{ℕ}
 use native.Mathlib.Omega.{arith}
-use mathlib.Core.Bool.{true, false}
+use mathlib.Core.Bool.{true}
 use mathlib.Core.List.{List, [], _∷_}
 use mathlib.Core.Path.{_≡_, refl}
 use borrow.Author.Tests.{eqb-false}

@@ -2,12 +2,11 @@
 -- run without end, and fails the sum of the pulses (demand 2). With the pulses muted it fails demand 3 by its pulses alone: its boards and
 -- stores, so its last positions, origins and outputs, are ours at every moment. Assumes nothing.
 use mathlib.Core.Bool.{Bool, true, false, not, _&&_, _||_, true≢false}
-use mathlib.Core.List.{List, [], _∷_, _++_, map}
+use mathlib.Core.List.{List, _++_, map}
 use mathlib.Core.Path.{_≡_, refl, sym, _∙_, ap}
 use Prim.Native.Nat.{ℕ, _≤_}
 use Rattle.count.specs.Pick.{pick}
 use Rattle.count.specs.Paper.{Paper}
-use Rattle.engine.specs.declared.Engine.{Engine}
 use Rattle.engine.specs.declared.Job.{Job}
 use Rattle.engine.specs.declared.Job.the-variants as job
 use Rattle.engine.specs.State.{withAt}
@@ -15,7 +14,7 @@ use Rattle.board.specs.declared.Board.{Board}
 use Rattle.board.specs.State.{board, noLine}
 use Rattle.promise.specs.Machine.{ours}
 use Rattle.promise.specs.Demands.{isWaiting}
-use Rattle.promise.specs.Stop.{Step, Mildly, restsBy, takes, over, unsped, speedsOf, final, Place, boardAt, last, answers, counted, taken, Begun, Same, Begins, SameWhenOver, SameAsFarAsFollowed}
+use Rattle.promise.specs.Stop.{Step, Mildly, restsBy, takes, over, unsped, speedsOf, final, Place, boardAt, last, answers, counted, taken, Begun, SameWhenOver, SameAsFarAsFollowed}
 use Rattle.promise.specs.Three.{Equals, Agrees, Never}
 use Rattle.promise.specs.Fakes.{claimed, claim, claims, muted, mutes}
 use Rattle.promise.proofs.laws.StopLaws.{Alike, fits, same-over, same-begin, begins-of}

@@ -1,8 +1,7 @@
 -- 01's fourth fake, in both its readings, fails demand 2 on a state that it comes to from its first one: its positions are not the sum of
 -- its pulses. A movement of three steps on x, stopped after the first. Assumes nothing.
-use mathlib.Core.Bool.{false}
 use mathlib.Core.List.{List, [], _∷_, _++_}
-use mathlib.Core.Path.{_≡_, refl, ap}
+use mathlib.Core.Path.{refl, ap}
 use borrow.Author.Tests.{eqb-false}
 use Rattle.count.specs.Numbers.{within, in24, signed, word, placed, added}
 use Rattle.count.specs.Ranges.{inSpeed, rightCount, rightZ2, rightDistances, rightSpeeds}

@@ -5,7 +5,7 @@ use lib.IntN.{ℤ, pos, negsuc}
 use lib.ListN.{replicate}
 use Rattle.course.specs.Walk.{noStore}
 use Rattle.promise.specs.Machine.{Lent, lent, Event, byte}
-use Rattle.promise.specs.Stop.{Step, receive, call, own}
+use Rattle.promise.specs.Stop.{Step, receive, own}
 
 -- a reply buffer of 32 bytes
 abbrev pub reply0 : List ℕ

@@ -64,6 +64,15 @@ ordinary waits byte ports b store = said (board (heard byte (b .engine)) (b .sta
 
 -- ---- the three control codes
 
+abbrev pub stopCode : ℕ
+stopCode = 253
+
+abbrev pub resetCode : ℕ
+resetCode = 254
+
+abbrev pub breakCode : ℕ
+breakCode = 255
+
 -- stop (253) holds a running movement or program and sends F; it does nothing when idle, storing, stopped, in a delay or in a wait
 abbrev pub holdsBy : Job → Bool
 holdsBy (job.Direct m) = true
@@ -104,7 +113,7 @@ resetSaid b store = said (board (resetOf (b .engine)) false noLine) [] store
 
 unfoldable pub hearing : ℕ → List ℕ → Board → List ℕ → Said
 hearing byte ports b store =
-    pick (eqb byte 253) (stopped b store)
-    (pick (eqb byte 254) (resetSaid b store)
-    (pick (eqb byte 255) (broken b store)
+    pick (eqb byte stopCode) (stopped b store)
+    (pick (eqb byte resetCode) (resetSaid b store)
+    (pick (eqb byte breakCode) (broken b store)
     (ordinary (earOf b) byte ports b store)))

@@ -6,6 +6,7 @@ use mathlib.Core.List.{List, [], _∷_}
 use lib.Dec.{eqb}
 use lib.IntN.{ℤ, pos, _+ℤ_}
 use lib.ListN.{length, getD, take, drop}
+use Rattle.count.specs.Chars.{ch}
 use Rattle.count.specs.Pick.{pick}
 use Rattle.count.specs.Numbers.{value}
 use Rattle.count.specs.Paper.{Paper, says}
@@ -21,7 +22,7 @@ use Rattle.engine.specs.declared.Job.the-variants as job
 use Rattle.engine.specs.State.{names, ceased, emptied}
 use Rattle.board.specs.declared.Board.{Board}
 use Rattle.board.specs.State.{board, noLine, textOf, lineDone}
-use Rattle.board.specs.Receive.{isStoring}
+use Rattle.board.specs.Receive.{isStoring, resetCode}
 use Rattle.course.specs.Run.{runsNow}
 use Rattle.promise.specs.Machine.{Machine, Lent, lent, Heard, Event, byte, clock, next, afterAll}
 
@@ -63,7 +64,7 @@ waits b = isWaiting (b .engine .run .job) && not (b .standing)
 
 abbrev pub isNine : List ℕ → Bool
 isNine [] = false
-isNine (c ∷ []) = eqb c 57
+isNine (c ∷ []) = eqb c (ch "9")
 isNine (c ∷ d ∷ s) = false
 
 -- the end line: `9` alone, on a board that stores
@@ -80,7 +81,7 @@ pub record Untouched (b b′ : Board) (l l′ : Lent) (c : ℕ) (t : List ℕ) :
   pub alone : t ≡ []
   pub reply : l′ .reply ≡ c ∷ drop 1 (l .reply)
   pub store : l′ .store ≡ l .store
-  pub letter : endLine b ≡ true → c ≡ 71
+  pub letter : endLine b ≡ true → c ≡ ch "G"
   pub board : b′ ≡ pick (endLine b) (unstored b) (lineDone b)
 
 -- no reply at a return
@@ -106,20 +107,20 @@ module _ (m : Machine) where
   abbrev pub RefusedLine : Type 0
   RefusedLine =
       (ports : List ℕ) (l : Lent) (s : m .State) (c : ℕ) (t : List ℕ)
-      → hears 13 ports l s .refusal ≡ 0 → replied (hears 13 ports l s) ≡ c ∷ t → (c ≡ 48 → ⊥)
-      → Untouched (m .board s) (boardThen 13 ports l s) l (hears 13 ports l s .after) c t
+      → hears (ch "\r") ports l s .refusal ≡ 0 → replied (hears (ch "\r") ports l s) ≡ c ∷ t → (c ≡ ch "0" → ⊥)
+      → Untouched (m .board s) (boardThen (ch "\r") ports l s) l (hears (ch "\r") ports l s .after) c t
 
   -- a reply that begins with 0 has 1, 3 or 19 bytes
   abbrev pub AcceptedLine : Type 0
   AcceptedLine =
       (v : ℕ) (ports : List ℕ) (l : Lent) (s : m .State) (t : List ℕ)
-      → hears v ports l s .refusal ≡ 0 → replied (hears v ports l s) ≡ 48 ∷ t
+      → hears v ports l s .refusal ≡ 0 → replied (hears v ports l s) ≡ ch "0" ∷ t
       → eqb (hears v ports l s .len) 1 || eqb (hears v ports l s .len) 3 || eqb (hears v ports l s .len) 19 ≡ true
 
   abbrev pub SilentReturn : Type 0
   SilentReturn =
       (ports : List ℕ) (l : Lent) (s : m .State)
-      → hears 13 ports l s .refusal ≡ 0 → hears 13 ports l s .len ≡ 0 → Silent (m .board s) (boardThen 13 ports l s)
+      → hears (ch "\r") ports l s .refusal ≡ 0 → hears (ch "\r") ports l s .len ≡ 0 → Silent (m .board s) (boardThen (ch "\r") ports l s)
 
   -- a refused call leaves state and buffers as given, with no reply, the answer nothing or no text
   abbrev pub RefusedCall : Type 0
@@ -171,13 +172,13 @@ adds a p = pick (eqb (p .number) 1) (getD (p .values) (place a) (pos 0)) (pos 0)
 
 -- the axes line, or N with that axis in its number
 unfoldable pub zeroLine : Axis → Direct → Bool
-zeroLine a d = eqb (letterPaper (d .letter) .number) 48 || (eqb (letterPaper (d .letter) .number) 78 && names (getD (d .words) 0 0) (part a))
+zeroLine a d = eqb (letterPaper (d .letter) .number) (ch "0") || (eqb (letterPaper (d .letter) .number) (ch "N") && names (getD (d .words) 0 0) (part a))
 
 -- a byte sets an axis to zero: a call that is not refused, and reset; or the return of such a line on a board that is idle, answered 0
 unfoldable pub zeroes : Axis → ℕ → Board → Heard → Bool
 zeroes a v b h =
     eqb (h .refusal) 0
-    && (eqb v 254 || (eqb v 13 && idles b && not (b .line .over) && eqb (getD (replied h) 0 0) 48 && zeroLine a (directOf (textOf (b .line)))))
+    && (eqb v resetCode || (eqb v (ch "\r") && idles b && not (b .line .over) && eqb (getD (replied h) 0 0) (ch "0") && zeroLine a (directOf (textOf (b .line)))))
 
 module _ (m : Machine) where
   -- the sum so far with one event more
@@ -237,12 +238,12 @@ pub record Host : Type 0 where
 
 -- the axes line, the line `i`, and the lines of a listing
 abbrev pub storingText : ℕ → List ℕ → List ℕ
-storingText axes lines = 64 ∷ 48 ∷ (48 + axes) ∷ 13 ∷ 64 ∷ 48 ∷ 105 ∷ 13 ∷ lines
+storingText axes lines = ch "@" ∷ ch "0" ∷ (ch "0" + axes) ∷ ch "\r" ∷ ch "@" ∷ ch "0" ∷ ch "i" ∷ ch "\r" ∷ lines
 
 -- each return is answered 0, and no other byte is answered
 abbrev pub zeroAtReturns : List ℕ → List (List ℕ)
 zeroAtReturns [] = []
-zeroAtReturns (v ∷ t) = pick (eqb v 13) (48 ∷ []) [] ∷ zeroAtReturns t
+zeroAtReturns (v ∷ t) = pick (eqb v (ch "\r")) (ch "0" ∷ []) [] ∷ zeroAtReturns t
 
 module _ (m : Machine) where
   -- the state and the store after sending bytes, and the reply to each byte
@@ -290,13 +291,13 @@ module _ (m : Machine) where
   abbrev pub EndAccepts : Type 0
   EndAccepts =
       (es : List Event) (ports : List ℕ) (l : Lent) → endLine (m .board (afterAll m es (m .first))) ≡ true
-      → hears m 13 ports l (afterAll m es (m .first)) .refusal ≡ 0 → getD (replied (hears m 13 ports l (afterAll m es (m .first)))) 0 0 ≡ 48
-      → accepted (boardThen m 13 ports l (afterAll m es (m .first)) .engine .held) (hears m 13 ports l (afterAll m es (m .first)) .after .store) ≡ true
+      → hears m (ch "\r") ports l (afterAll m es (m .first)) .refusal ≡ 0 → getD (replied (hears m (ch "\r") ports l (afterAll m es (m .first)))) 0 0 ≡ ch "0"
+      → accepted (boardThen m (ch "\r") ports l (afterAll m es (m .first)) .engine .held) (hears m (ch "\r") ports l (afterAll m es (m .first)) .after .store) ≡ true
 
   -- both ends joined: once the end line is answered 0, with bytes lent as the store, the program is listed, and its lines store the same
   abbrev pub EndToEnd : Type 0
   EndToEnd =
       (es : List Event) (ports : List ℕ) (l : Lent) (text other : List ℕ) (host : Host) → endLine (m .board (afterAll m es (m .first))) ≡ true
-      → hears m 13 ports l (afterAll m es (m .first)) .refusal ≡ 0 → getD (replied (hears m 13 ports l (afterAll m es (m .first)))) 0 0 ≡ 48
+      → hears m (ch "\r") ports l (afterAll m es (m .first)) .refusal ≡ 0 → getD (replied (hears m (ch "\r") ports l (afterAll m es (m .first)))) 0 0 ≡ ch "0"
       → Below 256 (l .store) → 32768 ≤ length text → length other ≡ 16384 → Below 256 other
-      → ListedAgain (hears m 13 ports l (afterAll m es (m .first)) .after .store) text other host ((m .hear 13 ports l (afterAll m es (m .first))) .0)
+      → ListedAgain (hears m (ch "\r") ports l (afterAll m es (m .first)) .after .store) text other host ((m .hear 13 ports l (afterAll m es (m .first))) .0)

@@ -6,6 +6,7 @@ use mathlib.Core.List.{List, [], _∷_, _++_}
 use lib.Dec.{eqb, ltb}
 use lib.IntN.{pos}
 use lib.ListN.{length, take, drop, getD}
+use Rattle.count.specs.Chars.{ch}
 use Rattle.count.specs.Pick.{pick}
 use Rattle.count.specs.Paper.{Paper, says}
 use Rattle.motion.specs.declared.Counters.{Counters}
@@ -19,7 +20,7 @@ use Rattle.engine.specs.Tick.{ticked, runsOf}
 use Rattle.board.specs.declared.Board.{Board}
 use Rattle.board.specs.declared.Ticked.{Ticked}
 use Rattle.board.specs.State.{board, lineDone}
-use Rattle.board.specs.Receive.{hearing}
+use Rattle.board.specs.Receive.{hearing, stopCode}
 use Rattle.board.specs.Calls.{Outcome, refused, answered, clocked, wentOn, receiving, clocking, fresh}
 use Rattle.course.specs.Walk.{noStore}
 use Rattle.promise.specs.Machine.{Machine, Lent, Heard, Clocked, lent, heardBy, clockedBy, ours}
@@ -46,11 +47,11 @@ saysAlone c l = record { len = 1; refusal = 0; after = lent (c ∷ drop 1 (l .re
 
 -- it refuses all lines: every return is answered 5
 abbrev pub refuses : Machine
-refuses = hearsSo (λ v ports l b. pick (eqb v 13) (lineDone b, saysAlone 53 l) (ours .hear v ports l b))
+refuses = hearsSo (λ v ports l b. pick (eqb v (ch "\r")) (lineDone b, saysAlone (ch "5") l) (ours .hear v ports l b))
 
 -- it replies 0 to all: every return is answered 0
 abbrev pub agrees : Machine
-agrees = hearsSo (λ v ports l b. pick (eqb v 13) (lineDone b, saysAlone 48 l) (ours .hear v ports l b))
+agrees = hearsSo (λ v ports l b. pick (eqb v (ch "\r")) (lineDone b, saysAlone (ch "0") l) (ours .hear v ports l b))
 
 -- its clock call does nothing
 abbrev pub sleeps : Machine
@@ -125,7 +126,7 @@ turns = spoils turned
 
 -- a stop loses a pulse: it makes one clock call whose answer nobody sees
 abbrev pub losesPulse : Machine
-losesPulse = hearsSo (λ v ports l b. ours .hear v ports l (pick (eqb v 253 && stoppable b) ((ours .tick (l .store) b) .0) b))
+losesPulse = hearsSo (λ v ports l b. ours .hear v ports l (pick (eqb v stopCode && stoppable b) ((ours .tick (l .store) b) .0) b))
 
 -- ---- calls that are to be refused
 

@@ -7,6 +7,7 @@ use mathlib.Core.Path.{_≡_}
 use lib.Dec.{eqb}
 use lib.IntN.{ℤ, pos, negsuc, _+ℤ_}
 use lib.ListN.{length, getD}
+use Rattle.count.specs.Chars.{ch}
 use Rattle.count.specs.Pick.{pick}
 use Rattle.count.specs.Ranges.{nth}
 use Rattle.record.specs.declared.Held.{Held}
@@ -90,14 +91,14 @@ pub record Route (l : List Record) (v : List ℕ) : Type 0 where
   pub within : Each (λ p. p ≤ length l) v
   pub ends : after (length l) v ≡ []
   -- a loop at place i with number c and offset -(k + 1): back to i - (k + 1) exactly c times, then on, each time that it is entered
-  pub loops : (i c k : ℕ) → i < length l → codeAt l i ≡ 51 → numberAt l i ≡ c → 0 < c → offsetAt l i ≡ negsuc k →
+  pub loops : (i c k : ℕ) → i < length l → codeAt l i ≡ ch "3" → numberAt l i ≡ c → 0 < c → offsetAt l i ≡ negsuc k →
       Rounds (i - suc k) (suc i) c c (after i v)
   -- a jump, number 0: own place plus offset
-  pub jumps : (i : ℕ) → i < length l → codeAt l i ≡ 51 → numberAt l i ≡ 0 → Each (λ q. pos q ≡ pos i +ℤ offsetAt l i) (after i v)
+  pub jumps : (i : ℕ) → i < length l → codeAt l i ≡ ch "3" → numberAt l i ≡ 0 → Each (λ q. pos q ≡ pos i +ℤ offsetAt l i) (after i v)
   -- a wait: own place plus offset, or the next record
-  pub waits : (i : ℕ) → i < length l → codeAt l i ≡ 50 → Each (Either (pos i +ℤ offsetAt l i) (pos (suc i))) (after i v)
+  pub waits : (i : ℕ) → i < length l → codeAt l i ≡ ch "2" → Each (Either (pos i +ℤ offsetAt l i) (pos (suc i))) (after i v)
   -- every other record: the next one, so that none is passed over
-  pub others : (i : ℕ) → i < length l → (codeAt l i ≡ 51 → ⊥) → (codeAt l i ≡ 50 → ⊥) → Each (λ q. q ≡ suc i) (after i v)
+  pub others : (i : ℕ) → i < length l → (codeAt l i ≡ ch "3" → ⊥) → (codeAt l i ≡ ch "2" → ⊥) → Each (λ q. q ≡ suc i) (after i v)
 
 module _ (m : Machine) where
   -- a program has just been started: a sound board with this part in use, at place 0, with no loop open, that does not stand
@@ -119,7 +120,7 @@ module _ (m : Machine) where
   abbrev pub StartRoutes : Type 0
   StartRoutes =
       (es : List Event) (ports : List ℕ) (l : Lent) → idles (m .board (afterAll m es (m .first))) ≡ true →
-      letterPaper (directOf (textOf (m .board (afterAll m es (m .first)) .line)) .letter) .number ≡ 83 →
-      (m .hear 13 ports l (afterAll m es (m .first))) .1 .refusal ≡ 0 → (m .hear 13 ports l (afterAll m es (m .first))) .1 .len ≡ 0 →
+      letterPaper (directOf (textOf (m .board (afterAll m es (m .first)) .line)) .letter) .number ≡ ch "S" →
+      (m .hear (ch "\r") ports l (afterAll m es (m .first))) .1 .refusal ≡ 0 → (m .hear (ch "\r") ports l (afterAll m es (m .first))) .1 .len ≡ 0 →
       Started (m .board (afterAll m es (m .first)) .engine .held)
-      ((m .hear 13 ports l (afterAll m es (m .first))) .0, (m .hear 13 ports l (afterAll m es (m .first))) .1 .after .store)
+      ((m .hear (ch "\r") ports l (afterAll m es (m .first))) .0, (m .hear (ch "\r") ports l (afterAll m es (m .first))) .1 .after .store)

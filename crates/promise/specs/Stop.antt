@@ -7,6 +7,7 @@ use mathlib.Core.Path.{_≡_}
 use lib.Dec.{leb, eqb, ltb}
 use lib.IntN.{ℤ}
 use lib.ListN.{length, take, drop}
+use Rattle.count.specs.Chars.{ch}
 use Rattle.count.specs.Pick.{pick}
 use Rattle.count.specs.Paper.{Paper, says}
 use Rattle.engine.specs.declared.Engine.{Engine}
@@ -16,6 +17,7 @@ use Rattle.board.specs.declared.Board.{Board}
 use Rattle.line.specs.Lines.{letterPaper, directOf}
 use Rattle.board.specs.State.{board, noLine, textOf, sound}
 use Rattle.board.specs.Direct.{replyOf}
+use Rattle.board.specs.Receive.{stopCode, resetCode}
 use Rattle.promise.specs.Machine.{Machine, Lent, Heard, lent, Event, afterAll}
 use Rattle.promise.specs.Demands.{isWaiting, idles}
 use Rattle.promise.specs.Steps.{Each, reached, shown, Along, keptOf}
@@ -47,7 +49,7 @@ rightly (call d) = isOwn d
 
 -- anything but break and reset, whatever is lent; a break or reset that is refused for what is lent may come too
 abbrev pub Mild : Step → Type 0
-Mild (receive v ports reply d) = (leb 32 (length reply) && isOwn d ≡ true → v < 254) × Elsewhere d
+Mild (receive v ports reply d) = (leb 32 (length reply) && isOwn d ≡ true → v < resetCode) × Elsewhere d
 Mild (call d) = Elsewhere d
 
 abbrev pub Mildly : List Step → Type 0
@@ -55,7 +57,7 @@ Mildly es = Each Mild es
 
 -- a step that is no stop
 abbrev pub Unstopped : Step → Type 0
-Unstopped (receive v ports reply d) = v < 253
+Unstopped (receive v ports reply d) = v < stopCode
 Unstopped (call d) = Unit
 
 -- ---- what counts, by the board at that moment
@@ -153,7 +155,7 @@ module _ (m : Machine) where
   countOf p (call d) = pick (isOwn d && counts (boardAt p)) (call own ∷ []) []
 
   abbrev pub byteOf : Place → Step → List ℕ
-  byteOf p (receive v ports reply d) = pick (rightly (receive v ports reply d) && (ltb v 253 && takes (boardAt p))) (v ∷ []) []
+  byteOf p (receive v ports reply d) = pick (rightly (receive v ports reply d) && (ltb v stopCode && takes (boardAt p))) (v ∷ []) []
   byteOf p (call d) = []
 
   -- a schedule's last place, its clock answers other than nothing, its clock calls that count, and the bytes taken
@@ -213,7 +215,7 @@ module _ (m : Machine) where
   -- ---- the same schedule never stopped: its stops, all that comes while it stands, the bytes that are dropped, and the calls that are
   -- refused for what is lent left out
   abbrev pub stays : Place → Step → Bool
-  stays p (receive v ports reply d) = rightly (receive v ports reply d) && (ltb v 253 && takes (boardAt p))
+  stays p (receive v ports reply d) = rightly (receive v ports reply d) && (ltb v stopCode && takes (boardAt p))
   stays p (call d) = isOwn d && not (boardAt p .standing)
 
   abbrev pub unstopped : Place → List Step → List Step
@@ -249,20 +251,20 @@ module _ (m : Machine) where
   abbrev pub StopHolds : Type 0
   StopHolds =
       (p : Place) (ports reply : List ℕ) → Called p → 32 ≤ length reply → stoppable (boardAt p) ≡ true →
-      Comes (heardAt 253 ports reply p) (board (boardAt p .engine) true (boardAt p .line)) (70 ∷ []) reply (p .1)
+      Comes (heardAt stopCode ports reply p) (board (boardAt p .engine) true (boardAt p .line)) (ch "F" ∷ []) reply (p .1)
 
   abbrev pub StopElseDoesNothing : Type 0
   StopElseDoesNothing =
       (p : Place) (ports reply : List ℕ) → Called p → 32 ≤ length reply → stoppable (boardAt p) ≡ false →
-      Comes (heardAt 253 ports reply p) (boardAt p) [] reply (p .1)
+      Comes (heardAt stopCode ports reply p) (boardAt p) [] reply (p .1)
 
   -- an accepted S goes on with the very engine that stood, and sends nothing
   abbrev pub StartGoesOn : Type 0
   StartGoesOn =
       (p : Place) (ports reply : List ℕ) → Called p → 32 ≤ length reply → boardAt p .standing ≡ true → boardAt p .line .over ≡ false →
-      letterPaper (directOf (textOf (boardAt p .line)) .letter) .number ≡ 83 →
-      replyOf (boardAt p .engine) true (directOf (textOf (boardAt p .line))) ≡ 48 →
-      Comes (heardAt 13 ports reply p) (board (boardAt p .engine) false noLine) [] reply (p .1)
+      letterPaper (directOf (textOf (boardAt p .line)) .letter) .number ≡ ch "S" →
+      replyOf (boardAt p .engine) true (directOf (textOf (boardAt p .line))) ≡ ch "0" →
+      Comes (heardAt (ch "\r") ports reply p) (board (boardAt p .engine) false noLine) [] reply (p .1)
 
   -- ---- where a run begins: from the first state on, after any events, with whatever was lent
 
@@ -277,17 +279,17 @@ module _ (m : Machine) where
   abbrev pub LineBegins : Type 0
   LineBegins =
       (es : List Event) (ports : List ℕ) (l : Lent) → idles (m .board (afterAll m es (m .first))) ≡ true →
-      (m .hear 13 ports l (afterAll m es (m .first))) .1 .refusal ≡ 0 → (m .hear 13 ports l (afterAll m es (m .first))) .1 .len ≡ 0 →
-      Begun ((m .hear 13 ports l (afterAll m es (m .first))) .0, (m .hear 13 ports l (afterAll m es (m .first))) .1 .after .store)
+      (m .hear (ch "\r") ports l (afterAll m es (m .first))) .1 .refusal ≡ 0 → (m .hear (ch "\r") ports l (afterAll m es (m .first))) .1 .len ≡ 0 →
+      Begun ((m .hear (ch "\r") ports l (afterAll m es (m .first))) .0, (m .hear (ch "\r") ports l (afterAll m es (m .first))) .1 .after .store)
 
   -- a stop and the line `@0S`, wherever a stop is allowed, leave everything as it was
   abbrev pub startLine : List ℕ → List ℕ → List Step
-  startLine ports reply = receive 64 ports reply own ∷ receive 48 ports reply own ∷ receive 83 ports reply own ∷ receive 13 ports reply own ∷ []
+  startLine ports reply = receive (ch "@") ports reply own ∷ receive (ch "0") ports reply own ∷ receive (ch "S") ports reply own ∷ receive (ch "\r") ports reply own ∷ []
 
   abbrev pub StopAndStart : Type 0
   StopAndStart =
       (es : List Event) (store ports reply : List ℕ) → length store ≡ 16384 → 32 ≤ length reply →
       stoppable (m .board (afterAll m es (m .first))) ≡ true →
-      (boardAt (ahead (afterAll m es (m .first), store) (receive 253 ports reply own)) .standing ≡ true)
-      × (boardAt (last (afterAll m es (m .first), store) (receive 253 ports reply own ∷ startLine ports reply)) ≡ m .board (afterAll m es (m .first)))
-      × (last (afterAll m es (m .first), store) (receive 253 ports reply own ∷ startLine ports reply) .1 ≡ store)
+      (boardAt (ahead (afterAll m es (m .first), store) (receive stopCode ports reply own)) .standing ≡ true)
+      × (boardAt (last (afterAll m es (m .first), store) (receive stopCode ports reply own ∷ startLine ports reply)) ≡ m .board (afterAll m es (m .first)))
+      × (last (afterAll m es (m .first), store) (receive stopCode ports reply own ∷ startLine ports reply) .1 ≡ store)

@@ -1,13 +1,13 @@
 -- 01, "Prove these": one statement over its list of twelve, about the names that the contracts cite. antt computes each side.
 -- Assumes nothing.
 use Prim.Native.Nat.{ℕ, zero, suc, _+_}
-use Prim.Native.Char.{code}
 use Prim.Native.String as string
 use mathlib.Core.Path.{_≡_}
 use mathlib.Core.Bool.{false}
 use mathlib.Core.List.{List, [], _∷_, _++_}
 use lib.IntN.{ℤ, pos, negsuc}
 use lib.ListN.{take, replicate}
+use Rattle.count.specs.Chars.{codes}
 use Rattle.count.specs.Numbers.{value, count, half}
 use Rattle.count.specs.Paper.{Paper, says}
 use Rattle.sheet.specs.declared.Rate.the-variants.{PerMinute}
@@ -19,11 +19,6 @@ use Rattle.board.specs.State.{board, noLine}
 use Rattle.board.specs.Calls.{receiving, clocking, fresh}
 use Rattle.course.specs.Run.{course}
 use Rattle.course.specs.Walk.{walked, noPorts, noStore, most}
-
--- a text as its characters' numbers
-unfoldable pub text : string.String → List ℕ
-text string.[] = []
-text (string._∷_ c s) = code c ∷ text s
 
 -- ---- a history: bytes through `receiving`, each with a reply buffer of 32 bytes, and clock calls through `clocking`
 
@@ -89,14 +84,14 @@ standsAt z = standsOn (count z)
 
 -- what a fresh board comes to by a text
 abbrev pub told : string.String → History
-told s = sends (text s) (from fresh)
+told s = sends (codes s) (from fresh)
 
 -- ---- the twelve
 
 -- (1) the pulses of 01, "walk"
 abbrev pub One : Type 0
 One =
-    walked (text "@03\r@0A3,600,1,900\r") ≡ text "walk\nR 0\nP +.. 600\nP ++. 600\nP +.. 600\nR 0\nE 3 1 0\n"
+    walked (codes "@03\r@0A3,600,1,900\r") ≡ codes "walk\nR 0\nP +.. 600\nP ++. 600\nP +.. 600\nR 0\nE 3 1 0\n"
 
 -- (2) distances 4,-2: x with y, x, x with y, x; then 0
 abbrev pub Two : Type 0
@@ -108,34 +103,34 @@ Two =
 abbrev pub Three : Type 0
 Three =
     let h = told "@01\r@0i\r01,600\r3 25,-1\r9\r@0S\r" in
-    (h .replies ≡ text "00000") × (ticks 53 h .answers ≡ times 26 (pulse (pos 1) (pos 0)) done ++ send0 ∷ [])
+    (h .replies ≡ codes "00000") × (ticks 53 h .answers ≡ times 26 (pulse (pos 1) (pos 0)) done ++ send0 ∷ [])
     × (value (course most (h .store) (h .board) .board .engine .at .x) ≡ pos 26) × (course most (h .store) (h .board) .calls ≡ 53)
 
 -- (4) `3 0,5` at place 0 goes to 5 by one clock call
 abbrev pub Four : Type 0
 Four =
     let h = told "@01\r@0i\r3 0,5\r51\r51\r51\r51\r01,600\r9\r@0S\r" in
-    (h .replies ≡ text "000000000") × (h .board .engine .run .place ≡ 0) × (ticks 1 h .board .engine .run .place ≡ 5)
+    (h .replies ≡ codes "000000000") × (h .board .engine .run .place ≡ 0) × (ticks 1 h .board .engine .run .place ≡ 5)
 
 -- (5) in a two-record field, target 2 passes and 3 is G
 abbrev pub Five : Type 0
 Five =
-    (told "@01\r@0i\r3 0,2\r51\r9\r" .replies ≡ text "00000") × (told "@01\r@0i\r3 0,3\r51\r9\r" .replies ≡ text "0000G")
+    (told "@01\r@0i\r3 0,2\r51\r9\r" .replies ≡ codes "00000") × (told "@01\r@0i\r3 0,3\r51\r9\r" .replies ≡ codes "0000G")
 
 -- (6) `3 2,-1` directly after `3 25,-1` is G, `3 2,-2` is not
 abbrev pub Six : Type 0
 Six =
-    (told "@01\r@0i\r51\r3 25,-1\r3 2,-1\r9\r" .replies ≡ text "00000G") × (told "@01\r@0i\r51\r3 25,-1\r3 2,-2\r9\r" .replies ≡ text "000000")
+    (told "@01\r@0i\r51\r3 25,-1\r3 2,-1\r9\r" .replies ≡ codes "00000G") × (told "@01\r@0i\r51\r3 25,-1\r3 2,-2\r9\r" .replies ≡ codes "000000")
 
 -- (7) -2 reports FFFFFE
 abbrev pub Seven : Type 0
 Seven =
-    sends (text "@0P\r") (from (standsAt (negsuc 1))) .replies ≡ text "0FFFFFE000000000000"
+    sends (codes "@0P\r") (from (standsAt (negsuc 1))) .replies ≡ codes "0FFFFFE000000000000"
 
 -- (8) 256 reports 000100
 abbrev pub Eight : Type 0
 Eight =
-    sends (text "@0P\r") (from (standsAt (pos 256))) .replies ≡ text "0000100000000000000"
+    sends (codes "@0P\r") (from (standsAt (pos 256))) .replies ≡ codes "0000100000000000000"
 
 -- (9) lead 5, 400 steps, gear 1, 10 mm is 800
 abbrev pub Nine : Type 0
@@ -155,8 +150,8 @@ Eleven =
 -- (12) 8,388,607 plus 1 is 9, and the board is the same
 abbrev pub Twelfth : Type 0
 Twelfth =
-    let h = sends (text "@0A1,600\r") (from (standsAt (pos 8388607))) in
-    (h .replies ≡ text "9") × (h .board ≡ standsAt (pos 8388607)) × (h .store ≡ noStore) × (h .refusal ≡ 0)
+    let h = sends (codes "@0A1,600\r") (from (standsAt (pos 8388607))) in
+    (h .replies ≡ codes "9") × (h .board ≡ standsAt (pos 8388607)) × (h .store ≡ noStore) × (h .refusal ≡ 0)
 
 -- the whole list
 abbrev pub Twelve : Type 0

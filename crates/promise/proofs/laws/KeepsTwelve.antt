@@ -2,6 +2,7 @@
 -- own examples. Assumes nothing.
 use mathlib.Core.Path.{_≡_, refl, ap, _∙_}
 use lib.IntN.{pos}
+use Rattle.count.specs.Chars.{codes}
 use Rattle.count.specs.Numbers.{count}
 use Rattle.count.specs.Numbers.{within, in24, signed, word, placed, added}
 use Rattle.count.specs.Ranges.{inSpeed, inOffset, inBack, inLoop, inDelay, inCharacter, inSwitch, inPort, inByte, inZero, rightCount, rightZ2, rightDistances, rightSpeeds}
@@ -32,21 +33,21 @@ use Rattle.course.specs.Text.{pulseText, positionsText}
 use Rattle.course.specs.Walk.{walkedFrom, walked}
 use Rattle.sheet.proofs.laws.Examples.{nine, ten, eleven}
 use Rattle.course.specs.Walk.{noStore}
-use Rattle.promise.specs.Twelve.{History, from, standsOn, standsAt, text, sends, ticks, One, Two, Three, Four, Five, Six, Seven, Eight, Twelve}
+use Rattle.promise.specs.Twelve.{History, from, standsOn, standsAt, sends, ticks, One, Two, Three, Four, Five, Six, Seven, Eight, Twelve}
 
 -- (1) to (3), which run
 ran : One × Two × Three
-unfolding sends ticks text within in24 signed word placed added inSpeed inOffset inBack inLoop inDelay inCharacter inSwitch inPort inByte inZero rightCount rightZ2 rightDistances rightSpeeds hexDigit hexes twos24 report twoHex decimal digits shown fromOf toOf speedAt skipped nextBy pulseOf afterOf leftOf pulses steps signAt countAfter goal goalX goalY goalZ1 goalZ2 firstSpeed laterSpeed route goingTo planOf counted inRange underWay behind letterOf afterAddress directOf codeOf storedOf digitsBehind digitsOf numberOf parted itemsOf numbersOf bytes4 numBytes encode wordAt wordsOf front isCode countRight axesRight loopRight rangesRight speedsRight faultOf hasRoom storeOf recordAt spotFrom spotOf fetchOf recordsFrom recordsOf holds share around crosses early overlaps holders outside strays letter checked inside again opens looped aimed onwardOf checkOf verdictOf soundOf mixed resetOf heard beginOf performed ticked runsOf receiving clocking first replyOf directSaid earOf returned gathering stopped broken resetSaid hearing gathered sound recordReply storedSaid runsNow course pulseText positionsText walkedFrom walked
+unfolding sends ticks within in24 signed word placed added inSpeed inOffset inBack inLoop inDelay inCharacter inSwitch inPort inByte inZero rightCount rightZ2 rightDistances rightSpeeds hexDigit hexes twos24 report twoHex decimal digits shown fromOf toOf speedAt skipped nextBy pulseOf afterOf leftOf pulses steps signAt countAfter goal goalX goalY goalZ1 goalZ2 firstSpeed laterSpeed route goingTo planOf counted inRange underWay behind letterOf afterAddress directOf codeOf storedOf digitsBehind digitsOf numberOf parted itemsOf numbersOf bytes4 numBytes encode wordAt wordsOf front isCode countRight axesRight loopRight rangesRight speedsRight faultOf hasRoom storeOf recordAt spotFrom spotOf fetchOf recordsFrom recordsOf holds share around crosses early overlaps holders outside strays letter checked inside again opens looped aimed onwardOf checkOf verdictOf soundOf mixed resetOf heard beginOf performed ticked runsOf receiving clocking first replyOf directSaid earOf returned gathering stopped broken resetSaid hearing gathered sound recordReply storedSaid runsNow course pulseText positionsText walkedFrom walked
 ran = (refl, refl, (refl, refl, refl, refl))
 
 -- (12): the board at 8,388,607 and its line
 abbrev last : History
-last = sends (text "@0A1,600\r") (from (standsAt (pos 8388607)))
+last = sends (codes "@0A1,600\r") (from (standsAt (pos 8388607)))
 
 -- (4) to (8) and (12), lines and their replies
 replied : Four × Five × Six × Seven × Eight
-    × ((last .replies ≡ text "9") × (last .board ≡ standsOn 16777215) × (last .store ≡ noStore) × (last .refusal ≡ 0))
-unfolding sends ticks text within in24 signed word placed added inSpeed inOffset inBack inLoop inDelay inCharacter inSwitch inPort inByte inZero rightCount rightZ2 rightDistances rightSpeeds hexDigit hexes twos24 report twoHex decimal digits shown fromOf toOf speedAt skipped nextBy pulseOf afterOf leftOf pulses steps signAt countAfter goal goalX goalY goalZ1 goalZ2 firstSpeed laterSpeed route goingTo planOf counted inRange underWay behind letterOf afterAddress directOf codeOf storedOf digitsBehind digitsOf numberOf parted itemsOf numbersOf bytes4 numBytes encode wordAt wordsOf front isCode countRight axesRight loopRight rangesRight speedsRight faultOf hasRoom storeOf recordAt spotFrom spotOf fetchOf recordsFrom recordsOf holds share around crosses early overlaps holders outside strays letter checked inside again opens looped aimed onwardOf checkOf verdictOf soundOf mixed resetOf heard beginOf performed ticked runsOf receiving clocking first replyOf directSaid earOf returned gathering stopped broken resetSaid hearing gathered sound recordReply storedSaid runsNow course pulseText positionsText walkedFrom walked
+    × ((last .replies ≡ codes "9") × (last .board ≡ standsOn 16777215) × (last .store ≡ noStore) × (last .refusal ≡ 0))
+unfolding sends ticks within in24 signed word placed added inSpeed inOffset inBack inLoop inDelay inCharacter inSwitch inPort inByte inZero rightCount rightZ2 rightDistances rightSpeeds hexDigit hexes twos24 report twoHex decimal digits shown fromOf toOf speedAt skipped nextBy pulseOf afterOf leftOf pulses steps signAt countAfter goal goalX goalY goalZ1 goalZ2 firstSpeed laterSpeed route goingTo planOf counted inRange underWay behind letterOf afterAddress directOf codeOf storedOf digitsBehind digitsOf numberOf parted itemsOf numbersOf bytes4 numBytes encode wordAt wordsOf front isCode countRight axesRight loopRight rangesRight speedsRight faultOf hasRoom storeOf recordAt spotFrom spotOf fetchOf recordsFrom recordsOf holds share around crosses early overlaps holders outside strays letter checked inside again opens looped aimed onwardOf checkOf verdictOf soundOf mixed resetOf heard beginOf performed ticked runsOf receiving clocking first replyOf directSaid earOf returned gathering stopped broken resetSaid hearing gathered sound recordReply storedSaid runsNow course pulseText positionsText walkedFrom walked
 replied = ((refl, refl, refl), (refl, refl), (refl, refl), refl, refl, (refl, refl, refl, refl))
 
 count-so : 16777215 ≡ count (pos 8388607)

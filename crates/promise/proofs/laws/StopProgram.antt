@@ -5,6 +5,7 @@ use mathlib.Core.Bool.{true}
 use mathlib.Core.List.{List, [], _∷_}
 use mathlib.Core.Path.{_≡_, refl, sym, subst}
 use lib.ListN.{replicate}
+use Rattle.count.specs.Chars.{codes}
 use Rattle.count.specs.Numbers.{within, in24, signed, word, placed, added}
 use Rattle.count.specs.Ranges.{inSpeed, rightCount, rightZ2, rightDistances, rightSpeeds}
 use Rattle.motion.specs.Sound.{counted}
@@ -29,7 +30,6 @@ use Rattle.promise.specs.Machine.{Machine, Lent, lent, ours, Event, byte
 use Rattle.promise.specs.Demands.{idles}
 use Rattle.promise.specs.Steps.{reached}
 use Rattle.promise.specs.Stop.{Step, receive, call, own, Place, lentTo, stoppable, ahead, last, Begun}
-use Rattle.promise.specs.Twelve.{text}
 use Rattle.promise.proofs.laws.StopStarts.{ours-begins}
 
 -- ---- of any machine: a schedule is a list of events
@@ -54,7 +54,7 @@ typed (v ∷ l) = receive v noPorts (replicate 32 0) own ∷ typed l
 
 -- all but the return of S
 abbrev lines : List Step
-lines = typed (text "@01\r@0i\r0 3,600\r9\r@0S")
+lines = typed (codes "@01\r@0i\r0 3,600\r9\r@0S")
 
 abbrev almost : Place ours
 almost = last ours (fresh, noStore) lines
@@ -67,7 +67,7 @@ computed : (idles (almost .0) ≡ true)
     × (receiving 13 noPorts (almost .0) (replicate 32 0) (almost .1) .result .refusal ≡ 0)
     × (receiving 13 noPorts (almost .0) (replicate 32 0) (almost .1) .result .len ≡ 0)
     × (program .0 .engine .run .job ≡ job.Ready) × (program .0 .engine .held .records ≡ 1) × (stoppable (program .0) ≡ true)
-unfolding reached text within in24 signed word placed added inSpeed rightCount rightZ2 rightDistances rightSpeeds counted behind letterOf afterAddress directOf codeOf storedOf digitsBehind digitsOf numberOf parted itemsOf numbersOf bytes4 numBytes encode wordAt wordsOf front isCode countRight axesRight loopRight rangesRight speedsRight faultOf hasRoom storeOf recordsFrom recordsOf holds share around crosses early overlaps holders outside strays letter checked checkOf verdictOf soundOf receiving first replyOf directSaid earOf returned gathering hearing gathered sound recordReply storedSaid
+unfolding reached within in24 signed word placed added inSpeed rightCount rightZ2 rightDistances rightSpeeds counted behind letterOf afterAddress directOf codeOf storedOf digitsBehind digitsOf numberOf parted itemsOf numbersOf bytes4 numBytes encode wordAt wordsOf front isCode countRight axesRight loopRight rangesRight speedsRight faultOf hasRoom storeOf recordsFrom recordsOf holds share around crosses early overlaps holders outside strays letter checked checkOf verdictOf soundOf receiving first replyOf directSaid earOf returned gathering hearing gathered sound recordReply storedSaid
 computed = (refl, refl, refl, refl, refl, refl)
 
 pub program-begun : Begun ours program

@@ -79,7 +79,7 @@ module _ (w : Walk) (store out : List ℕ) where
   unfolding onDone
   on-unready o e = sym (pick-no onward (done w [] store out) (not (w .over) && ready w store out) (λ i. not (o i) && e i))
 
-  went-on : w .over ≡ false → ready w store out ≡ true → onDone w store out ≡ onward
+  pub went-on : w .over ≡ false → ready w store out ≡ true → onDone w store out ≡ onward
   unfolding onDone
   went-on o e = pick-yes onward (done w [] store out) (not (w .over) && ready w store out) (λ i. not (o i) && e i)
 

@@ -1,10 +1,11 @@
 -- The clock calls of a byte's run in portions: once the run is over or its 100,000 calls are made, the walk counts the calls of the whole
 -- run and has its board, however many portions there were and whatever the buffers' lengths. Assumes nothing.
-use Prim.Native.Nat.{ℕ, _+_, _-_, _≤_}
+use Prim.Native.Nat.{ℕ, _+_, _-_, _*_, _/_, _%_, _≤_, _<_, min}
 use mathlib.Core.Path.{_≡_, refl, sym, ap, _∙_}
 use mathlib.Core.Bool.{Bool, true, false, not, _&&_, _||_}
 use mathlib.Core.List.{List, [], _∷_}
 use native.Mathlib.Omega.{arith}
+use native.Mathlib.Nat.{div-add-mod', mod-lt}
 use lib.Dec.{eqb}
 use lib.ListN.{length, drop}
 use borrow.Author.Tests.{eqb-true}
@@ -17,6 +18,7 @@ use Rattle.course.specs.declared.Walk.{Walk}
 use Rattle.course.specs.Text.{replyText}
 use Rattle.course.specs.Run.{runsNow, Course, rests, course, allowed}
 use Rattle.course.specs.Walk.{noPorts, most, Done, done, walk, further, ready, nextDone, onDone}
+use Rattle.course.proofs.Portions.{ready-parts, went-on}
 use Rattle.course.proofs.Bytes.{went-next}
 use Rattle.course.proofs.laws.Portions.{joins, course-off, course-plus, course-few, course-full}
 use Rattle.course.proofs.laws.Ends.{allowed-few}
@@ -160,3 +162,32 @@ module _ (byte : ℕ) (w : Walk) (store out : List ℕ) (outs : List (List ℕ))
       let f : ended v ≡ true = sym (ap ended q) ∙ e in
       counted (course most (s .store) (s .board)) (afterByte byte w store out outs)
       (q ∙ whole-by (s .store) (s .board) v (along (s .store) (s .board) outs u a) (v .over) refl f)
+
+-- ---- and the portions come to an end: five lines fit into 64 bytes
+
+fifth : (n q r : ℕ) → q * 12 + r ≡ n → r < 12 → 64 ≤ n → 5 ≤ q
+fifth n q r p l h = omega arith
+
+least : (limit room : ℕ) → 5 ≤ room → min 5 limit ≤ min limit room
+least limit room h = omega arith
+
+enough : (limit : ℕ) (out : List ℕ) → 64 ≤ length out → min 5 limit ≤ allowed limit out
+unfolding allowed
+enough limit out h =
+    let l : 0 < 12 = omega arith in
+    let n : ℕ = length out in
+    least limit (n / 12) (fifth n (n / 12) (n % 12) (div-add-mod' n 12) (mod-lt n l) h)
+
+grown : (a c j m n : ℕ) → n ≡ a + c → c ≡ j → m ≤ j → a + m ≤ n
+grown a c j m n p q r = omega arith
+
+-- A PORTION of a run that is not over, with a buffer of 64 bytes or more, makes five calls or as many as are left, if it does not end the run
+pub on-grows : (w : Walk) (store out : List ℕ) → ready w store out ≡ true → w .over ≡ false → onDone w store out .portion .walk .over ≡ false
+    → w .calls + min 5 (most - w .calls) ≤ onDone w store out .portion .walk .calls
+on-grows w store out h o v =
+    let j : ℕ = allowed (most - w .calls) out in
+    let c : Course = course j store (w .board) in
+    let p = went-on w store out o h in
+    let r : runsNow (c .board) ≡ true = not-not (runsNow (c .board)) (sym (ap (λ (d : Done). d .portion .walk .over) p) ∙ v) in
+    grown (w .calls) (c .calls) j (min 5 (most - w .calls)) (onDone w store out .portion .walk .calls)
+    (ap (λ (d : Done). d .portion .walk .calls) p) (course-full store j (w .board) r) (enough (most - w .calls) out (ready-parts w store out h .0))

@@ -1,7 +1,7 @@
 -- The ranges that lines and records ask of their numbers (01, "Lines": both tables and the paragraph under the second).
 use mathlib.Core.Bool.{Bool, true, false, _&&_}
 use mathlib.Core.List.{List}
-use Prim.Native.Nat.{ℕ}
+use Prim.Native.Nat.{ℕ, _/_, _%_}
 use lib.Dec.{eqb}
 use lib.IntN.{ℤ, pos, negsuc}
 use lib.ListN.{getD}
@@ -47,6 +47,12 @@ inByte z = within (pos 0) (pos 255) z
 -- the number 0: a jump's number, the output port, an absolute movement's z2
 unfoldable pub inZero : ℤ → Bool
 inZero z = within (pos 0) (pos 0) z
+
+-- ---- axes: 1, 2 and 4 of an axes number are x, y and z, so that 1 is x, 3 is x and y, and 7 is all three
+
+-- an axes number names the axis of this part
+abbrev pub names : ℕ → ℕ → Bool
+names axes part = eqb (axes / part % 2) 1
 
 -- ---- the numbers of a movement (01, "Lines", row A, M; "Movement", sentences 1, 3 and 4): a distance or target and a speed for each
 -- of x, y, z1, z2; under axes 1, 3 and 7 these are one, two and four pairs, and no other axes have a movement

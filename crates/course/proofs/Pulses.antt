@@ -15,7 +15,8 @@ use Rattle.motion.specs.declared.Signs.{Signs}
 use Rattle.motion.specs.declared.Stepped.{Stepped}
 use Rattle.motion.specs.declared.Next.{Next}
 use Rattle.motion.specs.declared.Next.the-variants as next
-use Rattle.motion.specs.Next.{withinOf, atPhase}
+use Rattle.motion.specs.work.Here.{withinOf}
+use Rattle.motion.specs.Next.{atPhase}
 use Rattle.motion.proofs.laws.Within.{within-rest}
 use Rattle.course.specs.Text.{pulseText}
 use Rattle.course.specs.work.Work.{Wrote}

@@ -6,7 +6,7 @@ use mathlib.Core.List.{List, [], _∷_, _++_}
 use native.Mathlib.Omega.{arith}
 use borrow.Rule.Slice.PartMut.{putMid}
 use lib.ListN.{length, take, drop}
-use Rattle.motion.specs.Next.{nextOf}
+use Rattle.motion.specs.work.Here.{nextOf}
 use Rattle.motion.specs.declared.Counters.{Counters}
 use Rattle.motion.specs.declared.Move.{Move}
 use Rattle.record.specs.Places.{fetchOf}
@@ -14,7 +14,7 @@ use Rattle.engine.specs.declared.Engine.{Engine}
 use Rattle.engine.specs.declared.Told.{Told}
 use Rattle.engine.specs.declared.Job.{Job}
 use Rattle.engine.specs.declared.Job.the-variants as job
-use Rattle.engine.specs.State.{glidedBy, glided}
+use Rattle.engine.specs.work.Glide.{glidedBy, glided}
 use Rattle.engine.specs.Tick.{ticked, runsOf}
 use Rattle.course.specs.declared.Went.{Went}
 use Rattle.course.specs.declared.Glided.{Glided}

@@ -1,5 +1,5 @@
 -- The engine's state and what lines and control codes do to it (01, "Lines", table of lines; "Running a program", last paragraph).
-use Prim.Native.Nat.{ℕ, _/_, _%_}
+use Prim.Native.Nat.{ℕ}
 use mathlib.Core.Bool.{Bool, false}
 use mathlib.Core.List.{List, [], _∷_}
 use lib.Dec.{eqb}
@@ -8,6 +8,7 @@ use Rattle.count.specs.Chars.{ch}
 use Rattle.count.specs.Pick.{pick}
 use Rattle.count.specs.Paper.{Paper, says}
 use Rattle.count.specs.Numbers.{half}
+use Rattle.count.specs.Ranges.{names}
 use Rattle.motion.specs.declared.Counters.{Counters}
 use Rattle.motion.specs.declared.Move.{Move}
 use Rattle.motion.specs.declared.Planned.{Planned}
@@ -67,10 +68,6 @@ withJob e j = withRun e (running j (e .run .place) (e .run .loops))
 abbrev pub zeroes : Counters
 zeroes = record { x = half; y = half; z = half }
 
--- x, y and z are 1, 2 and 4 of an axes number
-abbrev pub names : ℕ → ℕ → Bool
-names axes part = eqb (axes / part % 2) 1
-
 -- the counters of the axes named taken from one, the others from another
 unfoldable pub mixed : ℕ → Counters → Counters → Counters
 mixed axes c d = record { x = pick (names axes 1) (c .x) (d .x); y = pick (names axes 2) (c .y) (d .y); z = pick (names axes 4) (c .z) (d .z) }
@@ -98,19 +95,6 @@ ceased e = withRun e idle
 -- a start is at place 0 with no loop open
 abbrev pub started : Engine → Engine
 started e = withRun e (running job.Ready 0 noLoops)
-
--- a movement further on: the counters, and what is left of the movement that is under way
-abbrev pub glidedBy : Job → Counters → Move → Engine → Engine
-glidedBy (job.Direct m) at rest e = withJob (withAt e at) (job.Direct rest)
-glidedBy (job.Moving m) at rest e = withJob (withAt e at) (job.Moving rest)
-glidedBy job.Idle at rest e = e
-glidedBy job.Storing at rest e = e
-glidedBy job.Ready at rest e = e
-glidedBy (job.Delay q) at rest e = e
-glidedBy (job.Wait c t) at rest e = e
-
-unfoldable pub glided : Counters → Move → Engine → Engine
-glided at rest e = glidedBy (e .run .job) at rest e
 
 -- emptying the store sets its used length, records and axes to 0 and leaves its bytes
 abbrev pub nothingHeld : Held

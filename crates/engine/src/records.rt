@@ -3,7 +3,7 @@ ghost use mathlib.Core.Path.{_≡_};
 ghost use Prim.Native.Nat.{_<_, _+_};
 ghost use lib.ListN.{getD};
 ghost use Rattle.motion.specs.Phase.{movedAll};
-ghost use Rattle.motion.specs.Next.{nextOf};
+ghost use Rattle.motion.specs.work.Here.{nextOf};
 ghost use Rattle.motion.specs.Plan.{asked, planOf};
 ghost use Rattle.program.specs.Onward.{onwardOf};
 ghost use Rattle.engine.specs.State.{withRun, withThree, running, originOf};

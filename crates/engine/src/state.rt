@@ -2,10 +2,12 @@
 ghost use mathlib.Core.Path.{_≡_};
 ghost use Prim.Native.Nat.{_<_};
 ghost use Rattle.count.specs.Pick.{pick};
-ghost use Rattle.motion.specs.Next.{nextOf};
+ghost use Rattle.motion.specs.work.Here.{nextOf};
 ghost use Rattle.motion.specs.Plan.{asked, planOf};
 ghost use Rattle.program.specs.Onward.{noLoops};
-ghost use Rattle.engine.specs.State.{withAt, withOrigin, withThree, withOutput, withHeld, withRun, running, withJob, zeroes, names, mixed, axesOf, originOf, zeroOf, idle, ceased, started, glided, nothingHeld, emptied, fresh, storingOf, keptBy, resetOf, heard, begun, begunBy, beginOf};
+ghost use Rattle.engine.specs.work.Glide.{glided};
+ghost use Rattle.count.specs.Ranges.{names};
+ghost use Rattle.engine.specs.State.{withAt, withOrigin, withThree, withOutput, withHeld, withRun, running, withJob, zeroes, mixed, axesOf, originOf, zeroOf, idle, ceased, started, nothingHeld, emptied, fresh, storingOf, keptBy, resetOf, heard, begun, begunBy, beginOf};
 use super::Begun;
 use super::Engine;
 use super::Job;

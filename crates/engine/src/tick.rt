@@ -1,6 +1,6 @@
 // One clock call: the next pulse, one pause, or one record.
 ghost use mathlib.Core.Path.{_≡_};
-ghost use Rattle.motion.specs.Next.{nextOf};
+ghost use Rattle.motion.specs.work.Here.{nextOf};
 ghost use Rattle.record.specs.Places.{fetchOf};
 ghost use Rattle.engine.specs.State.{withJob};
 ghost use Rattle.engine.specs.Tick.{directly, fetched, movingOn, ticked, runsOf};

@@ -1,8 +1,8 @@
 -- A plan from its parts, as the code has them. Assumes nothing.
 use mathlib.Core.Path.{_≡_, sym, _∙_}
-use mathlib.Core.Bool.{true}
+use mathlib.Core.Bool.{true, not, _&&_}
 use Prim.Native.Nat.{ℕ, _≤_}
-use lib.Dec.{leb}
+use lib.Dec.{ltb, leb}
 use lib.ListN.{getD}
 use borrow.Author.Tests.{leb-true}
 use Rattle.count.specs.Pick.{pick}
@@ -12,9 +12,27 @@ use Rattle.count.specs.declared.Placed.the-variants as placed
 use Rattle.count.proofs.laws.Truth.{and-right}
 use Rattle.motion.specs.declared.Move.{Move}
 use Rattle.motion.specs.declared.Planned.the-variants.{Going, Outside}
-use Rattle.motion.specs.Plan.{Asked, goalX, goalY, goalZ1, goalZ2, movesZ2, onFrom, firstSpeed, laterSpeed, route, goingTo}
+use Rattle.motion.specs.Plan.{Asked, goal, goalX, goalY, goalZ1, goalZ2, movesZ2, onFrom, firstSpeed, laterSpeed, route, goingTo}
 use Rattle.motion.specs.Sound.{speedRight}
-use Rattle.motion.proofs.laws.Plans.{first-right, second-right, third-right}
+use Rattle.motion.proofs.laws.Plans.{set-is, first-right, second-right, third-right}
+
+-- the code asks which axes are set by comparison
+module _ (q : Asked) (h : rightSpeeds (q .axes) (q .words) ≡ true) where
+  pub y-by : {g : Placed} → g ≡ pick (ltb 1 (q .axes)) (goal (q .absolute) (q .at .y) (q .origin .y) (getD (q .words) 2 0)) (placed.At (q .at .y)) → g ≡ goalY q
+  unfolding goalY
+  y-by e = e ∙ rw (set-is (q .axes) (q .words) h .0)
+
+  pub z1-by : {g : Placed} → g ≡ pick (ltb 3 (q .axes)) (goal (q .absolute) (q .at .z) (q .origin .z) (getD (q .words) 4 0)) (placed.At (q .at .z)) → g ≡ goalZ1 q
+  unfolding goalZ1
+  z1-by e = e ∙ rw (set-is (q .axes) (q .words) h .1)
+
+  pub z2-by : (z1 : ℕ) {g : Placed} → g ≡ pick (ltb 3 (q .axes) && not (q .three) && not (q .absolute)) (onFrom (placed.At z1) (getD (q .words) 6 0)) (placed.At z1)
+      → g ≡ pick (movesZ2 q) (onFrom (placed.At z1) (getD (q .words) 6 0)) (placed.At z1)
+  z2-by z1 e = e ∙ rw (set-is (q .axes) (q .words) h .1)
+
+  pub later-own : (i : ℕ) {v : ℕ} → v ≡ pick (ltb 3 (q .axes) && not (q .three)) (getD (q .words) i 0) (getD (q .words) 1 0) → v ≡ laterSpeed q i
+  unfolding laterSpeed
+  later-own i e = e ∙ rw (set-is (q .axes) (q .words) h .1)
 
 -- a movement from its resting points and speeds
 pub route-made : (q : Asked) (x y z1 z2 : ℕ) {z v1 w1 v2 w2 v3 w3 : ℕ} → z ≡ pick (q .three) z1 (q .at .z) → v1 ≡ w1 → w1 ≡ firstSpeed q x y

@@ -12,7 +12,7 @@ use Rattle.motion.specs.declared.Counters.{Counters}
 use Rattle.motion.specs.declared.Move.{Move}
 use Rattle.motion.specs.Phase.{steps, countAfter, pulses}
 use Rattle.motion.specs.Next.{fromOf, toOf, leg, afterOf}
-use Rattle.motion.proofs.laws.Axis.{below, above, steps-empty, steps-at-most}
+use Rattle.motion.proofs.laws.Axis.{below, above, steps-is, steps-empty, steps-at-most}
 use Rattle.motion.proofs.laws.Pulses.{pulses-small}
 use Rattle.motion.specs.Sound.{inRange}
 use Rattle.motion.proofs.laws.Passed.{ranges-of, leg-x, leg-y, leg-z}
@@ -33,8 +33,7 @@ quot-test x m s h = by (leb (m * s) x) (ltb x (m * s + m)) (eqb s (x / m)) refl 
     by false b false p q r = refl
 
 pub made-test : (s k d n : ℕ) → 0 < n → leb (2 * n * s) (2 * k * d + n) && ltb (2 * k * d + n) (2 * n * s + 2 * n) ≡ eqb s (steps k d n)
-unfolding steps
-made-test s k d n p = quot-test (2 * k * d + n) (2 * n) s (omega arith)
+made-test s k d n p = rw (steps-is k d n p) (quot-test (2 * k * d + n) (2 * n) s (omega arith))
 
 -- a phase without pulses leaves an axis at its start
 pub stands-empty : (at k from to : ℕ) {n : ℕ} → n ≡ 0 → eqb at from ≡ eqb at (countAfter k from to n)

@@ -9,8 +9,10 @@ use Rattle.motion.specs.declared.Counters.{Counters}
 use Rattle.motion.specs.declared.Signs.{Signs}
 use Rattle.motion.specs.declared.Move.{Move}
 use Rattle.motion.specs.declared.Stepped.{Stepped}
-use Rattle.motion.specs.Phase.{pulses, signHere, movedAll}
-use Rattle.motion.specs.Next.{leg, fromOf, toOf, speedAt, atPhase, signsBy, stepped, withinOf}
+use Rattle.motion.specs.work.Here.{signHere}
+use Rattle.motion.specs.Phase.{pulses, movedAll}
+use Rattle.motion.specs.work.Here.{withinOf}
+use Rattle.motion.specs.Next.{leg, fromOf, toOf, speedAt, atPhase, signsBy, stepped}
 use Rattle.motion.specs.declared.Next.the-variants.{Made, Over}
 use Rattle.motion.proofs.laws.Pulses.{pulses-small, most-x, most-y, most-z}
 

@@ -12,9 +12,9 @@ use Rattle.motion.specs.declared.Move.{Move}
 use Rattle.motion.specs.declared.Stepped.{Stepped}
 use Rattle.motion.specs.declared.Next.{Next}
 use Rattle.motion.specs.declared.Next.the-variants.{Over, Made}
-use Rattle.motion.specs.Phase.{pulses, signAt, signHere, movedAll, signValue}
+use Rattle.motion.specs.Phase.{pulses, signAt, movedAll, signValue}
 
--- where a phase starts and ends; past the third there is nowhere to go
+-- where a phase starts and ends. A movement past its third phase is over: it stays where that phase ended.
 unfoldable pub fromOf : Move → Counters
 fromOf m = pick (eqb (m .phase) 0) (m .start) (pick (eqb (m .phase) 1) (m .first) (pick (eqb (m .phase) 2) (m .second) (m .third)))
 
@@ -25,7 +25,7 @@ toOf m = pick (eqb (m .phase) 0) (m .first) (pick (eqb (m .phase) 1) (m .second)
 abbrev pub leg : Move → ℕ
 leg m = pulses (fromOf m) (toOf m)
 
--- the speed of pulse k of a phase: the phase's, for each of its pulses
+-- the speed of pulse k of a phase: the phase's, for each of its pulses; past the third there is no pulse
 unfoldable pub speedAt : Move → ℕ → ℕ
 speedAt m k = pick (eqb (m .phase) 0) (m .speed1) (pick (eqb (m .phase) 1) (m .speed2) (m .speed3))
 
@@ -42,7 +42,7 @@ atPhase m p k = record {
   made = k;
 }
 
--- a phase whose pulses are made, or that has none, gives way to the next without a call
+-- a phase whose pulses are made, or that has none, gives way to the next without a call; past the third there is no next
 unfoldable pub skipped : Move → Move
 skipped m = pick (leb 3 (m .phase)) m (pick (ltb (m .made) (leg m)) m (atPhase m (m .phase + 1) 0))
 
@@ -76,15 +76,7 @@ nextBy rule m at = withinBy rule (settled m) at
 unfoldable pub pulseOf : Move → Counters → Next
 pulseOf m at = nextBy (λ here from to k n. signAt k from to n) m at
 
--- by the test on where the axis stands: the rule of the code, without a division
-unfoldable pub nextOf : Move → Counters → Next
-nextOf m at = nextBy signHere m at
-
--- by the same test, of the phase under way
-unfoldable pub withinOf : Move → Counters → Next
-withinOf m at = withinBy signHere m at
-
--- the pulses of the phases after the one under way
+-- the pulses of the phases after the one under way; after the third, and past it, there are none
 unfoldable pub afterOf : Move → ℕ
 afterOf m =
     pick (eqb (m .phase) 0) (pulses (m .first) (m .second) + pulses (m .second) (m .third))

@@ -17,26 +17,21 @@ most from to = max (far (from .x) (to .x)) (max (far (from .y) (to .y)) (far (fr
 unfoldable pub pulses : Counters → Counters → ℕ
 pulses from to = pick (ltb 16777215 (most from to)) 0 (most from to)
 
--- after pulse k of n an axis of distance d has made (2k·d + n) divided by 2n, rounded down, steps
+-- after pulse k of n an axis of distance d has made (2k·d + n) divided by 2n, rounded down, steps; in a phase without a pulse none
 unfoldable pub steps : ℕ → ℕ → ℕ → ℕ
-steps k d n = (2 * k * d + n) / (2 * n)
+steps k d n = pick (eqb n 0) 0 ((2 * k * d + n) / (2 * n))
 
 -- a step in the sign of the distance
 abbrev pub towards : ℕ → ℕ → Sign
 towards from to = pick (ltb to from) Minus Plus
 
--- 01's rule: what the pulse after pulse k of n shows on an axis that goes from one count to another
+-- 01's rule: what the pulse after pulse k of n shows on an axis that goes from one count to another. Without a pulse that is rest.
 unfoldable pub signAt : ℕ → ℕ → ℕ → ℕ → Sign
 signAt k from to n = pick (eqb (steps (k + 1) (far from to) n) (steps k (far from to) n)) Rest (towards from to)
 
--- and where that axis stands after pulse k of n
+-- and where that axis stands after pulse k of n. Without a pulse that is where it was.
 unfoldable pub countAfter : ℕ → ℕ → ℕ → ℕ → ℕ
 countAfter k from to n = pick (ltb to from) (from - steps k (far from to) n) (from + steps k (far from to) n)
-
--- the test on where the axis stands: at count `at` it has made s = |at - from| steps, and the pulse after pulse k makes one more
--- exactly if 2n·(s + 1) ≤ 2(k + 1)·d + n. On a sound movement this is 01's rule (the law `here-is-at`).
-unfoldable pub signHere : ℕ → ℕ → ℕ → ℕ → ℕ → Sign
-signHere at from to k n = pick (ltb (2 * (k + 1) * far from to + n) (2 * n * (far from at + 1))) Rest (towards from to)
 
 -- a count with one pulse's sign
 abbrev pub moved : ℕ → Sign → ℕ

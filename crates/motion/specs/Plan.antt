@@ -9,7 +9,7 @@ use Rattle.count.specs.Chars.{ch}
 use Rattle.count.specs.Pick.{pick}
 use Rattle.count.specs.Paper.{Paper, says}
 use Rattle.count.specs.Numbers.{far, added, value}
-use Rattle.count.specs.Ranges.{rightDistances, rightSpeeds}
+use Rattle.count.specs.Ranges.{names, rightDistances, rightSpeeds}
 use Rattle.count.specs.declared.Placed.{Placed}
 use Rattle.count.specs.declared.Placed.the-variants as placed
 use Rattle.motion.specs.declared.Counters.{Counters}
@@ -30,12 +30,12 @@ pub record Asked : Type 0 where
 abbrev pub asked : ℕ → Bool → Counters → Counters → Bool → List ℕ → Asked
 asked axes three at origin absolute words = record { axes = axes; three = three; at = at; origin = origin; absolute = absolute; words = words }
 
--- y is set under axes 3 and 7, z under axes 7
+-- whether y is set, and z
 abbrev pub hasY : Asked → Bool
-hasY q = ltb 1 (q .axes)
+hasY q = names (q .axes) 2
 
 abbrev pub hasZ : Asked → Bool
-hasZ q = ltb 3 (q .axes)
+hasZ q = names (q .axes) 4
 
 -- where an axis rests: an absolute target is counted from the origin, a relative distance from where the axis stands
 unfoldable pub goal : Bool → ℕ → ℕ → ℕ → Placed

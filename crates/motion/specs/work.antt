@@ -1,2 +1,3 @@
 pub mod Room
 pub mod Made
+pub mod Here

@@ -2,7 +2,8 @@
 ghost use mathlib.Core.Path.{_≡_};
 ghost use Prim.Native.Nat.{_≤_, _<_, max};
 ghost use Rattle.count.specs.Numbers.{far};
-ghost use Rattle.motion.specs.Phase.{pulses, signHere};
+ghost use Rattle.motion.specs.work.Here.{signHere};
+ghost use Rattle.motion.specs.Phase.{pulses};
 ghost use Rattle.motion.specs.work.Room.{room};
 use super::Counters;
 use super::Sign;

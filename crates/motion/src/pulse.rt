@@ -1,8 +1,10 @@
 // The next pulse of a movement, and the counters after it.
 ghost use mathlib.Core.Path.{_≡_};
 ghost use Prim.Native.Nat.{_<_, _+_, _-_};
-ghost use Rattle.motion.specs.Phase.{signHere, moved, movedAll};
-ghost use Rattle.motion.specs.Next.{fromOf, toOf, leg, speedAt, atPhase, skipped, settled, signsBy, stepped, nextOf, withinOf, leftOf, afterOf};
+ghost use Rattle.motion.specs.work.Here.{signHere};
+ghost use Rattle.motion.specs.Phase.{moved, movedAll};
+ghost use Rattle.motion.specs.work.Here.{nextOf, withinOf};
+ghost use Rattle.motion.specs.Next.{fromOf, toOf, leg, speedAt, atPhase, skipped, settled, signsBy, stepped, leftOf, afterOf};
 ghost use Rattle.motion.specs.work.Room.{room, hasRoom};
 use super::Counters;
 use super::Move;

@@ -82,7 +82,8 @@ fn route_of(
     z2: u32,
 ) -> Move
     requires { ⌜ (firstSpeed (asked axes three at at true words) x y ≤ 10000)
-        × (laterSpeed (asked axes three at at true words) 5 ≤ 10000) × (laterSpeed (asked axes three at at true words) 7 ≤ 10000) ⌝ }
+        × (laterSpeed (asked axes three at at true words) 5 ≤ 10000) × (laterSpeed (asked axes three at at true words) 7 ≤ 10000)
+        × (rightSpeeds axes words ≡ true) ⌝ }
     ensures { λ r. ⌜ r ≡ route (asked axes three at at true words) x y z1 z2 ⌝ }
 {
     let own = (3 < axes) & !three;

@@ -19,7 +19,8 @@ use Rattle.record.specs.Bytes.{Below}
 use Rattle.program.specs.Program.{accepted}
 use Rattle.engine.specs.declared.Job.{Job}
 use Rattle.engine.specs.declared.Job.the-variants as job
-use Rattle.engine.specs.State.{names, ceased, emptied}
+use Rattle.count.specs.Ranges.{names}
+use Rattle.engine.specs.State.{ceased, emptied}
 use Rattle.board.specs.declared.Board.{Board}
 use Rattle.board.specs.State.{board, noLine, textOf, lineDone}
 use Rattle.board.specs.Receive.{isStoring, resetCode}

@@ -8,7 +8,8 @@ use lib.Dec.{leb}
 use lib.ListN.{length, drop}
 use Rattle.count.specs.Pick.{pick}
 use Rattle.count.proofs.laws.Truth.{and-left, and-right}
-use Rattle.motion.specs.Next.{nextOf, pulseOf}
+use Rattle.motion.specs.work.Here.{nextOf}
+use Rattle.motion.specs.Next.{pulseOf}
 use Rattle.record.specs.Places.{fetchOf}
 use Rattle.record.specs.Listing.{Telling, listOf}
 use Rattle.line.specs.declared.Direct.{Direct}

@@ -8,7 +8,8 @@ use lib.ListN.{length}
 use borrow.Author.Tests.{eq-eqb}
 use Rattle.count.specs.Pick.{pick}
 use Rattle.count.proofs.laws.Truth.{and-right, and-true, and-false}
-use Rattle.motion.specs.Next.{nextOf, pulseOf}
+use Rattle.motion.specs.work.Here.{nextOf}
+use Rattle.motion.specs.Next.{pulseOf}
 use Rattle.record.specs.Places.{fetchOf}
 use Rattle.engine.specs.declared.Engine.{Engine}
 use Rattle.engine.specs.declared.Answer.the-variants as answer

@@ -8,7 +8,7 @@ use native.Mathlib.Omega.{arith}
 use Rattle.motion.specs.declared.Counters.{Counters}
 use Rattle.motion.specs.declared.Next.{Next}
 use Rattle.motion.specs.declared.Next.the-variants as next
-use Rattle.motion.specs.Next.{nextOf, withinOf}
+use Rattle.motion.specs.work.Here.{nextOf, withinOf}
 use Rattle.motion.specs.work.Made.{made}
 use Rattle.motion.proofs.laws.Within.{within-next}
 use Rattle.record.specs.Places.{fetchOf}

@@ -1,7 +1,7 @@
 -- Stands in contracts of functions that are not exported: nothing of it need be believed. Its laws: proofs/laws/Going.antt.
 use Prim.Native.Nat.{ℕ}
 use mathlib.Core.List.{List}
-use Rattle.motion.specs.Next.{nextOf}
+use Rattle.motion.specs.work.Here.{nextOf}
 use Rattle.record.specs.Places.{fetchOf}
 use Rattle.engine.specs.declared.Engine.{Engine}
 use Rattle.engine.specs.declared.Job.{Job}

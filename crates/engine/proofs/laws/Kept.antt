@@ -16,7 +16,8 @@ use Rattle.motion.specs.declared.Stepped.{Stepped}
 use Rattle.motion.specs.declared.Next.the-variants as next
 use Rattle.motion.specs.Phase.{movedAll}
 use Rattle.motion.proofs.laws.Plans.{plan-sound}
-use Rattle.motion.specs.Next.{nextOf, pulseOf}
+use Rattle.motion.specs.work.Here.{nextOf}
+use Rattle.motion.specs.Next.{pulseOf}
 use Rattle.motion.proofs.laws.Onward.{next-keeps}
 use Rattle.motion.specs.Sound.{counted, underWay}
 use Rattle.motion.proofs.laws.Passed.{in24-of, counted-of}
@@ -30,7 +31,8 @@ use Rattle.engine.specs.declared.Job.{Job}
 use Rattle.engine.specs.declared.Job.the-variants as job
 use Rattle.engine.specs.declared.Engine.{Engine}
 use Rattle.engine.specs.declared.Told.{Told}
-use Rattle.engine.specs.State.{withAt, withThree, withHeld, withRun, running, zeroes, names, mixed, originOf, ceased, emptied}
+use Rattle.count.specs.Ranges.{names}
+use Rattle.engine.specs.State.{withAt, withThree, withHeld, withRun, running, zeroes, mixed, originOf, ceased, emptied}
 use Rattle.engine.specs.Tick.{Fetching, afterPause, ticked}
 use Rattle.engine.specs.Sound.{axesKnown, jobSound, soundOf}
 use Rattle.engine.proofs.laws.Work.{next-moved}

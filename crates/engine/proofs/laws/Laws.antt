@@ -14,7 +14,8 @@ use Rattle.motion.specs.declared.Planned.the-variants as planned
 use Rattle.motion.specs.Phase.{movedAll}
 use Rattle.motion.specs.Plan.{planOf}
 use Rattle.motion.proofs.laws.Plans.{plan-sound}
-use Rattle.motion.specs.Next.{nextOf, pulseOf}
+use Rattle.motion.specs.work.Here.{nextOf}
+use Rattle.motion.specs.Next.{pulseOf}
 use Rattle.motion.proofs.laws.Onward.{next-is-pulse}
 use Rattle.motion.specs.Sound.{counted}
 use Rattle.record.specs.declared.Record.{Record}

@@ -20,7 +20,8 @@ use Rattle.engine.specs.declared.Begun.{Begun}
 use Rattle.engine.specs.declared.Job.{Job}
 use Rattle.engine.specs.declared.Job.the-variants as job
 use Rattle.engine.specs.declared.Engine.{Engine}
-use Rattle.engine.specs.State.{withAt, withThree, withOutput, withHeld, withRun, running, withJob, zeroes, mixed, axesOf, originOf, zeroOf, ceased, started, glidedBy, glided, emptied, fresh, storingOf, keptBy, resetOf, heardBy, heard, begunBy, beginOf}
+use Rattle.engine.specs.work.Glide.{glidedBy, glided}
+use Rattle.engine.specs.State.{withAt, withThree, withOutput, withHeld, withRun, running, withJob, zeroes, mixed, axesOf, originOf, zeroOf, ceased, started, emptied, fresh, storingOf, keptBy, resetOf, heardBy, heard, begunBy, beginOf}
 use Rattle.engine.specs.Sound.{axesKnown, jobSound, soundOf}
 use Rattle.engine.proofs.laws.Facts.{Sane, facts, sane}
 use Rattle.engine.proofs.laws.Kept.{mixed-counted, zeroes-counted, run-sane, ceased-sane, held-sane, emptied-sane, three-sane, origin-sane}

@@ -19,7 +19,8 @@ use Rattle.motion.specs.declared.Stepped.{Stepped}
 use Rattle.motion.specs.declared.Next.{Next}
 use Rattle.motion.specs.declared.Next.the-variants as next
 use Rattle.motion.specs.Phase.{movedAll}
-use Rattle.motion.specs.Next.{nextBy, nextOf, SignRule, settled, leg, stepped, signsBy, fromOf, toOf}
+use Rattle.motion.specs.work.Here.{nextOf}
+use Rattle.motion.specs.Next.{nextBy, SignRule, settled, leg, stepped, signsBy, fromOf, toOf}
 use Rattle.record.specs.declared.Held.{Held}
 use Rattle.record.specs.declared.Record.{Record}
 use Rattle.record.specs.declared.Found.the-variants as found

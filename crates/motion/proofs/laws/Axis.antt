@@ -1,17 +1,18 @@
 -- The laws of one axis in one phase, cited for x, y and z. Assumes nothing.
-use mathlib.Core.Path.{_≡_, refl, sym, ap}
+use mathlib.Core.Path.{_≡_, refl, sym, ap, _∙_}
 use mathlib.Core.Bool.{Bool, true, false}
 use Prim.Native.Nat.{ℕ, zero, suc, _+_, _-_, _*_, _/_, _≤_, _<_}
-use native.Mathlib.Nat.{div-add-mod', mod-lt, div-eq-of-lt-le, mul-le-mul-right, div-lt-iff-lt-mul, le-div-iff-mul-le, div-zero}
+use native.Mathlib.Nat.{div-add-mod', mod-lt, div-eq-of-lt-le, mul-le-mul-right, div-lt-iff-lt-mul, le-div-iff-mul-le}
 use native.Mathlib.Numerals.{add-one}
 use native.Mathlib.Omega.{arith}
 use lib.Dec.{ltb, eqb}
-use borrow.Author.Tests.{ltb-true, ltb-false, eqb-true, eqb-false}
+use borrow.Author.Tests.{ltb-true, ltb-false, eqb-true, eqb-false, ne-eqb}
 use Rattle.count.specs.Pick.{pick}
 use Rattle.count.specs.Numbers.{far, full}
 use Rattle.motion.specs.declared.Sign.{Sign}
 use Rattle.motion.specs.declared.Sign.the-variants.{Minus, Rest, Plus}
-use Rattle.motion.specs.Phase.{steps, signAt, countAfter, signHere, moved}
+use Rattle.motion.specs.work.Here.{signHere}
+use Rattle.motion.specs.Phase.{steps, signAt, countAfter, moved}
 
 -- ---- quotients
 
@@ -34,39 +35,39 @@ module _ (x y m : ℕ) (h : 0 < m) (g : x ≤ y) (l : y ≤ x + m) where
 
 -- ---- the steps after pulse k of n
 
+-- in a phase with a pulse they are 01's quotient
+pub steps-is : (k d n : ℕ) → 0 < n → steps k d n ≡ (2 * k * d + n) / (2 * n)
+unfolding steps
+steps-is k d n p = rw (ne-eqb n 0 (λ e. omega arith))
+
 -- 0 after 0 pulses, |d| after n
 module _ (d n : ℕ) (p : 0 < n) where
   pub steps-none : steps 0 d n ≡ 0
-  unfolding steps
-  steps-none = div-eq-of-lt-le (2 * n) (omega arith) (omega arith)
+  steps-none = steps-is 0 d n p ∙ div-eq-of-lt-le (2 * n) (omega arith) (omega arith)
 
   pub steps-all : steps n d n ≡ d
-  unfolding steps
-  steps-all = div-eq-of-lt-le (2 * n) (omega arith) (omega arith)
+  steps-all = steps-is n d n p ∙ div-eq-of-lt-le (2 * n) (omega arith) (omega arith)
 
 -- a phase without pulses has no steps
 pub steps-empty : (k d : ℕ) → steps k d 0 ≡ 0
 unfolding steps
-steps-empty k d = div-zero (2 * k * d + 0)
+steps-empty k d = refl
 
 module _ (k d n : ℕ) (p : 0 < n) (f : d ≤ n) where
   -- no pulse takes a step back
   pub steps-grow : steps k d n ≤ steps (k + 1) d n
-  unfolding steps
-  steps-grow = quot-grow (2 * k * d + n) (2 * (k + 1) * d + n) (2 * n) (omega arith) (omega arith) (omega arith)
+  steps-grow = rw (steps-is k d n p, steps-is (k + 1) d n p) (quot-grow (2 * k * d + n) (2 * (k + 1) * d + n) (2 * n) (omega arith) (omega arith) (omega arith))
 
   -- and none takes more than one
   pub steps-one : steps (k + 1) d n ≤ steps k d n + 1
-  unfolding steps
-  steps-one = quot-one (2 * k * d + n) (2 * (k + 1) * d + n) (2 * n) (omega arith) (omega arith) (omega arith)
+  steps-one = rw (steps-is k d n p, steps-is (k + 1) d n p) (quot-one (2 * k * d + n) (2 * (k + 1) * d + n) (2 * n) (omega arith) (omega arith) (omega arith))
 
   -- up to the last pulse the axis has made at most its distance
   pub steps-within : k ≤ n → steps k d n ≤ d
-  unfolding steps
   steps-within w =
       let h : 0 < 2 * n = omega arith in
       let e : (2 * k * d + n) / (2 * n) < d + 1 = div-lt-iff-lt-mul h .1 (omega (arith, mul-le-mul-right d w)) in
-      omega arith
+      rw (steps-is k d n p) (omega arith)
 
   -- a pulse that changes the steps adds one
   pub steps-next : (steps (k + 1) d n ≡ steps k d n → ⊥) → steps (k + 1) d n ≡ steps k d n + 1
@@ -192,8 +193,8 @@ quot-is x m s h g = by (ltb x (m * (s + 1))) (eqb (x / m) s) refl refl
     by false false p q = refl
 
 quot-steps : (k d n s : ℕ) → 0 < n → s ≤ steps (k + 1) d n → ltb (2 * (k + 1) * d + n) (2 * n * (s + 1)) ≡ eqb (steps (k + 1) d n) s
-unfolding steps
-quot-steps k d n s p g = quot-is (2 * (k + 1) * d + n) (2 * n) s (omega arith) g
+quot-steps k d n s p g =
+    rw (steps-is (k + 1) d n p) (quot-is (2 * (k + 1) * d + n) (2 * n) s (omega arith) (rw (steps-is (k + 1) d n p) at g))
 
 -- where the axis stands as the formula says, the test on where it stands is 01's rule
 module _ (k from to n : ℕ) (p : k < n) (f : far from to ≤ n) where

@@ -2,7 +2,7 @@
 -- number of pulses left by one. Assumes nothing.
 use mathlib.Core.Path.{_≡_, refl, sym, ap, _∙_}
 use mathlib.Core.Bool.{Bool, true, false}
-use Prim.Native.Nat.{ℕ, _+_, _-_, _≤_, _<_}
+use Prim.Native.Nat.{ℕ, _+_, _≤_, _<_}
 use native.Mathlib.Omega.{arith}
 use lib.Dec.{ltb}
 use borrow.Author.Tests.{lt-ltb, le-ltb, ltb-true, ltb-false}
@@ -14,8 +14,10 @@ use Rattle.motion.specs.declared.Move.{Move}
 use Rattle.motion.specs.declared.Stepped.{Stepped}
 use Rattle.motion.specs.declared.Next.{Next}
 use Rattle.motion.specs.declared.Next.the-variants.{Made, Over}
-use Rattle.motion.specs.Phase.{signAt, signHere, countAfter, moved, movedAll}
-use Rattle.motion.specs.Next.{fromOf, toOf, leg, atPhase, settled, SignRule, signsBy, stepped, nextBy, pulseOf, nextOf, afterOf, leftOf}
+use Rattle.motion.specs.work.Here.{signHere}
+use Rattle.motion.specs.Phase.{signAt, countAfter, moved, movedAll}
+use Rattle.motion.specs.work.Here.{nextOf}
+use Rattle.motion.specs.Next.{fromOf, toOf, leg, atPhase, settled, SignRule, signsBy, stepped, nextBy, pulseOf, afterOf, leftOf}
 use Rattle.motion.specs.Sound.{speedRight, counted, underWay}
 use Rattle.motion.proofs.laws.Room.{room-here}
 use Rattle.motion.specs.work.Room.{room, hasRoom}

@@ -11,7 +11,7 @@ use lib.ListN.{getD}
 use borrow.Author.Tests.{ltb-true, leb-true, eqb-true}
 use Rattle.count.specs.Pick.{pick}
 use Rattle.count.specs.Numbers.{far, full, value, signed, within, in24, count, placed as placeOf, added}
-use Rattle.count.specs.Ranges.{inSpeed, nth, rightDistances, rightSpeeds}
+use Rattle.count.specs.Ranges.{inSpeed, nth, names, rightDistances, rightSpeeds}
 use Rattle.count.proofs.laws.Laws.{within-up}
 use Rattle.count.specs.declared.Placed.{Placed}
 use Rattle.count.specs.declared.Placed.the-variants as placed
@@ -103,8 +103,20 @@ module _ (axes : ℕ) (l : List ℕ) (h : rightSpeeds axes l ≡ true) where
   four-by false false true p q r s f g k e = (and-right (p && q) r (and-left (p && q && r) s e), and-right (p && q && r) s e)
   four-by false false false p q r s f g k e = never e
 
+  -- under the axes of a movement y is named exactly above 1, and z exactly above 3
+  set-by : (a b c p q r s : Bool) → eqb axes 1 ≡ a → eqb axes 3 ≡ b → eqb axes 7 ≡ c → pick a p (pick b (p && q) (pick c (p && q && r && s) false)) ≡ true
+      → (ltb 1 axes ≡ names axes 2) × (ltb 3 axes ≡ names axes 4)
+  set-by true b c p q r s f g k e = rw (eqb-true axes 1 f) (refl, refl)
+  set-by false true c p q r s f g k e = rw (eqb-true axes 3 g) (refl, refl)
+  set-by false false true p q r s f g k e = rw (eqb-true axes 7 k) (refl, refl)
+  set-by false false false p q r s f g k e = never e
+
   abbrev v : ℕ → Bool
   v i = inSpeed (nth l i)
+
+  pub set-is : (ltb 1 axes ≡ names axes 2) × (ltb 3 axes ≡ names axes 4)
+  unfolding rightSpeeds
+  set-is = set-by (eqb axes 1) (eqb axes 3) (eqb axes 7) (v 1) (v 3) (v 5) (v 7) refl refl refl h
 
   speed-1 : speedRight (getD l 1 0) ≡ true
   unfolding rightSpeeds
@@ -129,10 +141,10 @@ module _ (q : Asked) (h : rightSpeeds (q .axes) (q .words) ≡ true) where
 
   set-y : (x y : ℕ) → goalY q ≡ placed.At y → far (q .at .x) x < far (q .at .y) y → 1 < q .axes
   unfolding goalY
-  set-y x y e l = by (ltb 1 (q .axes)) refl
+  set-y x y e l = by (hasY q) refl
     where
-      by : (t : Bool) → ltb 1 (q .axes) ≡ t → 1 < q .axes
-      by true f = ltb-true 1 (q .axes) f
+      by : (t : Bool) → hasY q ≡ t → 1 < q .axes
+      by true f = ltb-true 1 (q .axes) (set-is (q .axes) (q .words) h .0 ∙ f)
       by false f =
           let g : q .at .y ≡ y = place-of (rw f at e) in
           absurd (omega arith)
@@ -155,11 +167,11 @@ module _ (q : Asked) (h : rightSpeeds (q .axes) (q .words) ≡ true) where
 
   pub second-right : speedRight (laterSpeed q 5) ≡ true
   unfolding laterSpeed
-  second-right = later-by 5 (speed-5 (q .axes) (q .words) h) (hasZ q) (not (q .three)) refl
+  second-right = later-by 5 (speed-5 (q .axes) (q .words) h) (hasZ q) (not (q .three)) (set-is (q .axes) (q .words) h .1)
 
   pub third-right : speedRight (laterSpeed q 7) ≡ true
   unfolding laterSpeed
-  third-right = later-by 7 (speed-7 (q .axes) (q .words) h) (hasZ q) (not (q .three)) refl
+  third-right = later-by 7 (speed-7 (q .axes) (q .words) h) (hasZ q) (not (q .three)) (set-is (q .axes) (q .words) h .1)
 
 -- ---- a planned movement passes the test of 103 where it was planned
 

@@ -11,7 +11,7 @@ use Rattle.count.specs.Pick.{pick}
 use Rattle.count.specs.Numbers.{far}
 use Rattle.motion.specs.declared.Sign.{Sign}
 use Rattle.motion.specs.declared.Sign.the-variants.{Minus, Rest, Plus}
-use Rattle.motion.specs.Phase.{signHere}
+use Rattle.motion.specs.work.Here.{signHere}
 use Rattle.motion.specs.work.Room.{room}
 
 -- an axis that moves has not reached its end: its count has room for the step

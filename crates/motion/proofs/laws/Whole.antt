@@ -19,7 +19,8 @@ use Rattle.motion.specs.declared.Next.the-variants.{Made, Over}
 use Rattle.motion.specs.declared.Planned.the-variants.{Going}
 use Rattle.motion.specs.Phase.{most, pulses, countAfter, moved, signValue}
 use Rattle.motion.specs.Plan.{Asked, planOf}
-use Rattle.motion.specs.Next.{fromOf, toOf, leg, settled, pulseOf, nextOf, afterOf, leftOf}
+use Rattle.motion.specs.work.Here.{nextOf}
+use Rattle.motion.specs.Next.{fromOf, toOf, leg, settled, pulseOf, afterOf, leftOf}
 use Rattle.motion.specs.Sound.{counted, underWay}
 use Rattle.motion.specs.work.Room.{room, hasRoom}
 use Rattle.motion.proofs.laws.Axis.{count-first, count-last}

@@ -1,7 +1,6 @@
 -- The pulses of the phase under way are the movement's next ones. Assumes nothing.
 use mathlib.Core.Path.{_≡_, refl, ap}
 use mathlib.Core.Bool.{Bool, true, false}
-use Prim.Native.Nat.{_<_}
 use lib.Dec.{ltb}
 use borrow.Author.Tests.{ltb-true}
 use Rattle.count.specs.Pick.{pick}
@@ -10,8 +9,9 @@ use Rattle.motion.specs.declared.Move.{Move}
 use Rattle.motion.specs.declared.Stepped.{Stepped}
 use Rattle.motion.specs.declared.Next.{Next}
 use Rattle.motion.specs.declared.Next.the-variants.{Over, Made}
-use Rattle.motion.specs.Next.{leg, atPhase, settled, stepped, signsBy, fromOf, toOf, nextOf, nextBy, withinOf}
-use Rattle.motion.specs.Phase.{signHere}
+use Rattle.motion.specs.work.Here.{nextOf, withinOf}
+use Rattle.motion.specs.Next.{leg, atPhase, settled, stepped, signsBy, fromOf, toOf, nextBy}
+use Rattle.motion.specs.work.Here.{signHere}
 use Rattle.motion.specs.work.Made.{made}
 use Rattle.motion.proofs.laws.Skip.{settled-here}
 

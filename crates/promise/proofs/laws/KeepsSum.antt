@@ -20,7 +20,8 @@ use Rattle.line.specs.declared.Letter.the-variants as letter
 use Rattle.line.specs.declared.Direct.{Direct}
 use Rattle.line.specs.Lines.{letterPaper, directOf}
 use Rattle.engine.specs.declared.Job.the-variants as job
-use Rattle.engine.specs.State.{names, mixed, withJob, begun, begunBy, beginOf}
+use Rattle.count.specs.Ranges.{names}
+use Rattle.engine.specs.State.{mixed, withJob, begun, begunBy, beginOf}
 use Rattle.board.specs.declared.Board.{Board}
 use Rattle.board.specs.State.{board, textOf, lineDone, Said, said}
 use Rattle.board.specs.Direct.{isWrong, heardStanding, replyOf, effectOf, accepted, directSaid, started-with}

@@ -1,5 +1,5 @@
 -- `engine::Engine::glide` meets its contract. Assumes nothing.
-use Rattle.engine.specs.State.{glided}
+use Rattle.engine.specs.work.Glide.{glided}
 use borrow.Author.Needs.{needs}
 use Rattle.engine.proofs.Engine.glide.Statement.{statement}
 use Rattle.engine.proofs.Engine.glide.Tie as tie

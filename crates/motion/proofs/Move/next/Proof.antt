@@ -1,7 +1,7 @@
 -- `motion::Move::next` meets its contract. Assumes nothing.
 use mathlib.Core.Path.{sym, ap, _∙_}
 use Rattle.motion.specs.declared.Move.{Move}
-use Rattle.motion.specs.Next.{withinOf}
+use Rattle.motion.specs.work.Here.{withinOf}
 use Rattle.motion.proofs.laws.Within.{next-settled}
 use borrow.Author.Needs.{needs}
 use Rattle.motion.proofs.Move.next.Statement.{statement}

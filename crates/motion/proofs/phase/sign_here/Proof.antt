@@ -4,7 +4,7 @@ use mathlib.Core.Path.{_≡_}
 use native.Mathlib.Omega.{arith}
 use borrow.Author.Tests.{lt-ltb, le-ltb}
 use Rattle.motion.specs.declared.Sign.the-variants.{Minus, Rest, Plus}
-use Rattle.motion.specs.Phase.{signHere}
+use Rattle.motion.specs.work.Here.{signHere}
 use Rattle.motion.proofs.laws.Room.{room-of}
 use Rattle.motion.proofs.Work.{product}
 use borrow.Author.Needs.{needs}

@@ -1,6 +1,6 @@
 -- `motion::route::route_of` meets its contract. Assumes nothing.
 use Rattle.motion.specs.Plan.{asked, firstSpeed, laterSpeed}
-use Rattle.motion.proofs.Routes.{route-made}
+use Rattle.motion.proofs.Routes.{later-own, route-made}
 use mathlib.Core.Bool.{true}
 use borrow.Author.Needs.{needs}
 use Rattle.motion.proofs.route.route_of.Statement.{statement}
@@ -27,7 +27,7 @@ chosen-requires-2 c κs = search needs
 
 narrow-requires-2 : tie.Need-narrow-requires-2
 unfolding laterSpeed
-narrow-requires-2 c κs = rw (c .chosen2 .ensures) (c .before .before .before .before .pre .1)
+narrow-requires-2 c κs = let s = c .before .before .before .before in let a = s .args in rw (later-own (asked (a .axes) (a .three) (a .at) (a .at) true (a .t4)) (s .pre .3) 5 (c .chosen2 .ensures)) (s .pre .1)
 
 array-read-chosen-3 : tie.Need-array-read-chosen-3
 array-read-chosen-3 c = search needs
@@ -40,11 +40,11 @@ chosen-requires-3 c κs = search needs
 
 narrow-requires-3 : tie.Need-narrow-requires-3
 unfolding laterSpeed
-narrow-requires-3 c κs = rw (c .chosen3 .ensures) (c .before .before .before .before .before .before .pre .2)
+narrow-requires-3 c κs = let s = c .before .before .before .before .before .before in let a = s .args in rw (later-own (asked (a .axes) (a .three) (a .at) (a .at) true (a .t4)) (s .pre .3) 7 (c .chosen3 .ensures)) (s .pre .2)
 
 returns : tie.Need-returns
 unfolding firstSpeed laterSpeed
-returns c = let a = c .before .before .before .before .before .before .before .args in route-made (asked (a .axes) (a .three) (a .at) (a .at) true (a .t4)) (a .x) (a .y) (a .z1) (a .z2) (c .before .before .before .before .before .before .chosen .ensures) (c .before .before .before .before .narrow .ensures) (c .before .before .before .before .before .first-speed .ensures) (c .before .before .narrow2 .ensures) (c .before .before .before .chosen2 .ensures) (c .narrow3 .ensures) (c .before .chosen3 .ensures)
+returns c = let s = c .before .before .before .before .before .before .before in let a = s .args in let q = asked (a .axes) (a .three) (a .at) (a .at) true (a .t4) in route-made q (a .x) (a .y) (a .z1) (a .z2) (c .before .before .before .before .before .before .chosen .ensures) (c .before .before .before .before .narrow .ensures) (c .before .before .before .before .before .first-speed .ensures) (c .before .before .narrow2 .ensures) (later-own q (s .pre .3) 5 (c .before .before .before .chosen2 .ensures)) (c .narrow3 .ensures) (later-own q (s .pre .3) 7 (c .before .chosen3 .ensures))
 
 pub route-of-spec : {M : Type 1} → statement M
 route-of-spec =

@@ -6,6 +6,7 @@ use mathlib.Core.List.{List, [], _∷_, _++_}
 use lib.Dec.{ltb, eqb}
 use lib.IntN.{ℤ, pos}
 use lib.ListN.{length, drop}
+use Rattle.count.specs.Sizes.{storeBytes, replyBytes}
 use Rattle.count.specs.Pick.{pick}
 use Rattle.count.specs.Numbers.{full, value}
 use Rattle.motion.specs.declared.Counters.{Counters}
@@ -45,8 +46,8 @@ answered s reply = did (record { board = s .board; len = length (s .reply); refu
 
 unfoldable pub receiving : ℕ → List ℕ → Board → List ℕ → List ℕ → Outcome
 receiving byte ports b reply store =
-    pick (ltb (length reply) 32) (refused 101 b reply store)
-    (pick (not (eqb (length store) 16384)) (refused 102 b reply store)
+    pick (ltb (length reply) replyBytes) (refused 101 b reply store)
+    (pick (not (eqb (length store) storeBytes)) (refused 102 b reply store)
     (pick (not (sound b)) (refused 103 b reply store) (answered (hearing byte ports b store) reply)))
 
 -- ---- a clock call
@@ -60,7 +61,7 @@ wentOn b t = clocked 0 (board (t .engine) (b .standing) (b .line)) (t .answer)
 -- what stands stopped answers nothing and changes nothing; else the engine's call, by 01's formula, on the store's records
 unfoldable pub clocking : Board → List ℕ → Ticked
 clocking b store =
-    pick (not (eqb (length store) 16384)) (clocked 102 b answer.Nothing)
+    pick (not (eqb (length store) storeBytes)) (clocked 102 b answer.Nothing)
     (pick (not (sound b)) (clocked 103 b answer.Nothing)
     (pick (b .standing) (clocked 0 b answer.Nothing) (wentOn b (ticked pulseOf (fetchOf (b .engine .held) store) (b .engine)))))
 
@@ -68,7 +69,7 @@ clocking b store =
 
 unfoldable pub listing : Board → List ℕ → List ℕ → Telling
 listing b store text =
-    pick (not (eqb (length store) 16384)) (telling 102 0 text)
+    pick (not (eqb (length store) storeBytes)) (telling 102 0 text)
     (pick (not (sound b)) (telling 103 0 text) (listOf (b .engine .held) store text))
 
 -- ---- a fresh board, and positions and origins as numbers

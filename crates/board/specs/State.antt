@@ -4,6 +4,7 @@ use mathlib.Core.Bool.{Bool, true, false, _&&_}
 use mathlib.Core.List.{List, [], _∷_}
 use lib.Dec.{leb, ltb}
 use lib.ListN.{take, set, replicate}
+use Rattle.count.specs.Sizes.{lineBytes}
 use Rattle.count.specs.Pick.{pick}
 use Rattle.engine.specs.declared.Engine.{Engine}
 use Rattle.engine.specs.Sound.{soundOf}
@@ -13,7 +14,7 @@ use Rattle.board.specs.declared.Board.{Board}
 -- ---- the line
 
 abbrev pub noLine : Line
-noLine = record { bytes = replicate 80 0; len = 0; over = false }
+noLine = record { bytes = replicate lineBytes 0; len = 0; over = false }
 
 -- the bytes gathered so far
 abbrev pub textOf : Line → List ℕ
@@ -22,7 +23,7 @@ textOf l = take (l .len) (l .bytes)
 -- one byte more; the 81st and later ones are not kept, and the line is too long
 unfoldable pub gathered : ℕ → Line → Line
 gathered b l =
-    pick (ltb (l .len) 80)
+    pick (ltb (l .len) lineBytes)
     (record { bytes = set (l .bytes) (l .len) b; len = l .len + 1; over = l .over })
     (record { bytes = l .bytes; len = l .len; over = true })
 
@@ -50,4 +51,4 @@ said b reply store = record { board = b; reply = reply; store = store }
 -- ---- 103: what is asked of the engine, and a line of at most 80 bytes
 
 unfoldable pub sound : Board → Bool
-sound b = soundOf (b .engine) && leb (b .line .len) 80
+sound b = soundOf (b .engine) && leb (b .line .len) lineBytes

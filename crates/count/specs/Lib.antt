@@ -1,4 +1,5 @@
 pub mod Chars
+pub mod Sizes
 pub mod Pick
 pub mod Paper
 pub mod Numbers

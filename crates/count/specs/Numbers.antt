@@ -38,13 +38,20 @@ in24 z = within (negsuc 8388607) (pos 8388607) z
 
 -- ---- words: 01, "Store", sentence 1: a number is four bytes, two's complement
 
+-- a word is below 2 ^ 32; from 2 ^ 31 on it stands for a negative number
+abbrev pub wordHalf : ℕ
+wordHalf = 2147483648
+
+abbrev pub wordFull : ℕ
+wordFull = 4294967296
+
 -- the number that a word stands for, and the word of a number
 unfoldable pub signed : ℕ → ℤ
-signed w = pick (ltb w 2147483648) (pos w) (negsuc (4294967295 - w))
+signed w = pick (ltb w wordHalf) (pos w) (negsuc (4294967295 - w))
 
 unfoldable pub word : ℤ → ℕ
-word (pos n) = n % 4294967296
-word (negsuc n) = 4294967295 - n % 4294967296
+word (pos n) = n % wordFull
+word (negsuc n) = 4294967295 - n % wordFull
 
 -- a size, with a minus or without
 abbrev pub withSign : Bool → ℕ → ℤ

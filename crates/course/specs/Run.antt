@@ -4,6 +4,7 @@ use mathlib.Core.Bool.{Bool, true, false, not, _&&_}
 use mathlib.Core.List.{List, [], _++_}
 use lib.Dec.{eqb}
 use lib.ListN.{length, drop}
+use Rattle.count.specs.Sizes.{storeBytes}
 use Rattle.count.specs.Pick.{pick}
 use Rattle.engine.specs.Tick.{runsOf}
 use Rattle.board.specs.declared.Board.{Board}
@@ -63,5 +64,5 @@ ran c out =
 
 unfoldable pub running : ℕ → Board → List ℕ → List ℕ → Outcome
 running limit b store out =
-    pick (not (eqb (length store) 16384)) (refused 102 b out)
+    pick (not (eqb (length store) storeBytes)) (refused 102 b out)
     (pick (not (sound b)) (refused 103 b out) (ran (course (allowed limit out) store b) out))

@@ -4,6 +4,7 @@ use mathlib.Core.Bool.{Bool, true, false, not, _&&_}
 use mathlib.Core.List.{List, [], _∷_, _++_}
 use lib.Dec.{leb, eqb}
 use lib.ListN.{length, drop, replicate}
+use Rattle.count.specs.Sizes.{storeBytes}
 use Rattle.count.specs.Pick.{pick}
 use Rattle.count.specs.Text.{Written, wrote}
 use Rattle.board.specs.declared.Board.{Board}
@@ -20,7 +21,7 @@ abbrev pub noPorts : List ℕ
 noPorts = 0 ∷ 0 ∷ 0 ∷ 0 ∷ []
 
 abbrev pub noStore : List ℕ
-noStore = replicate 16384 0
+noStore = replicate storeBytes 0
 
 -- after each byte at most 100,000 clock calls
 abbrev pub most : ℕ
@@ -71,7 +72,7 @@ further c calls = walk (c .board) (calls + c .calls) (not (runsNow (c .board)))
 -- a portion is made if the buffer has at least 64 bytes and a call on this board and store would not be refused; else nothing is taken,
 -- nothing is written and the walk is as given
 unfoldable pub ready : Walk → List ℕ → List ℕ → Bool
-ready w store out = leb 64 (length out) && eqb (length store) 16384 && sound (w .board)
+ready w store out = leb 64 (length out) && eqb (length store) storeBytes && sound (w .board)
 
 -- a byte is taken if the run before it is over: its reply, and as much of its run as the rest of the buffer holds
 unfoldable pub nextDone : ℕ → Walk → List ℕ → List ℕ → Done

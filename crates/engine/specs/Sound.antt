@@ -2,6 +2,7 @@
 use Prim.Native.Nat.{ℕ}
 use mathlib.Core.Bool.{Bool, true, _&&_, _||_}
 use lib.Dec.{leb, eqb}
+use Rattle.count.specs.Sizes.{storeBytes, mostRecords}
 use Rattle.motion.specs.declared.Counters.{Counters}
 use Rattle.motion.specs.Sound.{counted, underWay}
 use Rattle.engine.specs.declared.Job.{Job}
@@ -27,6 +28,6 @@ unfoldable pub soundOf : Engine → Bool
 soundOf e =
     counted (e .at) && counted (e .origin)
     && (axesKnown (e .axes) && axesKnown (e .held .axes))
-    && (leb (e .held .used) 16384 && leb (e .held .records) 1000)
+    && (leb (e .held .used) storeBytes && leb (e .held .records) mostRecords)
     && leb (e .run .loops .depth) 7
     && jobSound (e .run .job) (e .at)

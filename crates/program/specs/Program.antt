@@ -6,6 +6,7 @@ use mathlib.Core.List.{List, []}
 use lib.Dec.{ltb, eqb}
 use lib.IntN.{ℤ, pos, _+ℤ_}
 use lib.ListN.{length, getD}
+use Rattle.count.specs.Sizes.{mostRecords}
 use Rattle.count.specs.Chars.{ch}
 use Rattle.count.specs.Pick.{pick}
 use Rattle.count.specs.Ranges.{nth}
@@ -48,7 +49,7 @@ verdictOn (are l) = checkOf l
 verdictOn none-are = Unreadable
 
 unfoldable pub verdictOf : Held → List ℕ → Verdict
-verdictOf h s = pick (ltb 1000 (h .records)) Unreadable (verdictOn (recordsOf h s))
+verdictOf h s = pick (ltb mostRecords (h .records)) Unreadable (verdictOn (recordsOf h s))
 
 abbrev pub isSound : Verdict → Bool
 isSound Sound = true

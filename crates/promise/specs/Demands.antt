@@ -6,6 +6,7 @@ use mathlib.Core.List.{List, [], _∷_}
 use lib.Dec.{eqb}
 use lib.IntN.{ℤ, pos, _+ℤ_}
 use lib.ListN.{length, getD, take, drop}
+use Rattle.count.specs.Sizes.{storeBytes, replyBytes, textBytes}
 use Rattle.count.specs.Chars.{ch}
 use Rattle.count.specs.Pick.{pick}
 use Rattle.count.specs.Numbers.{value}
@@ -217,8 +218,8 @@ module _ (m : Machine) where
 
 -- a reply buffer of at least 32 bytes and a store of 16,384
 abbrev pub RightLent : Event → Type 0
-RightLent (byte v ports l) = (32 ≤ length (l .reply)) × (length (l .store) ≡ 16384)
-RightLent (clock store) = length store ≡ 16384
+RightLent (byte v ports l) = (replyBytes ≤ length (l .reply)) × (length (l .store) ≡ storeBytes)
+RightLent (clock store) = length store ≡ storeBytes
 
 module _ (m : Machine) where
   abbrev pub refusalOf : Event → m .State → ℕ
@@ -235,7 +236,7 @@ pub record Host : Type 0 where
   pub ports : ℕ → List ℕ
   pub reply : ℕ → List ℕ
   pub calls : ℕ → ℕ
-  pub room : (i : ℕ) → 32 ≤ length (reply i)
+  pub room : (i : ℕ) → replyBytes ≤ length (reply i)
 
 -- the axes line, the line `i`, and the lines of a listing
 abbrev pub storingText : ℕ → List ℕ → List ℕ
@@ -284,8 +285,8 @@ module _ (m : Machine) where
   abbrev pub RoundTrip : Type 0
   RoundTrip =
       (es : List Event) (store text other : List ℕ) (host : Host)
-      → length store ≡ 16384 → Below 256 store → accepted (m .board (afterAll m es (m .first)) .engine .held) store ≡ true
-      → 32768 ≤ length text → length other ≡ 16384 → Below 256 other
+      → length store ≡ storeBytes → Below 256 store → accepted (m .board (afterAll m es (m .first)) .engine .held) store ≡ true
+      → textBytes ≤ length text → length other ≡ storeBytes → Below 256 other
       → ListedAgain store text other host (afterAll m es (m .first))
 
   -- from the first state on, after any events, whatever was lent: the end line answered 0 makes the store an accepted program
@@ -300,5 +301,5 @@ module _ (m : Machine) where
   EndToEnd =
       (es : List Event) (ports : List ℕ) (l : Lent) (text other : List ℕ) (host : Host) → endLine (m .board (afterAll m es (m .first))) ≡ true
       → hears m (ch "\r") ports l (afterAll m es (m .first)) .refusal ≡ 0 → getD (replied (hears m (ch "\r") ports l (afterAll m es (m .first)))) 0 0 ≡ ch "0"
-      → Below 256 (l .store) → 32768 ≤ length text → length other ≡ 16384 → Below 256 other
+      → Below 256 (l .store) → textBytes ≤ length text → length other ≡ storeBytes → Below 256 other
       → ListedAgain (hears m (ch "\r") ports l (afterAll m es (m .first)) .after .store) text other host ((m .hear 13 ports l (afterAll m es (m .first))) .0)

@@ -6,6 +6,7 @@ use mathlib.Core.List.{List, [], _∷_, _++_}
 use lib.Dec.{eqb, ltb}
 use lib.IntN.{pos}
 use lib.ListN.{length, take, drop, getD}
+use Rattle.count.specs.Sizes.{storeBytes, replyBytes}
 use Rattle.count.specs.Chars.{ch}
 use Rattle.count.specs.Pick.{pick}
 use Rattle.count.specs.Paper.{Paper, says}
@@ -133,12 +134,12 @@ losesPulse = hearsSo (λ v ports l b. ours .hear v ports l (pick (eqb v stopCode
 -- a state that 103 refuses is not refused: it hears and ticks on
 abbrev pub unseen : ℕ → List ℕ → Board → List ℕ → List ℕ → Outcome
 unseen v ports b reply store =
-    pick (ltb (length reply) 32) (refused 101 b reply store)
-    (pick (not (eqb (length store) 16384)) (refused 102 b reply store) (answered (hearing v ports b store) reply))
+    pick (ltb (length reply) replyBytes) (refused 101 b reply store)
+    (pick (not (eqb (length store) storeBytes)) (refused 102 b reply store) (answered (hearing v ports b store) reply))
 
 abbrev pub unseenTick : Board → List ℕ → Ticked
 unseenTick b store =
-    pick (not (eqb (length store) 16384)) (clocked 102 b answer.Nothing)
+    pick (not (eqb (length store) storeBytes)) (clocked 102 b answer.Nothing)
     (pick (b .standing) (clocked 0 b answer.Nothing) (wentOn b (ticked pulseOf (fetchOf (b .engine .held) store) (b .engine))))
 
 abbrev pub blind : Machine
@@ -155,7 +156,7 @@ blind = record {
 -- a clock call that is refused 102 is answered so, and yet makes the call on an empty store
 abbrev pub stirs : Machine
 stirs = ticksSo (λ store b.
-    pick (eqb (length store) 16384) (ours .tick store b) ((ours .tick noStore b) .0, record { answer = says 5 []; refusal = 102 }))
+    pick (eqb (length store) storeBytes) (ours .tick store b) ((ours .tick noStore b) .0, record { answer = says 5 []; refusal = 102 }))
 
 -- ---- where a program goes
 

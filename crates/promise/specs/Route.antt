@@ -7,6 +7,7 @@ use mathlib.Core.Path.{_≡_}
 use lib.Dec.{eqb}
 use lib.IntN.{ℤ, pos, negsuc, _+ℤ_}
 use lib.ListN.{length, getD}
+use Rattle.count.specs.Sizes.{storeBytes}
 use Rattle.count.specs.Chars.{ch}
 use Rattle.count.specs.Pick.{pick}
 use Rattle.count.specs.Ranges.{nth}
@@ -107,7 +108,7 @@ module _ (m : Machine) where
     pub standing : boardAt m p .standing ≡ false
     pub held : boardAt m p .engine .held ≡ h
     pub run : boardAt m p .engine .run ≡ running job.Ready 0 noLoops
-    pub store : length (p .1) ≡ 16384
+    pub store : length (p .1) ≡ storeBytes
 
   -- whatever bytes and clock calls come then, and however they are lent: its visits are a route through the program
   abbrev pub Routes : Type 0

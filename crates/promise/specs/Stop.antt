@@ -7,6 +7,7 @@ use mathlib.Core.Path.{_≡_}
 use lib.Dec.{leb, eqb, ltb}
 use lib.IntN.{ℤ}
 use lib.ListN.{length, take, drop}
+use Rattle.count.specs.Sizes.{storeBytes, replyBytes}
 use Rattle.count.specs.Chars.{ch}
 use Rattle.count.specs.Pick.{pick}
 use Rattle.count.specs.Paper.{Paper, says}
@@ -36,7 +37,7 @@ pub data Step : Type 0 where
 -- the one store is altered by nobody else: whatever else is lent as a store has another length, and every call with it is refused 102
 abbrev pub Elsewhere : Lending → Type 0
 Elsewhere own = Unit
-Elsewhere (other t) = length t ≡ 16384 → ⊥
+Elsewhere (other t) = length t ≡ storeBytes → ⊥
 
 -- neither 101 nor 102: a reply buffer of at least 32 bytes and the one store
 abbrev pub isOwn : Lending → Bool
@@ -44,12 +45,12 @@ isOwn own = true
 isOwn (other t) = false
 
 abbrev pub rightly : Step → Bool
-rightly (receive v ports reply d) = leb 32 (length reply) && isOwn d
+rightly (receive v ports reply d) = leb replyBytes (length reply) && isOwn d
 rightly (call d) = isOwn d
 
 -- anything but break and reset, whatever is lent; a break or reset that is refused for what is lent may come too
 abbrev pub Mild : Step → Type 0
-Mild (receive v ports reply d) = (leb 32 (length reply) && isOwn d ≡ true → v < resetCode) × Elsewhere d
+Mild (receive v ports reply d) = (leb replyBytes (length reply) && isOwn d ≡ true → v < resetCode) × Elsewhere d
 Mild (call d) = Elsewhere d
 
 abbrev pub Mildly : List Step → Type 0
@@ -177,7 +178,7 @@ module _ (m : Machine) where
     pub runs : rests (boardAt p) ≡ false
     pub standing : boardAt p .standing ≡ false
     pub line : boardAt p .line ≡ noLine
-    pub store : length (p .1) ≡ 16384
+    pub store : length (p .1) ≡ storeBytes
 
   -- ---- the same run: the clock answers other than nothing, with the axes of the pulses; the speeds of the pulses; the engine
   -- (positions, origins, output, 3D, axes, the store's part in use, job, place, loops); the bytes of the store
@@ -236,7 +237,7 @@ module _ (m : Machine) where
   -- ---- demand 3 is not empty. A stop, at every moment that 01 allows, stands and sends F; at every other it does nothing.
   pub record Called (p : Place) : Type 0 where
     pub sound : sound (boardAt p) ≡ true
-    pub store : length (p .1) ≡ 16384
+    pub store : length (p .1) ≡ storeBytes
 
   abbrev pub heardAt : ℕ → List ℕ → List ℕ → Place → m .State × Heard
   heardAt v ports reply p = m .hear v ports (lent reply (p .1)) (p .0)
@@ -250,18 +251,18 @@ module _ (m : Machine) where
 
   abbrev pub StopHolds : Type 0
   StopHolds =
-      (p : Place) (ports reply : List ℕ) → Called p → 32 ≤ length reply → stoppable (boardAt p) ≡ true →
+      (p : Place) (ports reply : List ℕ) → Called p → replyBytes ≤ length reply → stoppable (boardAt p) ≡ true →
       Comes (heardAt stopCode ports reply p) (board (boardAt p .engine) true (boardAt p .line)) (ch "F" ∷ []) reply (p .1)
 
   abbrev pub StopElseDoesNothing : Type 0
   StopElseDoesNothing =
-      (p : Place) (ports reply : List ℕ) → Called p → 32 ≤ length reply → stoppable (boardAt p) ≡ false →
+      (p : Place) (ports reply : List ℕ) → Called p → replyBytes ≤ length reply → stoppable (boardAt p) ≡ false →
       Comes (heardAt stopCode ports reply p) (boardAt p) [] reply (p .1)
 
   -- an accepted S goes on with the very engine that stood, and sends nothing
   abbrev pub StartGoesOn : Type 0
   StartGoesOn =
-      (p : Place) (ports reply : List ℕ) → Called p → 32 ≤ length reply → boardAt p .standing ≡ true → boardAt p .line .over ≡ false →
+      (p : Place) (ports reply : List ℕ) → Called p → replyBytes ≤ length reply → boardAt p .standing ≡ true → boardAt p .line .over ≡ false →
       letterPaper (directOf (textOf (boardAt p .line)) .letter) .number ≡ ch "S" →
       replyOf (boardAt p .engine) true (directOf (textOf (boardAt p .line))) ≡ ch "0" →
       Comes (heardAt (ch "\r") ports reply p) (board (boardAt p .engine) false noLine) [] reply (p .1)
@@ -288,7 +289,7 @@ module _ (m : Machine) where
 
   abbrev pub StopAndStart : Type 0
   StopAndStart =
-      (es : List Event) (store ports reply : List ℕ) → length store ≡ 16384 → 32 ≤ length reply →
+      (es : List Event) (store ports reply : List ℕ) → length store ≡ storeBytes → replyBytes ≤ length reply →
       stoppable (m .board (afterAll m es (m .first))) ≡ true →
       (boardAt (ahead (afterAll m es (m .first), store) (receive stopCode ports reply own)) .standing ≡ true)
       × (boardAt (last (afterAll m es (m .first), store) (receive stopCode ports reply own ∷ startLine ports reply)) ≡ m .board (afterAll m es (m .first)))

@@ -7,6 +7,7 @@ use mathlib.Core.Bool.{false}
 use mathlib.Core.List.{List, [], _∷_, _++_}
 use lib.IntN.{ℤ, pos, negsuc}
 use lib.ListN.{take, replicate}
+use Rattle.count.specs.Sizes.{replyBytes}
 use Rattle.count.specs.Chars.{codes}
 use Rattle.count.specs.Numbers.{value, count, half}
 use Rattle.count.specs.Paper.{Paper, says}
@@ -37,7 +38,7 @@ from b = record { board = b; store = noStore; replies = []; answers = []; refusa
 unfoldable pub sends : List ℕ → History → History
 sends [] h = h
 sends (v ∷ l) h =
-    let o = receiving v noPorts (h .board) (replicate 32 0) (h .store) in
+    let o = receiving v noPorts (h .board) (replicate replyBytes 0) (h .store) in
     sends l (record {
       board = o .result .board;
       store = o .store;

@@ -5,6 +5,7 @@ use mathlib.Core.List.{List, _++_}
 use mathlib.Core.Bool.{Bool, true, false, _&&_}
 use lib.ListN.{length, take, drop}
 use lib.Dec.{leb}
+use Rattle.count.specs.Sizes.{storeBytes, mostRecords}
 use Rattle.count.specs.Pick.{pick}
 use Rattle.record.specs.declared.Held.{Held}
 use Rattle.record.specs.declared.Record.{Record}
@@ -24,7 +25,7 @@ longer h n = record { used = h .used + n; records = h .records + 1; axes = h .ax
 
 -- there is room: at most 1,000 records and 16,384 bytes, and the lent store has them
 unfoldable pub hasRoom : Held → ℕ → ℕ → Bool
-hasRoom h n size = leb (h .records + 1) 1000 && leb (h .used + n) 16384 && leb (h .used + n) size
+hasRoom h n size = leb (h .records + 1) mostRecords && leb (h .used + n) storeBytes && leb (h .used + n) size
 
 unfoldable pub storeOf : Held → Record → List ℕ → Storing
 storeOf h r s =

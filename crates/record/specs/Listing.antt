@@ -5,6 +5,7 @@ use Prim.Native.Nat.{ℕ}
 use mathlib.Core.List.{List, [], _∷_, _++_}
 use lib.ListN.{length, drop}
 use lib.Dec.{ltb}
+use Rattle.count.specs.Sizes.{storeBytes, textBytes}
 use Rattle.count.specs.Chars.{ch}
 use Rattle.count.specs.Pick.{pick}
 use Rattle.count.specs.Numbers.{signed}
@@ -48,5 +49,5 @@ tell none-are t = telling (ch "G") 0 t
 
 unfoldable pub listOf : Held → List ℕ → List ℕ → Telling
 listOf h s t =
-    pick (ltb 16384 (h .used)) (telling 103 0 t)
-    (pick (ltb (length t) 32768) (telling 106 0 t) (tell (recordsOf h s) t))
+    pick (ltb storeBytes (h .used)) (telling 103 0 t)
+    (pick (ltb (length t) textBytes) (telling 106 0 t) (tell (recordsOf h s) t))

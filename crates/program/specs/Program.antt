@@ -19,7 +19,7 @@ use Rattle.program.specs.declared.Verdict.{Verdict}
 use Rattle.program.specs.declared.Verdict.the-variants.{Sound, Fault, Unreadable}
 use Rattle.program.specs.Check.{checked}
 
--- the record at a place
+-- the record at a place; behind the last there is none, and what stands for it is no loop, jump or wait
 abbrev pub recordIn : List Record → ℕ → Record
 recordIn l i = getD l i (made 0 [])
 

@@ -1,5 +1,5 @@
--- A movement further on, as `run` of course leaves it: `Engine::glide` cites it. Where it is used, it is that many clock calls
--- (proofs/laws of course).
+-- A movement further on, for the loop of course that makes many pulses in one go: `Engine::glide` cites it. That such a loop is so many
+-- clock calls is the law `glide-joins` of course.
 use Rattle.motion.specs.declared.Counters.{Counters}
 use Rattle.motion.specs.declared.Move.{Move}
 use Rattle.engine.specs.declared.Job.{Job}

@@ -8,6 +8,7 @@ use borrow.Author.Tests.{leb-true, eqb-false}
 use lib.Dec.{leb}
 use lib.IntN.{ℤ}
 use lib.ListN.{length, getD}
+use Rattle.count.specs.Chars.{codes}
 use Rattle.count.specs.Paper.{Paper}
 use Rattle.count.specs.Numbers.{within, in24, signed, word, placed, added}
 use Rattle.count.specs.Ranges.{inSpeed, rightCount, rightZ2, rightDistances, rightSpeeds}
@@ -32,13 +33,12 @@ use Rattle.promise.specs.Steps.{reached, shown}
 use Rattle.promise.specs.Stop.{Step, receive, call, own, other, Mild, Mildly, Place, last, answers, counted as countOf, taken, over, boardAt, Begun, Same, StopChangesNothing}
 use Rattle.promise.specs.Three.{Equals, DemandThree}
 use Rattle.promise.specs.Demanded.{Demanded}
-use Rattle.promise.specs.Twelve.{text}
 use Rattle.promise.specs.Fakes.{claims, mutes, slows, turns, losesPulse, stirs}
 use Rattle.promise.proofs.laws.FakesTyped.{reply0, stepsOf, number}
 
 -- where a machine comes to by the lines `@01` and `@0A3,600`
 abbrev pub moving : (m : Machine) → Place m
-moving m = last m (m .first, noStore) (stepsOf (text "@01\r@0A3,600\r"))
+moving m = last m (m .first, noStore) (stepsOf (codes "@01\r@0A3,600\r"))
 
 -- ---- the schedules: a stop; a stop, the line `@0S` and clock calls; clock calls alone; a call that is refused 102
 

@@ -6,6 +6,7 @@ use mathlib.Core.List.{List, _∷_}
 use mathlib.Core.Path.{_≡_, refl, ap}
 use borrow.Author.Tests.{eqb-false, leb-true}
 use lib.ListN.{getD, length, replicate}
+use Rattle.count.specs.Chars.{codes}
 use Rattle.count.specs.Numbers.{within, in24, signed, word, placed, added}
 use Rattle.count.specs.Ranges.{inSpeed, inOffset, inBack, inLoop, inDelay, inCharacter, inSwitch, inPort, inByte, inZero, rightCount, rightZ2, rightDistances, rightSpeeds}
 use Rattle.count.specs.Text.{hexDigit, hexes, twos24, report, twoHex, decimal, digits, shown}
@@ -39,7 +40,6 @@ use Rattle.course.specs.Walk.{noPorts, noStore}
 use Rattle.promise.specs.Machine.{Event, afterAll}
 use Rattle.promise.specs.Demands.{ticks, Host, sent, ListedAgain}
 use Rattle.promise.specs.Demanded.{Demanded}
-use Rattle.promise.specs.Twelve.{text}
 use Rattle.promise.specs.Fakes.{losesBytes}
 use Rattle.promise.proofs.laws.FakesTyped.{typedOn}
 
@@ -49,7 +49,7 @@ abbrev written : List ℕ
 written = 0xD7 ∷ 0x2B ∷ 53 ∷ 1 ∷ 1 ∷ 0 ∷ 0 ∷ 0 ∷ replicate 16376 0
 
 abbrev events : List Event
-events = typedOn written (text "@01\r@0i\r5 1\r9\r")
+events = typedOn written (codes "@01\r@0i\r5 1\r9\r")
 
 abbrev page : List ℕ
 page = replicate 32768 0

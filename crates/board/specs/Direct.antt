@@ -10,7 +10,7 @@ use Rattle.count.specs.Text.{report, twoHex}
 use Rattle.motion.specs.declared.Planned.{Planned}
 use Rattle.motion.specs.declared.Planned.the-variants as planned
 use Rattle.motion.specs.Plan.{asked, planOf}
-use Rattle.record.specs.Fault.{countRight, axesRight, rangesRight, speedsRight}
+use Rattle.record.specs.Fault.{Asks, asking, just, any, unknown, asks, numbersReply}
 use Rattle.line.specs.declared.Letter.{Letter}
 use Rattle.line.specs.declared.Letter.the-variants as letter
 use Rattle.line.specs.declared.Direct.{Direct}
@@ -21,39 +21,23 @@ use Rattle.board.specs.declared.Board.{Board}
 use Rattle.count.specs.Chars.{ch}
 use Rattle.board.specs.State.{board, noLine, lineDone, Said, said}
 
--- ---- what each line asks: a row for each letter, in the order of 01's first table
+-- ---- what each line wants: a row for each letter, in the order of 01's first table
 
--- is it heard while something stands stopped, does it need axes, and what holds of its numbers: their count (7), an axes value (3),
--- the others (1), the speeds (D); would it pass a resting point outside 24 bits (9); is it S (8, G); is its shape wrong (5)
-pub record Asks : Type 0 where
+-- is it heard while something stands stopped (W), does it need axes (4), what is asked of its shape (5) and of its numbers (7, 3, 1, D),
+-- would it pass a resting point outside 24 bits (9), and is it S (8, G)
+pub record Wants : Type 0 where
   pub heard : Bool
   pub axes : Bool
-  pub count : ℕ → ℕ → Bool
-  pub values : ℕ → List ℕ → Bool
-  pub ranges : ℕ → List ℕ → Bool
-  pub speeds : ℕ → List ℕ → Bool
+  pub numbers : Asks
   pub outside : Engine → List ℕ → Bool
   pub starts : Bool
-  pub wrong : Bool
 
--- so many numbers, and as many as the record of this code has
-abbrev pub just : ℕ → ℕ → ℕ → Bool
-just k axes n = eqb n k
-
-abbrev pub counted : ℕ → ℕ → ℕ → Bool
-counted code axes n = countRight axes code n
-
-abbrev pub any : ℕ → List ℕ → Bool
-any axes l = true
+-- the entries that no record has
+abbrev pub none : Asks
+none = asking (just 0) any any any
 
 abbrev pub axesValue : ℕ → List ℕ → Bool
 axesValue axes l = eqb (getD l 0 0) 1 || eqb (getD l 0 0) 3 || eqb (getD l 0 0) 7
-
-abbrev pub masked : ℕ → List ℕ → Bool
-masked axes l = axesRight axes (ch "n") l
-
-abbrev pub ranged : ℕ → ℕ → List ℕ → Bool
-ranged code axes l = rangesRight axes code l
 
 abbrev pub port : ℕ → List ℕ → Bool
 port axes l = inPort (nth l 0)
@@ -61,70 +45,63 @@ port axes l = inPort (nth l 0)
 abbrev pub portValue : ℕ → List ℕ → Bool
 portValue axes l = inZero (nth l 0) && inByte (nth l 1)
 
-abbrev pub sped : ℕ → ℕ → List ℕ → Bool
-sped code axes l = speedsRight axes code l
-
 abbrev pub isOutside : Planned → Bool
 isOutside (planned.Going m) = false
 isOutside planned.Outside = true
 
-abbrev pub leaves : Engine → Bool → List ℕ → Bool
-leaves e absolute l = isOutside (planOf (asked (e .axes) (e .three) (e .at) (e .origin) absolute l))
-
-abbrev pub leaving : Bool → Engine → List ℕ → Bool
-leaving absolute e l = leaves e absolute l
+abbrev pub leaves : Bool → Engine → List ℕ → Bool
+leaves absolute e l = isOutside (planOf (asked (e .axes) (e .three) (e .at) (e .origin) absolute l))
 
 abbrev pub stays : Engine → List ℕ → Bool
 stays e l = false
 
--- a row: W, 4, 7, 3, 1, D, 9
-abbrev pub asking : Bool → Bool → (ℕ → ℕ → Bool) → (ℕ → List ℕ → Bool) → (ℕ → List ℕ → Bool) → (ℕ → List ℕ → Bool) → (Engine → List ℕ → Bool) → Asks
-asking heard axes count values ranges speeds outside =
-    record { heard = heard; axes = axes; count = count; values = values; ranges = ranges; speeds = speeds; outside = outside; starts = false; wrong = false }
+-- a row: W, 4, numbers, 9
+abbrev pub wanting : Bool → Bool → Asks → (Engine → List ℕ → Bool) → Wants
+wanting heard axes numbers outside = record { heard = heard; axes = axes; numbers = numbers; outside = outside; starts = false }
 
--- A and M are a record's `0` and `m`, n and N its `n`, z its `z`.
-abbrev pub asks : Letter → Asks
-asks letter.Axes = asking false false (just 1) axesValue any any stays
-asks letter.Relative = asking false true (counted (ch "0")) any (ranged (ch "0")) (sped (ch "0")) (leaving false)
-asks letter.Absolute = asking false true (counted (ch "m")) any (ranged (ch "m")) (sped (ch "m")) (leaving true)
-asks letter.Origin = asking false true (counted (ch "n")) masked any any stays
-asks letter.Zero = asking false true (counted (ch "n")) masked any any stays
-asks letter.Three = asking false true (counted (ch "z")) any (ranged (ch "z")) any stays
-asks letter.Position = asking true false (just 0) any any any stays
-asks letter.Input = asking true false (just 1) any port any stays
-asks letter.Output = asking false false (just 2) any portValue any stays
-asks letter.Store = asking false true (just 0) any any any stays
-asks letter.Empty = asking false false (just 0) any any any stays
-asks letter.Start = record { heard = true; axes = true; count = just 0; values = any; ranges = any; speeds = any; outside = stays; starts = true; wrong = false }
-asks letter.Wrong = record { heard = false; axes = false; count = λ axes n. false; values = any; ranges = any; speeds = any; outside = stays; starts = false; wrong = true }
+-- A and M ask what a record's `0` and `m` ask, n and N what its `n`, z what its `z`
+abbrev pub wants : Letter → Wants
+wants letter.Axes = wanting false false (asking (just 1) axesValue any any) stays
+wants letter.Relative = wanting false true (asks (ch "0")) (leaves false)
+wants letter.Absolute = wanting false true (asks (ch "m")) (leaves true)
+wants letter.Origin = wanting false true (asks (ch "n")) stays
+wants letter.Zero = wanting false true (asks (ch "n")) stays
+wants letter.Three = wanting false true (asks (ch "z")) stays
+wants letter.Position = wanting true false none stays
+wants letter.Input = wanting true false (asking (just 1) any port any) stays
+wants letter.Output = wanting false false (asking (just 2) any portValue any) stays
+wants letter.Store = wanting false true none stays
+wants letter.Empty = wanting false false none stays
+wants letter.Start = record { heard = true; axes = true; numbers = none; outside = stays; starts = true }
+wants letter.Wrong = wanting false false unknown stays
 
 -- the columns
 abbrev pub isWrong : Letter → Bool
-isWrong k = asks k .wrong
+isWrong k = not (wants k .numbers .known)
 
 abbrev pub heardStanding : Letter → Bool
-heardStanding k = asks k .heard
+heardStanding k = wants k .heard
 
 abbrev pub needsAxes : Letter → Bool
-needsAxes k = asks k .axes
+needsAxes k = wants k .axes
 
 abbrev pub countFits : Letter → ℕ → ℕ → Bool
-countFits k = asks k .count
+countFits k = wants k .numbers .count
 
 abbrev pub axesFit : Letter → ℕ → List ℕ → Bool
-axesFit k = asks k .values
+axesFit k = wants k .numbers .values
 
 abbrev pub rangesFit : Letter → ℕ → List ℕ → Bool
-rangesFit k = asks k .ranges
+rangesFit k = wants k .numbers .ranges
 
 abbrev pub speedsFit : Letter → ℕ → List ℕ → Bool
-speedsFit k = asks k .speeds
+speedsFit k = wants k .numbers .speeds
 
 abbrev pub restsOutside : Letter → Engine → List ℕ → Bool
-restsOutside k = asks k .outside
+restsOutside k = wants k .outside
 
 abbrev pub isStart : Letter → Bool
-isStart k = asks k .starts
+isStart k = wants k .starts
 
 -- ---- the table of replies: the first row that holds gives the reply
 
@@ -146,15 +123,15 @@ replyOf e standing d =
     (row (ch "5") (isWrong (d .letter))
     ∷ row (ch "W") (standing && not (heardStanding (d .letter)))
     ∷ row (ch "4") (needsAxes (d .letter) && eqb (e .axes) 0)
-    ∷ row (ch "7") (not (countFits (d .letter) (e .axes) (d .count)))
-    ∷ row (ch "3") (not (axesFit (d .letter) (e .axes) (d .words)))
-    ∷ row (ch "1") (not (rangesFit (d .letter) (e .axes) (d .words)))
-    ∷ row (ch "D") (not (speedsFit (d .letter) (e .axes) (d .words)))
-    ∷ row (ch "9") (restsOutside (d .letter) e (d .words))
+    ∷ [])
+    (numbersReply (countFits (d .letter) (e .axes) (d .count)) (axesFit (d .letter) (e .axes) (d .words))
+    (rangesFit (d .letter) (e .axes) (d .words)) (speedsFit (d .letter) (e .axes) (d .words))
+    (first
+    (row (ch "9") (restsOutside (d .letter) e (d .words))
     ∷ row (ch "8") (isStart (d .letter) && not standing && eqb (e .held .records) 0)
     ∷ row (ch "G") (isStart (d .letter) && not standing && not (eqb (e .axes) (e .held .axes)))
     ∷ [])
-    (ch "0")
+    (ch "0")))
 
 -- ---- the effects of an accepted line: the engine, whether something still stands, and the reply
 

@@ -7,7 +7,7 @@ use Rattle.count.specs.Chars.{ch}
 use Rattle.count.specs.Pick.{pick}
 use Rattle.record.specs.declared.Held.{Held}
 use Rattle.record.specs.declared.Record.{Record}
-use Rattle.record.specs.Fault.{countRight, axesRight, rangesRight, speedsRight}
+use Rattle.record.specs.Fault.{countRight, axesRight, rangesRight, speedsRight, numbersReply}
 use Rattle.record.specs.Keep.{Storing, storeOf}
 use Rattle.program.specs.Program.{verdictOf, isSound}
 use Rattle.line.specs.declared.Code.{Code}
@@ -17,22 +17,16 @@ use Rattle.engine.specs.declared.Engine.{Engine}
 use Rattle.engine.specs.State.{withHeld, emptied, ceased}
 use Rattle.board.specs.declared.Board.{Board}
 use Rattle.board.specs.State.{board, noLine, lineDone, Said, said}
-use Rattle.board.specs.Direct.{first, row}
 
 abbrev pub recordOf : ℕ → Stored → Record
 recordOf c d = record { code = c; count = d .count; words = d .words }
 
--- the rows of the table that a record can meet; counts and ranges go by the store's axes, and 4 and 9 are never given here
+-- the rows of the table that a record can meet: 7, 3, 1, D and 6; counts and ranges go by the store's axes, and 4 and 9 are never given here
 unfoldable pub recordReply : Held → Record → List ℕ → ℕ
 recordReply h r store =
-    first
-    (row (ch "7") (not (countRight (h .axes) (r .code) (r .count)))
-    ∷ row (ch "3") (not (axesRight (h .axes) (r .code) (r .words)))
-    ∷ row (ch "1") (not (rangesRight (h .axes) (r .code) (r .words)))
-    ∷ row (ch "D") (not (speedsRight (h .axes) (r .code) (r .words)))
-    ∷ row (ch "6") (not (storeOf h r store .kept .stored))
-    ∷ [])
-    (ch "0")
+    numbersReply (countRight (h .axes) (r .code) (r .count)) (axesRight (h .axes) (r .code) (r .words))
+    (rangesRight (h .axes) (r .code) (r .words)) (speedsRight (h .axes) (r .code) (r .words))
+    (pick (not (storeOf h r store .kept .stored)) (ch "6") (ch "0"))
 
 -- a right record is written at the end of the part in use; a refused one isn't stored and storing goes on
 abbrev pub recordSaid : Record → Board → List ℕ → Said

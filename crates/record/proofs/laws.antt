@@ -3,6 +3,7 @@ pub mod Below
 pub mod Right
 pub mod Stored
 pub mod Faultless
+pub mod Rows
 pub mod Shapes
 pub mod Lines
 pub mod Told

@@ -1,8 +1,9 @@
--- What is wrong with a record's code and numbers under given axes: replies 7, 3, 1 and D in this order (01, "Lines": the paragraph on
--- storing, the table of replies, and the paragraph under it). Order is by kind, not by place: all ranges before all speeds.
+-- What a record's code asks of its numbers under given axes, and what is wrong with them: replies 5, 7, 3, 1 and D in this order (01,
+-- "Lines": the paragraph on storing, the table of replies, and the paragraph under it). Order is by kind, not by place: all ranges
+-- before all speeds.
 use Prim.Native.Nat.{ℕ}
 use mathlib.Core.List.{List}
-use mathlib.Core.Bool.{Bool, true, _&&_, _||_}
+use mathlib.Core.Bool.{Bool, true, false, not, _&&_, _||_}
 use lib.Dec.{eqb}
 use lib.IntN.{ℤ, pos}
 use Rattle.count.specs.Chars.{ch}
@@ -10,47 +11,111 @@ use Rattle.count.specs.Pick.{pick}
 use Rattle.count.specs.Numbers.{within}
 use Rattle.count.specs.Ranges.{inOffset, inBack, inLoop, inDelay, inCharacter, inSwitch, inZero, nth, rightCount, rightDistances, rightSpeeds}
 
--- the codes: `0` and `m` movement, `n` origin, `z` 3D, `3` loop or jump, `5` delay, `1` character sent, `2` character waited for
+-- ---- a row: is it known at all (5), and what holds of its numbers under the axes: how many they are (7), an axes value (3), the others
+-- (1), the speeds (D)
+
+pub record Asks : Type 0 where
+  pub known : Bool
+  pub count : ℕ → ℕ → Bool
+  pub values : ℕ → List ℕ → Bool
+  pub ranges : ℕ → List ℕ → Bool
+  pub speeds : ℕ → List ℕ → Bool
+
+-- a row: 7, 3, 1, D
+abbrev pub asking : (ℕ → ℕ → Bool) → (ℕ → List ℕ → Bool) → (ℕ → List ℕ → Bool) → (ℕ → List ℕ → Bool) → Asks
+asking count values ranges speeds = record { known = true; count = count; values = values; ranges = ranges; speeds = speeds }
+
+-- so many numbers, whatever the axes
+abbrev pub just : ℕ → ℕ → ℕ → Bool
+just k axes n = eqb n k
+
+-- nothing is asked
+abbrev pub any : ℕ → List ℕ → Bool
+any axes l = true
+
+-- what is not known
+abbrev pub unknown : Asks
+unknown = record { known = false; count = λ axes n. false; values = any; ranges = any; speeds = any }
+
+-- ---- the columns' entries, by what the numbers are
+
+-- 3: axes are 1 to 7 and none beyond the axes set; the sets 1, 3 and 7 hold just the values up to themselves
+abbrev pub axesSet : ℕ → List ℕ → Bool
+axesSet axes l = within (pos 1) (pos 7) (nth l 0) && within (pos 1) (pos axes) (nth l 0)
+
+abbrev pub distances : ℕ → List ℕ → Bool
+distances axes l = rightDistances axes false l
+
+abbrev pub targets : ℕ → List ℕ → Bool
+targets axes l = rightDistances axes true l
+
+abbrev pub switch : ℕ → List ℕ → Bool
+switch axes l = inSwitch (nth l 0)
+
+-- a loop: number 1 to 32,767 and an offset of at most -1; a jump: number 0 and any offset
+unfoldable pub loopRight : ℤ → ℤ → Bool
+loopRight number offset = (inLoop number && inBack offset) || (inZero number && inOffset offset)
+
+abbrev pub loopOrJump : ℕ → List ℕ → Bool
+loopOrJump axes l = loopRight (nth l 0) (nth l 1)
+
+abbrev pub delay : ℕ → List ℕ → Bool
+delay axes l = inDelay (nth l 0)
+
+abbrev pub character : ℕ → List ℕ → Bool
+character axes l = inCharacter (nth l 0)
+
+abbrev pub characterOffset : ℕ → List ℕ → Bool
+characterOffset axes l = inCharacter (nth l 0) && inOffset (nth l 1)
+
+-- ---- the table: `0` and `m` movement, `n` origin, `z` 3D, `3` loop or jump, `5` delay, `1` character sent, `2` character waited for
+
+abbrev pub asks : ℕ → Asks
+asks code =
+    pick (eqb code (ch "0")) (asking rightCount any distances rightSpeeds)
+    (pick (eqb code (ch "m")) (asking rightCount any targets rightSpeeds)
+    (pick (eqb code (ch "n")) (asking (just 1) axesSet any any)
+    (pick (eqb code (ch "z")) (asking (just 1) any switch any)
+    (pick (eqb code (ch "3")) (asking (just 2) any loopOrJump any)
+    (pick (eqb code (ch "5")) (asking (just 1) any delay any)
+    (pick (eqb code (ch "1")) (asking (just 1) any character any)
+    (pick (eqb code (ch "2")) (asking (just 2) any characterOffset any) unknown)))))))
+
+-- its columns
+unfoldable pub isCode : ℕ → Bool
+isCode code = asks code .known
+
+unfoldable pub countRight : ℕ → ℕ → ℕ → Bool
+countRight axes code n = asks code .count axes n
+
+unfoldable pub axesRight : ℕ → ℕ → List ℕ → Bool
+axesRight axes code l = asks code .values axes l
+
+unfoldable pub rangesRight : ℕ → ℕ → List ℕ → Bool
+rangesRight axes code l = asks code .ranges axes l
+
+unfoldable pub speedsRight : ℕ → ℕ → List ℕ → Bool
+speedsRight axes code l = asks code .speeds axes l
+
+-- the movements, for those who run them
 abbrev pub isMovement : ℕ → Bool
 isMovement code = eqb code (ch "0") || eqb code (ch "m")
 
 abbrev pub isAbsolute : ℕ → Bool
 isAbsolute code = eqb code (ch "m")
 
-unfoldable pub isCode : ℕ → Bool
-isCode code = isMovement code || (eqb code (ch "n") || eqb code (ch "z") || eqb code (ch "3") || eqb code (ch "5") || eqb code (ch "1") || eqb code (ch "2"))
+-- ---- the reply's character
 
--- 7: a movement has its axes' count; `3` and `2` have two numbers, the others one
-unfoldable pub countRight : ℕ → ℕ → ℕ → Bool
-countRight axes code n = pick (isMovement code) (rightCount axes n) (pick (eqb code (ch "3") || eqb code (ch "2")) (eqb n 2) (eqb n 1))
+-- the refusals of numbers in their order, and what comes behind them
+abbrev pub numbersReply : Bool → Bool → Bool → Bool → ℕ → ℕ
+numbersReply count values ranges speeds other =
+    pick (not count) (ch "7")
+    (pick (not values) (ch "3")
+    (pick (not ranges) (ch "1")
+    (pick (not speeds) (ch "D") other)))
 
--- 3: the axes of `n` are 1 to 7 and none beyond the axes set; the sets 1, 3 and 7 hold just the values up to themselves
-unfoldable pub axesRight : ℕ → ℕ → List ℕ → Bool
-axesRight axes code l = pick (eqb code (ch "n")) (within (pos 1) (pos 7) (nth l 0) && within (pos 1) (pos axes) (nth l 0)) true
-
--- a loop: number 1 to 32,767 and an offset of at most -1; a jump: number 0 and any offset
-unfoldable pub loopRight : ℤ → ℤ → Bool
-loopRight number offset = (inLoop number && inBack offset) || (inZero number && inOffset offset)
-
--- 1: every other number in its range
-unfoldable pub rangesRight : ℕ → ℕ → List ℕ → Bool
-rangesRight axes code l =
-    pick (isMovement code) (rightDistances axes (isAbsolute code) l)
-    (pick (eqb code (ch "z")) (inSwitch (nth l 0))
-    (pick (eqb code (ch "3")) (loopRight (nth l 0) (nth l 1))
-    (pick (eqb code (ch "5")) (inDelay (nth l 0))
-    (pick (eqb code (ch "1")) (inCharacter (nth l 0))
-    (pick (eqb code (ch "2")) (inCharacter (nth l 0) && inOffset (nth l 1)) true)))))
-
--- D: every speed of a movement, used or not
-unfoldable pub speedsRight : ℕ → ℕ → List ℕ → Bool
-speedsRight axes code l = pick (isMovement code) (rightSpeeds axes l) true
-
--- the reply's character: 7, 3, 1, D, or 0 where the record is right; a code that is none has the wrong shape, 5
+-- a code that is none has the wrong shape, 5; 0 where the record is right
 unfoldable pub faultOf : ℕ → ℕ → ℕ → List ℕ → ℕ
 faultOf axes code n l =
-    pick (isCode code)
-    (pick (countRight axes code n)
-    (pick (axesRight axes code l) (pick (rangesRight axes code l) (pick (speedsRight axes code l) (ch "0") (ch "D")) (ch "1")) (ch "3"))
-    (ch "7"))
-    (ch "5")
+    pick (not (isCode code)) (ch "5")
+    (numbersReply (countRight axes code n) (axesRight axes code l) (rangesRight axes code l) (speedsRight axes code l) (ch "0"))

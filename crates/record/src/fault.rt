@@ -1,5 +1,6 @@
 // What is wrong with a record's code and numbers under given axes; all ranges are tested before all speeds.
 ghost use mathlib.Core.Path.{_≡_};
+ghost use mathlib.Core.Bool.{true};
 ghost use lib.IntN.{pos};
 ghost use Rattle.count.specs.Numbers.{within, signed};
 ghost use Rattle.record.specs.Fault.{isMovement, isCode, countRight, axesRight, loopRight, rangesRight, speedsRight, faultOf};
@@ -22,8 +23,9 @@ fn is_code(code: u8) -> bool
             | (code == b'2'))
 }
 
-// 7: whether a record of this code has this many numbers.
+// 7: whether a record of this code, which is one, has this many numbers.
 fn count_right(axes: u8, code: u8, n: usize) -> bool
+    requires { ⌜ isCode code ≡ true ⌝ }
     ensures { λ r. ⌜ r ≡ countRight axes code n ⌝ }
 {
     if is_movement(code) {

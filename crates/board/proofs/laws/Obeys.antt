@@ -17,7 +17,8 @@ use Rattle.count.proofs.laws.Truth.{and-left, and-right}
 use Rattle.motion.specs.declared.Planned.{Planned}
 use Rattle.motion.specs.declared.Planned.the-variants as planned
 use Rattle.motion.specs.Plan.{asked, planOf}
-use Rattle.record.specs.Fault.{isCode, countRight, axesRight, rangesRight, speedsRight, faultOf}
+use Rattle.record.specs.Fault.{isCode, countRight, axesRight, rangesRight, speedsRight, numbersReply, faultOf}
+use Rattle.record.proofs.laws.Faultless.{fault-none}
 use Rattle.line.specs.declared.Letter.{Letter}
 use Rattle.line.specs.declared.Letter.the-variants as letter
 use Rattle.line.specs.declared.Direct.{Direct}
@@ -34,24 +35,29 @@ use Rattle.board.proofs.laws.Stores.{four}
 
 -- ---- the rows of the table
 
--- 7, 3, 1 and D of each letter, with what comes behind them
+-- 7, 3, 1 and D of each letter
+numbers-as : (k : Letter) (axes n : ℕ) (l : List ℕ)
+    → numbersFault k axes n l ≡ numbersReply (countFits k axes n) (axesFit k axes l) (rangesFit k axes l) (speedsFit k axes l) 48
+unfolding faultOf isCode countRight axesRight rangesRight speedsRight axesFault inputFault outputFault
+numbers-as letter.Wrong axes n l = refl
+numbers-as letter.Axes axes n l = refl
+numbers-as letter.Relative axes n l = refl
+numbers-as letter.Absolute axes n l = refl
+numbers-as letter.Origin axes n l = refl
+numbers-as letter.Zero axes n l = refl
+numbers-as letter.Three axes n l = refl
+numbers-as letter.Position axes n l = refl
+numbers-as letter.Input axes n l = refl
+numbers-as letter.Output axes n l = refl
+numbers-as letter.Store axes n l = refl
+numbers-as letter.Empty axes n l = refl
+numbers-as letter.Start axes n l = refl
+
+-- with what comes behind them
 numbers-so : (k : Letter) (axes n : ℕ) (l : List ℕ) (o : ℕ)
-    → pick (not (countFits k axes n)) 55 (pick (not (axesFit k axes l)) 51 (pick (not (rangesFit k axes l)) 49 (pick (not (speedsFit k axes l)) 68 o)))
+    → numbersReply (countFits k axes n) (axesFit k axes l) (rangesFit k axes l) (speedsFit k axes l) o
     ≡ pick (eqb (numbersFault k axes n l) 48) o (numbersFault k axes n l)
-unfolding faultOf isCode axesRight rangesRight speedsRight axesFault inputFault outputFault
-numbers-so letter.Wrong axes n l o = refl
-numbers-so letter.Axes axes n l o = four (eqb n 1) (eqb (getD l 0 0) 1 || eqb (getD l 0 0) 3 || eqb (getD l 0 0) 7) true true o
-numbers-so letter.Relative axes n l o = four (countRight axes 48 n) true (rangesRight axes 48 l) (speedsRight axes 48 l) o
-numbers-so letter.Absolute axes n l o = four (countRight axes 109 n) true (rangesRight axes 109 l) (speedsRight axes 109 l) o
-numbers-so letter.Origin axes n l o = four (countRight axes 110 n) (axesRight axes 110 l) true true o
-numbers-so letter.Zero axes n l o = four (countRight axes 110 n) (axesRight axes 110 l) true true o
-numbers-so letter.Three axes n l o = four (countRight axes 122 n) true (rangesRight axes 122 l) true o
-numbers-so letter.Position axes n l o = four (eqb n 0) true true true o
-numbers-so letter.Input axes n l o = four (eqb n 1) true (inPort (nth l 0)) true o
-numbers-so letter.Output axes n l o = four (eqb n 2) true (inZero (nth l 0) && inByte (nth l 1)) true o
-numbers-so letter.Store axes n l o = four (eqb n 0) true true true o
-numbers-so letter.Empty axes n l o = four (eqb n 0) true true true o
-numbers-so letter.Start axes n l o = four (eqb n 0) true true true o
+numbers-so k axes n l o = rw (numbers-as k axes n l) (four (countFits k axes n) (axesFit k axes l) (rangesFit k axes l) (speedsFit k axes l) o)
 
 -- 5, W and 4 before them
 three : (a b c : Bool) (f o : ℕ) → pick a 53 (pick b 87 (pick c 52 (pick (eqb f 48) o f)))
@@ -101,7 +107,7 @@ pub no-standing : (axes : ℕ) (s : Bool) (d : Direct) → lineFault axes s d �
 unfolding lineFault
 no-standing axes s d p = no-second (isWrong (d .letter)) (s && not (heardStanding (d .letter))) (needsAxes (d .letter) && eqb axes 0) _ p
 
-pick-two : (a b : Bool) (x : ℕ) → (x ≡ 48 → ⊥) → pick a (pick b 48 x) 55 ≡ 48 → b ≡ true
+pick-two : (a b : Bool) (x : ℕ) → (x ≡ 48 → ⊥) → pick (not a) 55 (pick (not b) x 48) ≡ 48 → b ≡ true
 pick-two true true x h p = refl
 pick-two true false x h p = absurd (h p)
 pick-two false b x h p = absurd (omega arith)
@@ -132,18 +138,11 @@ byte-small n w v p =
     let h = and-right (inZero (signed w)) (inByte (signed v)) (pick-two (eqb n 2) (inZero (signed w) && inByte (signed v)) 49 (λ q. omega arith) p) in
     omega (arith, leb-true v 255 (sym (within-zero 255 v (omega arith)) ∙ h))
 
-axes-by : (a b c d e : Bool) → _≡_ {A = ℕ} (pick a (pick b (pick c (pick d (pick e 48 68) 49) 51) 55) 53) 48 → c ≡ true
-axes-by true true true d e p = refl
-axes-by true true false d e p = absurd (omega arith)
-axes-by true false c d e p = absurd (omega arith)
-axes-by false b c d e p = absurd (omega arith)
-
 named-small : (axes n : ℕ) (l : List ℕ) → faultOf axes 110 n l ≡ 48 → getD l 0 0 < 256
-unfolding faultOf axesRight
+unfolding axesRight
 named-small axes n l p =
     let w = getD l 0 0 in
-    let h = axes-by (isCode 110) (countRight axes 110 n) (axesRight axes 110 l) (rangesRight axes 110 l) (speedsRight axes 110 l) p in
-    let g = and-left (within (pos 1) (pos 7) (signed w)) (within (pos 1) (pos axes) (signed w)) h in
+    let g = and-left (within (pos 1) (pos 7) (signed w)) (within (pos 1) (pos axes) (signed w)) (fault-none axes 110 n l p .axes-so) in
     omega (arith, leb-true w 7 (and-right (leb 1 w) (leb w 7) (sym (within-up 1 7 w (omega arith)) ∙ g)))
 
 -- ---- the effect of each letter

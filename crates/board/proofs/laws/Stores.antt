@@ -1,20 +1,20 @@
 -- The code's way through a line while storing is the definition's. Assumes nothing.
 use Prim.Native.Nat.{ℕ, _≤_}
 use mathlib.Core.Path.{_≡_, refl, sym, ap, _∙_}
-use mathlib.Core.Bool.{Bool, true, false, not, _||_}
+use mathlib.Core.Bool.{Bool, true, false, not}
 use mathlib.Core.List.{List, [], _∷_}
 use native.Mathlib.Omega.{arith}
 use borrow.Author.Tests.{eqb-true, eq-eqb, ne-eqb}
 use lib.Dec.{eqb}
 use lib.ListN.{length}
 use Rattle.count.specs.Pick.{pick}
-use Rattle.count.specs.Ranges.{rightCount}
-use Rattle.count.proofs.laws.Truth.{never}
 use Rattle.record.specs.declared.Held.{Held}
 use Rattle.record.specs.declared.Kept.{Kept}
 use Rattle.record.specs.declared.Record.{Record}
 use Rattle.record.specs.Bytes.{encode}
-use Rattle.record.specs.Fault.{isMovement, isCode, countRight, axesRight, rangesRight, speedsRight, faultOf}
+use Rattle.record.specs.Fault.{isCode, countRight, axesRight, rangesRight, speedsRight, numbersReply, faultOf}
+use Rattle.record.proofs.laws.Faultless.{fault-none}
+use Rattle.record.proofs.laws.Shapes.{Shape, one, two, eight, shape, four as four-numbers}
 use Rattle.record.specs.Keep.{Storing, storing, longer, hasRoom, storeOf}
 use Rattle.line.specs.declared.Code.{Code}
 use Rattle.line.specs.declared.Code.the-variants as code
@@ -24,14 +24,12 @@ use Rattle.line.specs.Lines.{behind, codeOf, stored, byCode, storedOf}
 use Rattle.board.specs.declared.Board.{Board}
 use Rattle.board.specs.declared.Spoke.{Spoke}
 use Rattle.board.specs.State.{lineDone, Said, said}
-use Rattle.board.specs.Direct.{first}
 use Rattle.board.specs.Storing.{recordOf, recordReply, recordSaid, endSaid, storedSaid}
 use Rattle.board.specs.work.Work.{spoke, repliedWith, keptSaid}
 
 -- ---- 7, 3, 1 and D as rows, and what comes behind them
 
-pub four : (a b c d : Bool) (o : ℕ) → pick (not a) 55 (pick (not b) 51 (pick (not c) 49 (pick (not d) 68 o)))
-    ≡ pick (eqb (pick a (pick b (pick c (pick d 48 68) 49) 51) 55) 48) o (pick a (pick b (pick c (pick d 48 68) 49) 51) 55)
+pub four : (a b c d : Bool) (o : ℕ) → numbersReply a b c d o ≡ pick (eqb (numbersReply a b c d 48) 48) o (numbersReply a b c d 48)
 four true true true true o = refl
 four true true true false o = refl
 four true true false d o = refl
@@ -48,7 +46,7 @@ module _ (r : Record) (b : Board) (store : List ℕ) (k : isCode (r .code) ≡ t
   fits = storeOf (b .engine .held) r store .kept .stored
 
   reply-so : recordReply (b .engine .held) r store ≡ pick (eqb fault 48) (pick (not fits) 54 48) fault
-  unfolding recordReply first faultOf
+  unfolding recordReply faultOf
   reply-so =
       let axes = b .engine .held .axes in
       rw k (four (countRight axes (r .code) (r .count)) (axesRight axes (r .code) (r .words)) (rangesRight axes (r .code) (r .words))
@@ -84,27 +82,14 @@ not-kept h r s e p = kept-by (hasRoom h (length (encode r)) (length s)) h r s _ 
 
 -- ---- a right record has at most eight numbers
 
-count-by : (a b c d e : Bool) → _≡_ {A = ℕ} (pick a (pick b (pick c (pick d (pick e 48 68) 49) 51) 55) 53) 48 → b ≡ true
-count-by true true c d e p = refl
-count-by true false c d e p = absurd (omega arith)
-count-by false b c d e p = absurd (omega arith)
-
-three-by : (t u v : Bool) (n : ℕ) → pick t (eqb n 2) (pick u (eqb n 4) (pick v (eqb n 8) false)) ≡ true → n ≤ 8
-three-by true u v n p = omega (arith, eqb-true n 2 p)
-three-by false true v n p = omega (arith, eqb-true n 4 p)
-three-by false false true n p = omega (arith, eqb-true n 8 p)
-three-by false false false n p = never p
-
-two-by : (t u : Bool) (n : ℕ) (x : Bool) → (x ≡ true → n ≤ 8) → pick t x (pick u (eqb n 2) (eqb n 1)) ≡ true → n ≤ 8
-two-by true u n x f p = f p
-two-by false true n x f p = omega (arith, eqb-true n 2 p)
-two-by false false n x f p = omega (arith, eqb-true n 1 p)
+eight-most : {n : ℕ} {l : List ℕ} → Shape n l → n ≤ 8
+eight-most (one e p) = omega arith
+eight-most (two e p q) = omega arith
+eight-most (four-numbers e p q r s) = omega arith
+eight-most (eight e p q r s t u v w) = omega arith
 
 pub count-small : (axes c n : ℕ) (l : List ℕ) → faultOf axes c n l ≡ 48 → n ≤ 8
-unfolding faultOf countRight rightCount
-count-small axes c n l p =
-    two-by (isMovement c) (eqb c 51 || eqb c 50) n (rightCount axes n) (three-by (eqb axes 1) (eqb axes 3) (eqb axes 7) n)
-    (count-by (isCode c) (countRight axes c n) (axesRight axes c l) (rangesRight axes c l) (speedsRight axes c l) p)
+count-small axes c n l p = eight-most (shape l axes c n (fault-none axes c n l p))
 
 -- ---- the code of a line's record is one
 

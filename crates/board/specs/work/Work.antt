@@ -11,7 +11,7 @@ use Rattle.count.specs.Ranges.{inPort, inByte, inZero}
 use Rattle.count.specs.Text.{Written, written, report, twoHex}
 use Rattle.motion.specs.declared.Counters.{Counters}
 use Rattle.record.specs.declared.Record.{Record}
-use Rattle.record.specs.Fault.{faultOf}
+use Rattle.record.specs.Fault.{numbersReply, faultOf}
 use Rattle.record.specs.Keep.{storeOf}
 use Rattle.line.specs.declared.Letter.{Letter}
 use Rattle.line.specs.declared.Letter.the-variants as letter
@@ -58,16 +58,16 @@ putOf t reply = written (length t) (t ++ drop (length t) reply)
 -- ---- the faults of a line: 7, 3, 1 and D by letter; before them 5, W and 4
 
 abbrev pub countFault : ℕ → ℕ
-countFault n = pick (eqb n 0) 48 55
+countFault n = numbersReply (eqb n 0) true true true 48
 
 unfoldable pub axesFault : ℕ → ℕ → ℕ
-axesFault n w = pick (eqb n 1) (pick (eqb w 1 || eqb w 3 || eqb w 7) 48 51) 55
+axesFault n w = numbersReply (eqb n 1) (eqb w 1 || eqb w 3 || eqb w 7) true true 48
 
 unfoldable pub inputFault : ℕ → ℕ → ℕ
-inputFault n w = pick (eqb n 1) (pick (inPort (signed w)) 48 49) 55
+inputFault n w = numbersReply (eqb n 1) true (inPort (signed w)) true 48
 
 unfoldable pub outputFault : ℕ → ℕ → ℕ → ℕ
-outputFault n w v = pick (eqb n 2) (pick (inZero (signed w) && inByte (signed v)) 48 49) 55
+outputFault n w v = numbersReply (eqb n 2) true (inZero (signed w) && inByte (signed v)) true 48
 
 abbrev pub numbersFault : Letter → ℕ → ℕ → List ℕ → ℕ
 numbersFault letter.Wrong axes n l = 55

@@ -5,33 +5,23 @@ use mathlib.Core.Path.{_≡_, refl, sym, _∙_}
 use mathlib.Core.Bool.{Bool, true, false, _&&_, _||_}
 use mathlib.Core.List.{List}
 use native.Mathlib.Omega.{arith}
-use borrow.Author.Tests.{eqb-true, leb-true, lt-leb}
+use borrow.Author.Tests.{leb-true, lt-leb}
 use lib.Dec.{leb}
 use lib.IntN.{ℤ, pos, negsuc}
 use lib.ListN.{getD}
 use lib.Signed.{leZ}
-use Rattle.count.specs.Pick.{pick}
 use Rattle.count.specs.Numbers.{within}
 use Rattle.count.specs.Ranges.{nth, inOffset, inBack, inLoop, inZero, inCharacter}
 use Rattle.count.proofs.laws.Laws.{within-up, within-zero}
 use Rattle.count.proofs.laws.Truth.{never, and-parts}
 use Rattle.record.specs.declared.Record.{Record}
-use Rattle.record.specs.Fault.{isCode, countRight, axesRight, rangesRight, speedsRight, loopRight, faultOf}
+use Rattle.record.specs.Fault.{rangesRight, loopRight}
 use Rattle.record.specs.Bytes.{isRight}
+use Rattle.record.proofs.laws.Faultless.{right-faultless}
 use Rattle.program.specs.work.Aims.{shift}
 
-fourth : (a b c d e : Bool) → pick {A = ℕ} a (pick b (pick c (pick d (pick e 48 68) 49) 51) 55) 53 ≡ 48 → d ≡ true
-fourth true true true true e h = refl
-fourth false b c d e h = absurd (omega arith)
-fourth true false c d e h = absurd (omega arith)
-fourth true true false d e h = absurd (omega arith)
-fourth true true true false e h = absurd (omega arith)
-
 pub ranges-right : (axes : ℕ) (r : Record) → isRight axes r ≡ true → rangesRight axes (r .code) (r .words) ≡ true
-unfolding faultOf
-ranges-right axes r h =
-    fourth (isCode (r .code)) (countRight axes (r .code) (r .count)) (axesRight axes (r .code) (r .words)) (rangesRight axes (r .code) (r .words))
-    (speedsRight axes (r .code) (r .words)) (eqb-true _ _ h)
+ranges-right axes r h = right-faultless axes r h .ranges-so
 
 -- ---- each code
 

@@ -1,6 +1,6 @@
 -- `record::axes_right` meets its contract. Assumes nothing.
 use borrow.Author.Tests.{eq-eqb, ne-eqb}
-use Rattle.record.specs.Fault.{axesRight}
+use Rattle.record.proofs.laws.Rows.{axes-so}
 use borrow.Author.Needs.{needs}
 use Rattle.record.proofs.fault.axes_right.Statement.{statement}
 use Rattle.record.proofs.fault.axes_right.Tie as tie
@@ -18,12 +18,10 @@ from-one-requires-2 : tie.Need-from-one-requires-2
 from-one-requires-2 c κs = search needs
 
 returns : tie.Need-returns
-unfolding axesRight
-returns c = simp (eq-eqb _ _ (c .before .before .if1 .taken), c .from-one2 .ensures, c .before .from-one .ensures)
+returns c = simp (axes-so, eq-eqb _ _ (c .before .before .if1 .taken), c .from-one2 .ensures, c .before .from-one .ensures)
 
 returns-2 : tie.Need-returns-2
-unfolding axesRight
-returns-2 c = simp (ne-eqb _ _ (c .if1 .left))
+returns-2 c = simp (axes-so, ne-eqb _ _ (c .if1 .left))
 
 pub axes-right-spec : {M : Type 1} → statement M
 axes-right-spec =

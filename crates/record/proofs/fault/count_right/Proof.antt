@@ -1,5 +1,5 @@
 -- `record::count_right` meets its contract. Assumes nothing.
-use Rattle.record.specs.Fault.{countRight}
+use Rattle.record.proofs.laws.Rows.{count-so}
 use borrow.Author.Needs.{needs}
 use Rattle.record.proofs.fault.count_right.Statement.{statement}
 use Rattle.record.proofs.fault.count_right.Tie as tie
@@ -11,16 +11,13 @@ right-count-requires : tie.Need-right-count-requires
 right-count-requires c κs = search needs
 
 returns : tie.Need-returns
-unfolding countRight
-returns c = simp (← c .before .before .is-movement .ensures, c .before .if1 .taken, c .right-count .ensures)
+returns c = rw (count-so _ _ _ (c .before .before .before .pre)) (simp (← c .before .before .is-movement .ensures, c .before .if1 .taken, c .right-count .ensures))
 
 returns-2 : tie.Need-returns-2
-unfolding countRight
-returns-2 c = simp (← c .before .before .is-movement .ensures, c .before .if1 .left, c .if2 .taken)
+returns-2 c = rw (count-so _ _ _ (c .before .before .before .pre)) (simp (← c .before .before .is-movement .ensures, c .before .if1 .left, c .if2 .taken))
 
 returns-3 : tie.Need-returns-3
-unfolding countRight
-returns-3 c = simp (← c .before .before .is-movement .ensures, c .before .if1 .left, c .if2 .left)
+returns-3 c = rw (count-so _ _ _ (c .before .before .before .pre)) (simp (← c .before .before .is-movement .ensures, c .before .if1 .left, c .if2 .left))
 
 pub count-right-spec : {M : Type 1} → statement M
 count-right-spec =

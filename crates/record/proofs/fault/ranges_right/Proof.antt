@@ -1,6 +1,8 @@
 -- `record::ranges_right` meets its contract. Assumes nothing.
+use mathlib.Core.Path.{sym}
 use borrow.Author.Tests.{ne-eqb}
 use Rattle.record.specs.Fault.{rangesRight}
+use Rattle.record.proofs.laws.Rows.{ranges-none}
 use borrow.Author.Needs.{needs}
 use Rattle.record.proofs.fault.ranges_right.Statement.{statement}
 use Rattle.record.proofs.fault.ranges_right.Tie as tie
@@ -79,17 +81,16 @@ unfolding rangesRight
 returns-7 c = simp (c .before .before .match .keys7, c .is-offset .ensures, c .before .is-character2 .ensures)
 
 returns-8 : tie.Need-returns-8
-unfolding rangesRight
 returns-8 c =
-    simp (
-      ne-eqb _ _ (c .match .rest .1),
-      ne-eqb _ _ (c .match .rest .0 .1),
-      ne-eqb _ _ (c .match .rest .0 .0 .1),
-      ne-eqb _ _ (c .match .rest .0 .0 .0 .1),
-      ne-eqb _ _ (c .match .rest .0 .0 .0 .0 .1),
-      ne-eqb _ _ (c .match .rest .0 .0 .0 .0 .0 .1),
-      ne-eqb _ _ (c .match .rest .0 .0 .0 .0 .0 .0 .1),
-    )
+    sym
+    (ranges-none _ _ _
+    (ne-eqb _ _ (c .match .rest .0 .0 .0 .0 .0 .0 .1))
+    (ne-eqb _ _ (c .match .rest .0 .0 .0 .0 .0 .1))
+    (ne-eqb _ _ (c .match .rest .0 .0 .0 .0 .1))
+    (ne-eqb _ _ (c .match .rest .0 .0 .0 .1))
+    (ne-eqb _ _ (c .match .rest .0 .0 .1))
+    (ne-eqb _ _ (c .match .rest .0 .1))
+    (ne-eqb _ _ (c .match .rest .1)))
 
 pub ranges-right-spec : {M : Type 1} → statement M
 ranges-right-spec =

@@ -1,5 +1,6 @@
 -- `record::record_fault` meets its contract. Assumes nothing.
-use borrow.Author.Tests.{not-true, not-false}
+use mathlib.Core.Path.{sym, _∙_}
+use borrow.Author.Tests.{not-false}
 use Rattle.record.specs.Fault.{faultOf}
 use borrow.Author.Needs.{needs}
 use Rattle.record.proofs.fault.record_fault.Statement.{statement}
@@ -10,10 +11,10 @@ is-code-requires c κs = search needs
 
 returns : tie.Need-returns
 unfolding faultOf
-returns c = simp (← c .before .is-code .ensures, not-true (c .before .is-code .result) (c .if1 .taken))
+returns c = simp (← c .before .is-code .ensures, c .if1 .taken)
 
 count-right-requires : tie.Need-count-right-requires
-count-right-requires c κs = search needs
+count-right-requires c κs = sym (c .before .is-code .ensures) ∙ not-false (c .before .is-code .result) (c .if1 .left)
 
 returns-2 : tie.Need-returns-2
 unfolding faultOf
@@ -22,9 +23,9 @@ returns-2 c =
     let b3 = b2 .before in
     simp (
       ← b3 .is-code .ensures,
-      not-false (b3 .is-code .result) (b2 .if1 .left),
+      b2 .if1 .left,
       ← c .before .count-right .ensures,
-      not-true (c .before .count-right .result) (c .if2 .taken),
+      c .if2 .taken,
     )
 
 axes-right-requires : tie.Need-axes-right-requires
@@ -39,11 +40,11 @@ returns-3 c =
     let b5 = b4 .before in
     simp (
       ← b5 .is-code .ensures,
-      not-false (b5 .is-code .result) (b4 .if1 .left),
+      b4 .if1 .left,
       ← b3 .count-right .ensures,
-      not-false (b3 .count-right .result) (b2 .if2 .left),
+      b2 .if2 .left,
       ← c .before .axes-right .ensures,
-      not-true (c .before .axes-right .result) (c .if3 .taken),
+      c .if3 .taken,
     )
 
 ranges-right-requires : tie.Need-ranges-right-requires
@@ -60,13 +61,13 @@ returns-4 c =
     let b7 = b6 .before in
     simp (
       ← b7 .is-code .ensures,
-      not-false (b7 .is-code .result) (b6 .if1 .left),
+      b6 .if1 .left,
       ← b5 .count-right .ensures,
-      not-false (b5 .count-right .result) (b4 .if2 .left),
+      b4 .if2 .left,
       ← b3 .axes-right .ensures,
-      not-false (b3 .axes-right .result) (b2 .if3 .left),
+      b2 .if3 .left,
       ← c .before .ranges-right .ensures,
-      not-true (c .before .ranges-right .result) (c .if4 .taken),
+      c .if4 .taken,
     )
 
 speeds-right-requires : tie.Need-speeds-right-requires
@@ -85,15 +86,15 @@ returns-5 c =
     let b9 = b8 .before in
     simp (
       ← b9 .is-code .ensures,
-      not-false (b9 .is-code .result) (b8 .if1 .left),
+      b8 .if1 .left,
       ← b7 .count-right .ensures,
-      not-false (b7 .count-right .result) (b6 .if2 .left),
+      b6 .if2 .left,
       ← b5 .axes-right .ensures,
-      not-false (b5 .axes-right .result) (b4 .if3 .left),
+      b4 .if3 .left,
       ← b3 .ranges-right .ensures,
-      not-false (b3 .ranges-right .result) (b2 .if4 .left),
+      b2 .if4 .left,
       ← c .before .speeds-right .ensures,
-      not-true (c .before .speeds-right .result) (c .if5 .taken),
+      c .if5 .taken,
     )
 
 returns-6 : tie.Need-returns-6
@@ -109,15 +110,15 @@ returns-6 c =
     let b9 = b8 .before in
     simp (
       ← b9 .is-code .ensures,
-      not-false (b9 .is-code .result) (b8 .if1 .left),
+      b8 .if1 .left,
       ← b7 .count-right .ensures,
-      not-false (b7 .count-right .result) (b6 .if2 .left),
+      b6 .if2 .left,
       ← b5 .axes-right .ensures,
-      not-false (b5 .axes-right .result) (b4 .if3 .left),
+      b4 .if3 .left,
       ← b3 .ranges-right .ensures,
-      not-false (b3 .ranges-right .result) (b2 .if4 .left),
+      b2 .if4 .left,
       ← c .before .speeds-right .ensures,
-      not-false (c .before .speeds-right .result) (c .if5 .left),
+      c .if5 .left,
     )
 
 pub record-fault-spec : {M : Type 1} → statement M

@@ -1,5 +1,5 @@
 -- `record::speeds_right` meets its contract. Assumes nothing.
-use Rattle.record.specs.Fault.{speedsRight}
+use Rattle.record.proofs.laws.Rows.{speeds-so}
 use borrow.Author.Needs.{needs}
 use Rattle.record.proofs.fault.speeds_right.Statement.{statement}
 use Rattle.record.proofs.fault.speeds_right.Tie as tie
@@ -11,12 +11,10 @@ right-speeds-requires : tie.Need-right-speeds-requires
 right-speeds-requires c κs = search needs
 
 returns : tie.Need-returns
-unfolding speedsRight
-returns c = simp (← c .before .before .is-movement .ensures, c .before .if1 .taken, c .right-speeds .ensures)
+returns c = simp (speeds-so, ← c .before .before .is-movement .ensures, c .before .if1 .taken, c .right-speeds .ensures)
 
 returns-2 : tie.Need-returns-2
-unfolding speedsRight
-returns-2 c = simp (← c .before .is-movement .ensures, c .if1 .left)
+returns-2 c = simp (speeds-so, ← c .before .is-movement .ensures, c .if1 .left)
 
 pub speeds-right-spec : {M : Type 1} → statement M
 speeds-right-spec =

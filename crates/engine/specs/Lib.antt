@@ -1,3 +1,4 @@
+pub mod Kinds
 pub mod State
 pub mod Tick
 pub mod Sound

@@ -26,6 +26,7 @@ use Rattle.engine.specs.declared.Job.the-variants as job
 use Rattle.engine.specs.declared.Run.{Run}
 use Rattle.engine.specs.declared.Engine.{Engine}
 use Rattle.engine.specs.declared.Begun.{Begun}
+use Rattle.engine.specs.Kinds.{kind, rowOf}
 
 -- ---- the answer on paper: 1 a pulse with its signs and speed, 2 a pause, 3 a byte to send, 4 a record done, 5 nothing
 
@@ -113,13 +114,7 @@ storingOf e = withRun (withHeld e (record { used = 0; records = 0; axes = e .axe
 
 -- reset: axes, positions, origins, outputs and run cleared, 2.5D; the store is kept, but one being written is emptied
 abbrev pub keptBy : Job → Held → Held
-keptBy job.Storing h = nothingHeld
-keptBy job.Idle h = h
-keptBy (job.Direct m) h = h
-keptBy job.Ready h = h
-keptBy (job.Moving m) h = h
-keptBy (job.Delay q) h = h
-keptBy (job.Wait c t) h = h
+keptBy j h = pick (rowOf (kind j) .isStoring) nothingHeld h
 
 unfoldable pub resetOf : Engine → Engine
 resetOf e = record { axes = 0; at = zeroes; origin = zeroes; three = false; output = 0; held = keptBy (e .run .job) (e .held); run = idle }

@@ -1,7 +1,7 @@
 -- One clock call (01, "Running a program", paragraph 1; "Movement", last sentence): the next pulse, one pause, or one record. It is
 -- defined once, over the rule that gives the next pulse and over how the record at a place is fetched.
 use Prim.Native.Nat.{ℕ, zero, suc, _+_}
-use mathlib.Core.Bool.{Bool, true, false}
+use mathlib.Core.Bool.{Bool}
 use mathlib.Core.List.{List, []}
 use lib.Dec.{ltb, eqb}
 use lib.ListN.{length, getD}
@@ -29,6 +29,7 @@ use Rattle.engine.specs.declared.Job.{Job}
 use Rattle.engine.specs.declared.Job.the-variants as job
 use Rattle.engine.specs.declared.Engine.{Engine}
 use Rattle.engine.specs.declared.Told.{Told}
+use Rattle.engine.specs.Kinds.{kind, rowOf}
 use Rattle.engine.specs.State.{withAt, withThree, withRun, withJob, running, originOf, ceased, emptied}
 
 -- the next pulse of a movement, and the record at a place
@@ -132,13 +133,7 @@ ticked rule fetch e = tickedBy rule fetch (e .run .job) e
 
 -- whether a clock call has something to do
 abbrev pub runsBy : Job → Bool
-runsBy job.Idle = false
-runsBy job.Storing = false
-runsBy (job.Direct m) = true
-runsBy job.Ready = true
-runsBy (job.Moving m) = true
-runsBy (job.Delay q) = true
-runsBy (job.Wait c t) = false
+runsBy j = rowOf (kind j) .runs
 
 unfoldable pub runsOf : Engine → Bool
 runsOf e = runsBy (e .run .job)

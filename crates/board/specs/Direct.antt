@@ -164,11 +164,11 @@ effectOf letter.Start l ports e s = pick s (effect e false []) (effect (started 
 effectOf letter.Wrong l ports e s = effect e s (ch "5" ∷ [])
 
 -- a refused line sends its one character and changes nothing but the line, which is empty after every return
-abbrev pub accepted : Effect → List ℕ → Said
-accepted f store = said (board (f .engine) (f .standing) noLine) (f .reply) store
+abbrev pub acceptedSaid : Effect → List ℕ → Said
+acceptedSaid f store = said (board (f .engine) (f .standing) noLine) (f .reply) store
 
 unfoldable pub directSaid : Direct → List ℕ → Board → List ℕ → Said
 directSaid d ports b store =
     pick (eqb (replyOf (b .engine) (b .standing) d) (ch "0"))
-    (accepted (effectOf (d .letter) (d .words) ports (b .engine) (b .standing)) store)
+    (acceptedSaid (effectOf (d .letter) (d .words) ports (b .engine) (b .standing)) store)
     (said (lineDone b) (replyOf (b .engine) (b .standing) d ∷ []) store)

@@ -7,7 +7,8 @@ use Rattle.count.specs.Chars.{ch}
 use Rattle.count.specs.Pick.{pick}
 use Rattle.line.specs.Lines.{directOf, storedOf}
 use Rattle.engine.specs.declared.Job.{Job}
-use Rattle.engine.specs.declared.Job.the-variants as job
+use Rattle.engine.specs.Kinds.{Ear, kind, rowOf}
+use Rattle.engine.specs.Kinds.Ear.{gathers, drops, waits}
 use Rattle.engine.specs.State.{ceased, resetOf, heard}
 use Rattle.board.specs.declared.Board.{Board}
 use Rattle.board.specs.State.{board, noLine, textOf, gathered, withLine, lineDone, Said, said}
@@ -16,34 +17,16 @@ use Rattle.board.specs.Storing.{storedSaid}
 
 -- ---- ordinary bytes, 0 to 252
 
--- what an ordinary byte meets: a line is gathered; it is dropped; or a wait takes it
-pub data Ear : Type 0 where
-  gathers : Ear
-  drops : Ear
-  waits : Ear
-
--- by what is under way, if it does not stand stopped
+-- what an ordinary byte meets, by what is under way, if it does not stand stopped
 abbrev pub earBy : Job → Ear
-earBy job.Idle = gathers
-earBy job.Storing = gathers
-earBy (job.Direct m) = drops
-earBy job.Ready = drops
-earBy (job.Moving m) = drops
-earBy (job.Delay q) = drops
-earBy (job.Wait c t) = waits
+earBy j = rowOf (kind j) .ear
 
 -- while something stands stopped, lines are gathered
 unfoldable pub earOf : Board → Ear
 earOf b = pick (b .standing) gathers (earBy (b .engine .run .job))
 
 abbrev pub isStoring : Job → Bool
-isStoring job.Storing = true
-isStoring job.Idle = false
-isStoring (job.Direct m) = false
-isStoring job.Ready = false
-isStoring (job.Moving m) = false
-isStoring (job.Delay q) = false
-isStoring (job.Wait c t) = false
+isStoring j = rowOf (kind j) .isStoring
 
 -- a carriage return ends the line: one of more than 80 bytes is refused 5; while storing, and nothing stands, it is a record's or the end
 unfoldable pub returned : List ℕ → Board → List ℕ → Said
@@ -75,13 +58,7 @@ breakCode = 255
 
 -- stop (253) holds a running movement or program and sends F; it does nothing when idle, storing, stopped, in a delay or in a wait
 abbrev pub holdsBy : Job → Bool
-holdsBy (job.Direct m) = true
-holdsBy job.Ready = true
-holdsBy (job.Moving m) = true
-holdsBy job.Idle = false
-holdsBy job.Storing = false
-holdsBy (job.Delay q) = false
-holdsBy (job.Wait c t) = false
+holdsBy j = rowOf (kind j) .stops
 
 unfoldable pub stopped : Board → List ℕ → Said
 stopped b store =
@@ -91,13 +68,7 @@ stopped b store =
 
 -- break (255) ends what runs, waits or stands stopped, sends F and keeps the positions reached; when idle or storing it does nothing
 abbrev pub endsBy : Job → Bool
-endsBy (job.Direct m) = true
-endsBy job.Ready = true
-endsBy (job.Moving m) = true
-endsBy (job.Delay q) = true
-endsBy (job.Wait c t) = true
-endsBy job.Idle = false
-endsBy job.Storing = false
+endsBy j = rowOf (kind j) .breaks
 
 unfoldable pub broken : Board → List ℕ → Said
 broken b store =

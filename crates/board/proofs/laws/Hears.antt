@@ -27,7 +27,8 @@ use Rattle.board.specs.declared.Saying.the-variants as saying
 use Rattle.board.specs.declared.Spoke.{Spoke}
 use Rattle.board.specs.State.{board, textOf, gathered, withLine, Said, said, sound}
 use Rattle.board.specs.Storing.{storedSaid}
-use Rattle.board.specs.Receive.{gathers, earBy, earOf, isStoring, holdsBy, endsBy, returned, gathering, ordinary, stopped, broken, resetSaid, hearing}
+use Rattle.engine.specs.Kinds.Ear.{gathers}
+use Rattle.board.specs.Receive.{earBy, earOf, isStoring, holdsBy, endsBy, returned, gathering, ordinary, stopped, broken, resetSaid, hearing}
 use Rattle.board.specs.Calls.{did, answered, receiving, wentOn, clocking, listing}
 use Rattle.board.specs.work.Work as work
 use Rattle.board.specs.work.Work.{spoke, spokeOf, repliedWith, obeyed, receivedOf, stopSpoke, breakSpoke, resetSpoke, gathersBy, waitsBy}

@@ -28,7 +28,7 @@ use Rattle.engine.specs.State.{axesOf, originOf, zeroOf, withOutput, started, b
 use Rattle.engine.specs.Sound.{axesKnown}
 use Rattle.board.specs.declared.Board.{Board}
 use Rattle.board.specs.State.{board, noLine, lineDone, Said, said}
-use Rattle.board.specs.Direct.{isWrong, heardStanding, needsAxes, countFits, axesFit, rangesFit, speedsFit, isOutside, restsOutside, isStart, first, replyOf, effect, effectOf, started-with, accepted, directSaid}
+use Rattle.board.specs.Direct.{isWrong, heardStanding, needsAxes, countFits, axesFit, rangesFit, speedsFit, isOutside, restsOutside, isStart, first, replyOf, effect, effectOf, started-with, acceptedSaid, directSaid}
 use Rattle.board.specs.declared.Saying.the-variants as saying
 use Rattle.board.specs.work.Work.{spoke, spokeOf, repliedWith, silentWith, begunWith, startedBy, affected, obeyed, axesFault, inputFault, outputFault, numbersFault, lineFault}
 use Rattle.board.proofs.laws.Stores.{four}
@@ -153,7 +153,7 @@ begun-by true b g store = refl
 begun-by false b g store = refl
 
 begin-so : (p : Planned) (b : Board) (store : List ℕ)
-    → pick (eqb (pick (isOutside p) 57 48) 48) (accepted (started-with (begunBy p (b .engine)) (b .standing)) store) (said (lineDone b) (pick (isOutside p) 57 48 ∷ []) store)
+    → pick (eqb (pick (isOutside p) 57 48) 48) (acceptedSaid (started-with (begunBy p (b .engine)) (b .standing)) store) (said (lineDone b) (pick (isOutside p) 57 48 ∷ []) store)
     ≡ spoke (begunWith b (begunBy p (b .engine))) store
 unfolding begunWith
 begin-so (planned.Going m) b store = begun-by (eqb (begunBy (planned.Going m) (b .engine) .reply) 0) b (begunBy (planned.Going m) (b .engine)) store
@@ -161,7 +161,7 @@ begin-so planned.Outside b store = refl
 
 start-by : (s r a : Bool) (b : Board) (e : Engine) (store : List ℕ) → b .standing ≡ s
     → pick (eqb (pick (true && not s && r) 56 (pick (true && not s && not a) 71 48)) 48)
-    (accepted (pick s (effect (b .engine) false []) (effect e false [])) store)
+    (acceptedSaid (pick s (effect (b .engine) false []) (effect e false [])) store)
     (said (lineDone b) (pick (true && not s && r) 56 (pick (true && not s && not a) 71 48) ∷ []) store)
     ≡ spoke (pick s (spokeOf (board (b .engine) false noLine) saying.Silent) (pick r (repliedWith b (b .engine) 56) (pick a (silentWith b e) (repliedWith b (b .engine) 71)))) store
 start-by true r a b e store p = refl
@@ -171,7 +171,7 @@ start-by false false false b e store p = refl
 
 module _ (axes n : ℕ) (l ports : List ℕ) (b : Board) (store : List ℕ) where
   effect-so : (k : Letter) → numbersFault k axes n l ≡ 48
-      → pick (eqb (restOf k (b .engine) (b .standing) l) 48) (accepted (effectOf k l ports (b .engine) (b .standing)) store)
+      → pick (eqb (restOf k (b .engine) (b .standing) l) 48) (acceptedSaid (effectOf k l ports (b .engine) (b .standing)) store)
       (said (lineDone b) (restOf k (b .engine) (b .standing) l ∷ []) store)
       ≡ spoke (affected k l ports b) store
   unfolding startedBy beginOf
@@ -207,7 +207,7 @@ module _ (d : Direct) (ports : List ℕ) (b : Board) (store : List ℕ) where
   behind = restOf (d .letter) (b .engine) (b .standing) (d .words)
 
   abbrev effected : Said
-  effected = accepted (effectOf (d .letter) (d .words) ports (b .engine) (b .standing)) store
+  effected = acceptedSaid (effectOf (d .letter) (d .words) ports (b .engine) (b .standing)) store
 
   line-by : (t : Bool) → eqb faulty 48 ≡ t
       → pick (eqb (pick t behind faulty) 48) effected (said (lineDone b) (pick t behind faulty ∷ []) store)

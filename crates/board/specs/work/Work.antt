@@ -19,7 +19,7 @@ use Rattle.line.specs.declared.Direct.{Direct}
 use Rattle.engine.specs.declared.Engine.{Engine}
 use Rattle.engine.specs.declared.Begun.{Begun}
 use Rattle.engine.specs.declared.Job.{Job}
-use Rattle.engine.specs.declared.Job.the-variants as job
+use Rattle.engine.specs.Kinds.{kind, rowOf}
 use Rattle.engine.specs.State.{withThree, withOutput, withHeld, axesOf, originOf, zeroOf, started, emptied, storingOf, beginOf, ceased, resetOf}
 use Rattle.board.specs.declared.Board.{Board}
 use Rattle.board.specs.declared.Received.{Received}
@@ -154,19 +154,7 @@ abbrev pub resetSpoke : Board → Spoke
 resetSpoke b = spokeOf (board (resetOf (b .engine)) false noLine) saying.Silent
 
 abbrev pub gathersBy : Job → Bool
-gathersBy job.Idle = true
-gathersBy job.Storing = true
-gathersBy (job.Direct m) = false
-gathersBy job.Ready = false
-gathersBy (job.Moving m) = false
-gathersBy (job.Delay q) = false
-gathersBy (job.Wait c t) = false
+gathersBy j = rowOf (kind j) .isResting
 
 abbrev pub waitsBy : Job → Bool
-waitsBy job.Idle = false
-waitsBy job.Storing = false
-waitsBy (job.Direct m) = false
-waitsBy job.Ready = false
-waitsBy (job.Moving m) = false
-waitsBy (job.Delay q) = false
-waitsBy (job.Wait c t) = true
+waitsBy j = rowOf (kind j) .isWaiting

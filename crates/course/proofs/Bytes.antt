@@ -19,7 +19,7 @@ use Rattle.board.proofs.laws.Laws.{hearing-sound, store-length, reply-short, ne
 use Rattle.course.specs.declared.Ran.{Ran}
 use Rattle.course.specs.declared.Walk.{Walk}
 use Rattle.course.specs.Text.{replyText}
-use Rattle.course.specs.Run.{runsNow, Course, rests, course, allowed, Outcome, did, ran, running}
+use Rattle.course.specs.Run.{runsNow, Course, noCalls, course, allowed, RunOutcome, didRun, ran, runOutcome}
 use Rattle.course.proofs.laws.Portions.{course-off}
 use Rattle.course.specs.Walk.{noPorts, most, ready, Done, done, walk, further, nextDone}
 use Rattle.course.specs.Walk.{doneOf}
@@ -163,7 +163,7 @@ module _ (byte : ℕ) (w : Walk) (store out : List ℕ) where
 
     -- the whole portion
     pub next-made : {n : ℕ} {out2 last : List ℕ} {m : Ran} → Wrote (replyText (take (r .len) (drop 2 (putMid 2 (length out - 2) out reply)))) (putMid 2 (length out - 2) out reply) n out2
-        → did m last ≡ running most (r .board) store′ (take (length out2 - n) (drop n out2))
+        → didRun m last ≡ runOutcome most (r .board) store′ (take (length out2 - n) (drop n out2))
         → doneOf (record { walk = walk (m .board) (m .calls) (m .over); len = n + m .len }) store′ (putMid n (length out2 - n) out2 last) ≡ nextDone byte w store out
     next-made {n} {out2} {last} {m} f g =
         let p = ready-parts w store out e in
@@ -172,14 +172,14 @@ module _ (byte : ℕ) (w : Walk) (store out : List ℕ) where
         let u : take (length out2 - n) (drop n out2) ≡ drop (length t) out = rest n out2 ∙ d in
         let ks : sound (s .board) ≡ true = hearing-sound byte noPorts (w .board) store (p .2) in
         let kl : length (s .store) ≡ 16384 = store-length byte noPorts (w .board) store (p .2) ∙ p .1 in
-        let k : did m last ≡ ran c (drop (length t) out) =
-        g ∙ (λ i. running most (its-board i) (its-store i) (u i)) ∙ unrefused most (s .board) (s .store) (drop (length t) out) kl ks in
+        let k : didRun m last ≡ ran c (drop (length t) out) =
+        g ∙ (λ i. runOutcome most (its-board i) (its-store i) (u i)) ∙ unrefused most (s .board) (s .store) (drop (length t) out) kl ks in
         let x : Wrote (c .text) (take (length out2 - n) (drop n out2)) (m .len) last =
-        record { long = ap (λ (y : Outcome). y .result .len) k; text = ap (λ (y : Outcome). y .out) k ∙ ap (λ (y : List ℕ). c .text ++ drop (length (c .text)) y) (sym u) } in
+        record { long = ap (λ (y : RunOutcome). y .result .len) k; text = ap (λ (y : RunOutcome). y .out) k ∙ ap (λ (y : List ℕ). c .text ++ drop (length (c .text)) y) (sym u) } in
         let z : Wrote (t ++ c .text) out (n + m .len) (putMid n (length out2 - n) out2 last) = wrote-then v x in
-        let kb = ap (λ (y : Outcome). y .result .board) k in
-        let kc : m .calls ≡ 0 + c .calls = ap (λ (y : Outcome). y .result .calls) k ∙ omega arith in
-        let ko = ap (λ (y : Outcome). y .result .over) k in
+        let kb = ap (λ (y : RunOutcome). y .result .board) k in
+        let kc : m .calls ≡ 0 + c .calls = ap (λ (y : RunOutcome). y .result .calls) k ∙ omega arith in
+        let ko = ap (λ (y : RunOutcome). y .result .over) k in
         (λ i. doneOf (record { walk = walk (kb i) (kc i) (ko i); len = z .long i }) (its-store i) (z .text i))
         ∙ sym (went-next o e)
 
@@ -189,10 +189,10 @@ module _ (byte : ℕ) (w : Walk) (store out : List ℕ) where
     next-still {n} {out2} f z =
         let v : Wrote t out n out2 = framed out (s .reply) two its-out its-length f in
         let y : runsNow (s .board) ≡ false = sym (ap runsNow its-board) ∙ z in
-        let k : rests (s .board) ≡ c = sym (course-off (s .store) (allowed most (drop (length t) out)) (s .board) y) in
+        let k : noCalls (s .board) ≡ c = sym (course-off (s .store) (allowed most (drop (length t) out)) (s .board) y) in
         let ko : true ≡ not (runsNow (s .board)) = sym (ap not y) in
         (λ i. doneOf (record { walk = walk (its-board i) 0 (ko i); len = v .long i }) (its-store i) (v .text i))
-        ∙ ap (λ (x : List ℕ). done (further (rests (s .board)) 0) x (s .store) out) (sym (append-nil t))
+        ∙ ap (λ (x : List ℕ). done (further (noCalls (s .board)) 0) x (s .store) out) (sym (append-nil t))
         ∙ ap (λ (x : Course). done (further x 0) (t ++ x .text) (s .store) out) k
         ∙ sym (went-next o e)
 
@@ -208,15 +208,15 @@ module _ (byte : ℕ) (w : Walk) (store out : List ℕ) where
     line-fits v = let p = ready-parts w store out e in omega (arith, v .long, reply-long (s .reply), reply-short byte noPorts (w .board) store (p .2))
 
     pub run-fits : {n : ℕ} {out2 last : List ℕ} {m : Ran} → Wrote t out n out2
-        → did m last ≡ running most (r .board) store′ (take (length out2 - n) (drop n out2)) → length last ≡ length (take (length out2 - n) (drop n out2)) → m .len ≤ length out2 - n
+        → didRun m last ≡ runOutcome most (r .board) store′ (take (length out2 - n) (drop n out2)) → length last ≡ length (take (length out2 - n) (drop n out2)) → m .len ≤ length out2 - n
     run-fits {n} {out2} {last} {m} v g l =
         let p = ready-parts w store out e in
         let u = take (length out2 - n) (drop n out2) in
         let ks : sound (s .board) ≡ true = hearing-sound byte noPorts (w .board) store (p .2) in
         let kl : length (s .store) ≡ 16384 = store-length byte noPorts (w .board) store (p .2) ∙ p .1 in
-        let k : did m last ≡ ran (course (allowed most u) (s .store) (s .board)) u =
-        g ∙ (λ i. running most (its-board i) (its-store i) u) ∙ unrefused most (s .board) (s .store) u kl ks in
+        let k : didRun m last ≡ ran (course (allowed most u) (s .store) (s .board)) u =
+        g ∙ (λ i. runOutcome most (its-board i) (its-store i) u) ∙ unrefused most (s .board) (s .store) u kl ks in
         let x : Wrote (course (allowed most u) (s .store) (s .board) .text) u (m .len) last =
-        record { long = ap (λ (y : Outcome). y .result .len) k; text = ap (λ (y : Outcome). y .out) k } in
+        record { long = ap (λ (y : RunOutcome). y .result .len) k; text = ap (λ (y : RunOutcome). y .out) k } in
         let d : length u ≡ length out2 - n = rw (rest, length-drop) in
         omega (arith, text-within x l, d)

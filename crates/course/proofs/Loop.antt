@@ -10,7 +10,7 @@ use lib.Seq.{length-take-le, take-at, drop-at, drop-drop}
 use Rattle.count.proofs.laws.Lists.{rest, to-end}
 use Rattle.course.specs.work.Work.{Wrote}
 use Rattle.course.proofs.laws.Machine.{way-step, then-then, then-none, then-stays}
-use Rattle.course.specs.work.Machine.{Way, stays, then, way, Left, leaves}
+use Rattle.course.specs.work.Machine.{Way, stays, then, way, Left, leftBy}
 
 module _ {S : Type 0} (on : S → Bool) (next : S → S) (said : S → List ℕ) where
   -- g is a part of the way from s
@@ -39,7 +39,7 @@ module _ {S : Type 0} (on : S → Bool) (next : S → S) (said : S → List ℕ)
     module _ (n : ℕ) (s : S) (out : List ℕ) (at : ℕ) (k : Kept limit s₀ out₀ n s out at) where
       -- the way ends here
       pub kept-last : way on next said (limit - n) s ≡ stays s
-          → _≡_ {A = Left S} (record { state = s; calls = n; len = at; out = out }) (leaves (way on next said limit s₀) out₀)
+          → _≡_ {A = Left S} (record { state = s; calls = n; len = at; out = out }) (leftBy (way on next said limit s₀) out₀)
       kept-last p =
           let w : way on next said limit s₀ ≡ record { state = s; calls = n; text = take at out } = k .whole ∙ ap (λ c. then n (take at out) c) p ∙ then-stays n (take at out) s in
           let l : length (take at out) ≡ at = length-take-le at out (k .room) in

@@ -3,7 +3,7 @@
 use mathlib.Core.Path.{_≡_, sym, ap, _∙_}
 use denote.Ref.{now}
 use Rattle.count.specs.Text.{Written}
-use Rattle.course.specs.Run.{Outcome}
+use Rattle.course.specs.Run.{RunOutcome}
 use Rattle.course.specs.Walk.{Done}
 use Rattle.course.proofs.runs.run.Reads as run
 use Rattle.course.proofs.Walk.new.Reads as new
@@ -17,7 +17,7 @@ abbrev run-out : {X A B C D : Type 0} → A × (B × (C × (X × D))) → X
 run-out s = s .1 .1 .1 .0
 
 pub run-one : (κs : _) (a : _) (r r′ : _) (s s′ : _) → run.Post κs a r s → run.Post κs a r′ s′ → (r ≡ r′) × (now (run-out s) ≡ now (run-out s′))
-run-one κs a r r′ s s′ p q = (ap (λ (o : Outcome). o .result) (p ∙ sym q), ap (λ (o : Outcome). o .out) (p ∙ sym q))
+run-one κs a r r′ s s′ p q = (ap (λ (o : RunOutcome). o .result) (p ∙ sym q), ap (λ (o : RunOutcome). o .out) (p ∙ sym q))
 
 pub new-one : (κs : _) (a : _) (r r′ : _) (s s′ : _) → new.Post κs a r s → new.Post κs a r′ s′ → r ≡ r′
 new-one κs a r r′ s s′ p q = p ∙ sym q

@@ -12,40 +12,40 @@ use Rattle.board.specs.declared.Board.{Board}
 use Rattle.board.specs.State.{sound}
 use Rattle.course.specs.declared.Ran.{Ran}
 use Rattle.course.specs.declared.Went.{Went}
-use Rattle.course.specs.Run.{runsNow, Course, course, allowed, Outcome, did, ran, running}
+use Rattle.course.specs.Run.{runsNow, Course, course, allowed, RunOutcome, didRun, ran, runOutcome}
 use Rattle.course.specs.work.Work.{stood}
-use Rattle.course.specs.work.Machine.{Left, Way, leaves}
+use Rattle.course.specs.work.Machine.{Left, Way, leftBy}
 use Rattle.course.specs.work.Going.{goWay, wentOf}
 use Rattle.course.proofs.laws.Boards.{withEngine, onBoard, course-is-go, stands}
 
 module _ (limit : ℕ) (b : Board) (store out : List ℕ) where
-  pub refused-102 : (length store ≡ 16384 → ⊥) → did (stood 102 b) out ≡ running limit b store out
-  unfolding running
+  pub refused-102 : (length store ≡ 16384 → ⊥) → didRun (stood 102 b) out ≡ runOutcome limit b store out
+  unfolding runOutcome
   refused-102 h = rw (ne-eqb (length store) 16384 h)
 
   module _ (l : length store ≡ 16384) where
-    pub refused-103 : sound b ≡ false → did (stood 103 b) out ≡ running limit b store out
-    unfolding running
+    pub refused-103 : sound b ≡ false → didRun (stood 103 b) out ≡ runOutcome limit b store out
+    unfolding runOutcome
     refused-103 s = rw (eq-eqb (length store) 16384 l, s)
 
-    pub unrefused : sound b ≡ true → running limit b store out ≡ ran (course (allowed limit out) store b) out
-    unfolding running
+    pub unrefused : sound b ≡ true → runOutcome limit b store out ≡ ran (course (allowed limit out) store b) out
+    unfolding runOutcome
     unrefused s = rw (eq-eqb (length store) 16384 l, s)
 
-    pub rests-there : sound b ≡ true → b .standing ≡ true → did (stood 0 b) out ≡ running limit b store out
+    pub rests-there : sound b ≡ true → b .standing ≡ true → didRun (stood 0 b) out ≡ runOutcome limit b store out
     rests-there s n = sym (unrefused s ∙ ap (λ (c : Course). ran c out) (stands store (allowed limit out) b n))
 
     -- the engine's run, with its text
     pub went : sound b ≡ true → b .standing ≡ false → {w : Went} {last : List ℕ} {next : Board} {over : Bool}
-        → wentOf w last ≡ leaves (goWay store (allowed limit out) (b .engine)) out → next ≡ withEngine b (w .engine) → over ≡ not (runsNow next)
-        → did (record { board = next; calls = w .calls; over = over; len = w .len; refusal = 0 }) last ≡ running limit b store out
+        → wentOf w last ≡ leftBy (goWay store (allowed limit out) (b .engine)) out → next ≡ withEngine b (w .engine) → over ≡ not (runsNow next)
+        → didRun (record { board = next; calls = w .calls; over = over; len = w .len; refusal = 0 }) last ≡ runOutcome limit b store out
     went s n {w} {last} {next} {over} q e o =
-        (λ i. did (record { board = e i; calls = w .calls; over = o′ i; len = w .len; refusal = 0 }) last)
+        (λ i. didRun (record { board = e i; calls = w .calls; over = o′ i; len = w .len; refusal = 0 }) last)
         ∙ ap outcome q
         ∙ sym (unrefused s ∙ ap (λ (c : Course). ran c out) (course-is-go store l (allowed limit out) b s n))
       where
         o′ : over ≡ not (runsNow (withEngine b (w .engine)))
         o′ = o ∙ ap (λ (x : Board). not (runsNow x)) e
 
-        outcome : Left Engine → Outcome
-        outcome x = did (record { board = withEngine b (x .state); calls = x .calls; over = not (runsNow (withEngine b (x .state))); len = x .len; refusal = 0 }) (x .out)
+        outcome : Left Engine → RunOutcome
+        outcome x = didRun (record { board = withEngine b (x .state); calls = x .calls; over = not (runsNow (withEngine b (x .state))); len = x .len; refusal = 0 }) (x .out)

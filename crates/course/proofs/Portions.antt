@@ -17,7 +17,7 @@ use Rattle.board.specs.State.{sound}
 use Rattle.course.specs.declared.Ran.{Ran}
 use Rattle.course.specs.declared.Walk.{Walk}
 use Rattle.course.specs.Text.{limitText, endText}
-use Rattle.course.specs.Run.{course, allowed, Outcome, did, refused, ran, running}
+use Rattle.course.specs.Run.{course, allowed, RunOutcome, didRun, refusedRun, ran, runOutcome}
 use Rattle.course.proofs.laws.Portions.{course-few}
 use Rattle.course.specs.Walk.{most, ready, Done, done, walk, further, onDone, tailDone}
 use Rattle.course.specs.Walk.{doneOf}
@@ -46,16 +46,16 @@ pick-no x y b e = rw e
 
 -- a run makes no more calls than its limit
 few-by : (x y : Bool) (limit : ℕ) (b : Board) (store out : List ℕ)
-    → pick (not x) (refused 102 b out) (pick (not y) (refused 103 b out) (ran (course (allowed limit out) store b) out)) .result .calls ≤ limit
+    → pick (not x) (refusedRun 102 b out) (pick (not y) (refusedRun 103 b out) (ran (course (allowed limit out) store b) out)) .result .calls ≤ limit
 unfolding allowed
 few-by false y limit b store out = omega arith
 few-by true false limit b store out = omega arith
 few-by true true limit b store out = omega (arith, course-few store (min limit (length out / 12)) b, min-le-left limit (length out / 12))
 
-pub run-few : (limit : ℕ) (b : Board) (store out : List ℕ) {r : Ran} {last : List ℕ} → did r last ≡ running limit b store out → r .calls ≤ limit
-unfolding running
+pub run-few : (limit : ℕ) (b : Board) (store out : List ℕ) {r : Ran} {last : List ℕ} → didRun r last ≡ runOutcome limit b store out → r .calls ≤ limit
+unfolding runOutcome
 run-few limit b store out q =
-    let c = ap (λ (x : Outcome). x .result .calls) q in
+    let c = ap (λ (x : RunOutcome). x .result .calls) q in
     omega (arith, c, few-by (eqb (length store) 16384) (sound b) limit b store out)
 
 module _ (w : Walk) (store out : List ℕ) where
@@ -84,11 +84,11 @@ module _ (w : Walk) (store out : List ℕ) where
   went-on o e = pick-yes onward (done w [] store out) (not (w .over) && ready w store out) (λ i. not (o i) && e i)
 
   pub on-made : w .over ≡ false → ready w store out ≡ true → {r : Ran} {last : List ℕ}
-      → did r last ≡ running (most - w .calls) (w .board) store out
+      → didRun r last ≡ runOutcome (most - w .calls) (w .board) store out
       → doneOf (record { walk = walk (r .board) (w .calls + r .calls) (r .over); len = r .len }) store last ≡ onDone w store out
   on-made o e {r} {last} q =
       let p = ready-parts e in
       ap made (q ∙ unrefused (most - w .calls) (w .board) store out (p .1) (p .2)) ∙ sym (went-on o e)
     where
-      made : Outcome → Done
+      made : RunOutcome → Done
       made x = doneOf (record { walk = walk (x .result .board) (w .calls + x .result .calls) (x .result .over); len = x .result .len }) store (x .out)

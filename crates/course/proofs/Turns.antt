@@ -20,7 +20,7 @@ use Rattle.course.specs.declared.Went.{Went}
 use Rattle.course.specs.declared.Glided.{Glided}
 use Rattle.course.specs.Text.{answerText}
 use Rattle.course.specs.work.Work.{Wrote}
-use Rattle.course.specs.work.Machine.{Way, stays, way, Left, leaves}
+use Rattle.course.specs.work.Machine.{Way, stays, way, Left, leftBy}
 use Rattle.course.specs.work.Glide as G
 use Rattle.course.specs.work.Glide.{Gone, here, glides, glideOn, glideSaid}
 use Rattle.course.proofs.laws.Going.{glide-joins, glide-few}
@@ -48,7 +48,7 @@ module _ (store : List ℕ) (limit : ℕ) (e₀ : Engine) (out₀ : List ℕ) (l
 
   -- the pulses behind it
   pub gone : (n : ℕ) (e : Engine) (out : List ℕ) (at : ℕ) → RKept store limit e₀ out₀ n e out at
-      → (w : Went) (ys : List ℕ) → wentOf w ys ≡ leaves (glideJob (e .run .job) (limit - n) e) (from at out) → w .len ≤ 12 * w .calls
+      → (w : Went) (ys : List ℕ) → wentOf w ys ≡ leftBy (glideJob (e .run .job) (limit - n) e) (from at out) → w .len ≤ 12 * w .calls
       → RKept store limit e₀ out₀ (n + w .calls) (w .engine) (putMid at (length out - at) out ys) (at + w .len)
   gone n e out at k w ys q f =
       let g : Way Engine = glideJob (e .run .job) (limit - n) e in
@@ -66,28 +66,28 @@ module _ (store : List ℕ) (limit : ℕ) (e₀ : Engine) (out₀ : List ℕ) (l
 
 module _ (e : Engine) (limit : ℕ) (out : List ℕ) where
   pub stays-left : (j : Job) {w : Went} → e .run .job ≡ j → glideJob j limit e ≡ stays e → w ≡ record { engine = e; calls = 0; len = 0 }
-      → (wentOf w out ≡ leaves (glideJob (e .run .job) limit e) out) × (w .len ≤ 12 * w .calls)
+      → (wentOf w out ≡ leftBy (glideJob (e .run .job) limit e) out) × (w .len ≤ 12 * w .calls)
   stays-left j p h q =
-      (ap (λ (x : Went). wentOf x out) q ∙ sym (ap (λ (i : Job). leaves (glideJob i limit e) out) p ∙ ap (λ (x : Way Engine). leaves x out) h), rw q (omega arith))
+      (ap (λ (x : Went). wentOf x out) q ∙ sym (ap (λ (i : Job). leftBy (glideJob i limit e) out) p ∙ ap (λ (x : Way Engine). leftBy x out) h), rw q (omega arith))
 
   abbrev mapLeft : (Gone → Engine) → Left Gone → Left Engine
   mapLeft f x = record { state = f (x .state); calls = x .calls; len = x .len; out = x .out }
 
   module _ {m : Move} {g : Glided} {d : Engine} {last : List ℕ} (q : G.glided g last ≡ G.gliding limit m (e .at) out) where
     pub direct-left : e .run .job ≡ job.Direct m → d ≡ glided (g .at) (g .rest) e
-        → _≡_ {A = Left Engine} (record { state = d; calls = g .calls; len = g .len; out = last }) (leaves (glideJob (e .run .job) limit e) out)
+        → _≡_ {A = Left Engine} (record { state = d; calls = g .calls; len = g .len; out = last }) (leftBy (glideJob (e .run .job) limit e) out)
     unfolding glideJob glided
     direct-left p r =
         (λ i. record { state = r i; calls = g .calls; len = g .len; out = last })
         ∙ (λ i. record { state = glidedBy (p i) (g .at) (g .rest) e; calls = g .calls; len = g .len; out = last })
         ∙ ap (λ (x : Left Gone). mapLeft (inDirect e) x) q
-        ∙ sym (ap (λ (j : Job). leaves (glideJob j limit e) out) p)
+        ∙ sym (ap (λ (j : Job). leftBy (glideJob j limit e) out) p)
 
     pub moving-left : e .run .job ≡ job.Moving m → d ≡ glided (g .at) (g .rest) e
-        → _≡_ {A = Left Engine} (record { state = d; calls = g .calls; len = g .len; out = last }) (leaves (glideJob (e .run .job) limit e) out)
+        → _≡_ {A = Left Engine} (record { state = d; calls = g .calls; len = g .len; out = last }) (leftBy (glideJob (e .run .job) limit e) out)
     unfolding glideJob glided
     moving-left p r =
         (λ i. record { state = r i; calls = g .calls; len = g .len; out = last })
         ∙ (λ i. record { state = glidedBy (p i) (g .at) (g .rest) e; calls = g .calls; len = g .len; out = last })
         ∙ ap (λ (x : Left Gone). mapLeft (inMoving e) x) q
-        ∙ sym (ap (λ (j : Job). leaves (glideJob j limit e) out) p)
+        ∙ sym (ap (λ (j : Job). leftBy (glideJob j limit e) out) p)

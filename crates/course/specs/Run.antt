@@ -24,8 +24,8 @@ pub record Course : Type 0 where
   pub calls : ℕ
   pub text : List ℕ
 
-abbrev pub rests : Board → Course
-rests b = record { board = b; calls = 0; text = [] }
+abbrev pub noCalls : Board → Course
+noCalls b = record { board = b; calls = 0; text = [] }
 
 -- one clock call with its text, then a run
 abbrev pub then : List ℕ → Course → Course
@@ -33,11 +33,11 @@ then t c = record { board = c .board; calls = 1 + c .calls; text = t ++ c .text 
 
 -- at most k clock calls
 unfoldable pub course : ℕ → List ℕ → Board → Course
-course zero store b = rests b
+course zero store b = noCalls b
 course (suc k) store b =
     (elim (runsNow b) [
       | true ↦ then (answerText (clocking b store .answer)) (course k store (clocking b store .board))
-      | false ↦ rests b
+      | false ↦ noCalls b
     ])
 
 -- ---- the call `run`: the definition's steps up to the limit and to a twelfth of the buffer, since no line is longer than 12 bytes.
@@ -47,22 +47,22 @@ unfoldable pub allowed : ℕ → List ℕ → ℕ
 allowed limit out = min limit (length out / 12)
 
 -- the result and the buffer afterwards
-pub record Outcome : Type 0 where
+pub record RunOutcome : Type 0 where
   pub result : Ran
   pub out : List ℕ
 
-abbrev pub did : Ran → List ℕ → Outcome
-did r out = record { result = r; out = out }
+abbrev pub didRun : Ran → List ℕ → RunOutcome
+didRun r out = record { result = r; out = out }
 
-abbrev pub refused : ℕ → Board → List ℕ → Outcome
-refused n b out = did (record { board = b; calls = 0; over = not (runsNow b); len = 0; refusal = n }) out
+abbrev pub refusedRun : ℕ → Board → List ℕ → RunOutcome
+refusedRun n b out = didRun (record { board = b; calls = 0; over = not (runsNow b); len = 0; refusal = n }) out
 
-abbrev pub ran : Course → List ℕ → Outcome
+abbrev pub ran : Course → List ℕ → RunOutcome
 ran c out =
-    did (record { board = c .board; calls = c .calls; over = not (runsNow (c .board)); len = length (c .text); refusal = 0 })
+    didRun (record { board = c .board; calls = c .calls; over = not (runsNow (c .board)); len = length (c .text); refusal = 0 })
     (c .text ++ drop (length (c .text)) out)
 
-unfoldable pub running : ℕ → Board → List ℕ → List ℕ → Outcome
-running limit b store out =
-    pick (not (eqb (length store) storeBytes)) (refused 102 b out)
-    (pick (not (sound b)) (refused 103 b out) (ran (course (allowed limit out) store b) out))
+unfoldable pub runOutcome : ℕ → Board → List ℕ → List ℕ → RunOutcome
+runOutcome limit b store out =
+    pick (not (eqb (length store) storeBytes)) (refusedRun 102 b out)
+    (pick (not (sound b)) (refusedRun 103 b out) (ran (course (allowed limit out) store b) out))

@@ -24,7 +24,7 @@ use Rattle.board.specs.State.{board, sound}
 use Rattle.board.specs.Calls.{clocked, wentOn, clocking}
 use Rattle.board.proofs.laws.Hears.{sound-engine}
 use Rattle.course.specs.Text.{answerText}
-use Rattle.course.specs.Run.{runsNow, Course, rests, then, course}
+use Rattle.course.specs.Run.{runsNow, Course, noCalls, then, course}
 use Rattle.course.proofs.laws.Portions.{course-on, course-off, course-none}
 use Rattle.course.proofs.laws.Machine.{way-on, way-off, way-none}
 use Rattle.course.specs.work.Machine.{Way}
@@ -83,6 +83,6 @@ module _ (store : List ℕ) (l : length store ≡ 16384) where
   course-is-go (suc k) b s n = go-by k b (runsOf (b .engine)) refl s n (course-is-go k (withEngine b (tickNext store (b .engine))) (next-sound b s) n)
 
 -- what stands does not run
-pub stands : (store : List ℕ) (k : ℕ) (b : Board) → b .standing ≡ true → course k store b ≡ rests b
+pub stands : (store : List ℕ) (k : ℕ) (b : Board) → b .standing ≡ true → course k store b ≡ noCalls b
 unfolding runsNow
 stands store k b n = course-off store k b (rw n (and-false (runsOf (b .engine))))

@@ -18,7 +18,7 @@ use Rattle.board.specs.State.{Said, sound}
 use Rattle.board.specs.Receive.{hearing}
 use Rattle.course.specs.declared.Walk.{Walk}
 use Rattle.course.specs.Text.{headText, replyText, limitText, endText}
-use Rattle.course.specs.Run.{runsNow, Course, rests, course, allowed}
+use Rattle.course.specs.Run.{runsNow, Course, noCalls, course, allowed}
 use Rattle.course.specs.Walk.{noPorts, noStore, most, walkedFrom, Done, done, walk, first, further, ready, nextDone, onDone, headDone, tailDone, remaining}
 use Rattle.course.proofs.laws.Portions.{joins, course-off, course-none, course-plus, course-full}
 
@@ -77,7 +77,7 @@ module _ (store : List ℕ) (b : Board) (t input : List ℕ) where
       ∙ sym (ap (λ (w : Walk). (t ++ c .text) ++ remaining w input store) f)
   rest-by calls k r false e q =
       let c : Course = course k store b in
-      let d : course r store (c .board) ≡ rests (c .board) = course-off store r (c .board) e in
+      let d : course r store (c .board) ≡ noCalls (c .board) = course-off store r (c .board) e in
       let f : further c calls ≡ walk (c .board) (calls + c .calls) true = (λ i. walk (c .board) (calls + c .calls) (not (e i))) in
       ap (λ (x : Course). after t (joins c x) input store) d
       ∙ ap (λ (l : List ℕ). (t ++ l) ++ ending (runsNow (c .board)) (c .board) input store) (append-nil (c .text))
@@ -174,7 +174,7 @@ module _ (w : Walk) (store out : List ℕ) (h : 64 ≤ length out) where
   unfolding tailDone
   limit-ends input o n r =
       let f : w ≡ walk (w .board) most false = (λ i. walk (w .board) (n i) (o i)) in
-      let z : course (most - most) store (w .board) ≡ rests (w .board) = course-none store (w .board) in
+      let z : course (most - most) store (w .board) ≡ noCalls (w .board) = course-none store (w .board) in
       ap (λ (x : Walk). remaining x input store) f
       ∙ remaining-on (w .board) most input store
       ∙ ap (λ (c : Course). c .text ++ ending (runsNow (c .board)) (c .board) input store) z

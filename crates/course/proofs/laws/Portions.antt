@@ -11,13 +11,13 @@ use Rattle.board.specs.declared.Board.{Board}
 use Rattle.board.specs.Calls.{clocking, fresh}
 use Rattle.course.specs.declared.Walk.{Walk}
 use Rattle.course.specs.Text.{answerText, replyText, headText, limitText, endText}
-use Rattle.course.specs.Run.{runsNow, Course, rests, then, course, allowed}
+use Rattle.course.specs.Run.{runsNow, Course, noCalls, then, course, allowed}
 
 -- one run and another that goes on from it
 abbrev pub joins : Course → Course → Course
 joins c d = record { board = d .board; calls = c .calls + d .calls; text = c .text ++ d .text }
 
-joins-none : (b : Board) (c : Course) → joins (rests b) c ≡ c
+joins-none : (b : Board) (c : Course) → joins (noCalls b) c ≡ c
 joins-none b c =
     let p : 0 + c .calls ≡ c .calls = omega arith in
     λ i. record { board = c .board; calls = p i; text = c .text }
@@ -30,7 +30,7 @@ then-joins t c d =
 
 module _ (store : List ℕ) where
   -- a board on which nothing runs stays
-  pub course-off : (k : ℕ) (b : Board) → runsNow b ≡ false → course k store b ≡ rests b
+  pub course-off : (k : ℕ) (b : Board) → runsNow b ≡ false → course k store b ≡ noCalls b
   unfolding course
   course-off zero b e = refl
   course-off (suc k) b e = rw (e, course)
@@ -40,7 +40,7 @@ module _ (store : List ℕ) where
   unfolding course
   course-on k b e = rw (e, course)
 
-  pub course-none : (b : Board) → course 0 store b ≡ rests b
+  pub course-none : (b : Board) → course 0 store b ≡ noCalls b
   unfolding course
   course-none b = refl
 
@@ -58,8 +58,8 @@ module _ (store : List ℕ) where
   plus-by j k b false e h =
       let off = course-off (suc j) b e in
       course-off (suc (j + k)) b e
-      ∙ sym (joins-none b (rests b))
-      ∙ sym (ap (λ (c : Course). joins (rests b) c) (course-off k b e))
+      ∙ sym (joins-none b (noCalls b))
+      ∙ sym (ap (λ (c : Course). joins (noCalls b) c) (course-off k b e))
       ∙ sym (ap (λ (c : Course). joins c (course k store (c .board))) off)
 
   -- TWO RUNS IN A ROW ARE ONE

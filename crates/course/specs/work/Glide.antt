@@ -10,7 +10,7 @@ use Rattle.motion.specs.work.Here.{withinOf}
 use Rattle.motion.specs.work.Made.{made}
 use Rattle.course.specs.declared.Glided.{Glided}
 use Rattle.course.specs.Text.{pulseText}
-use Rattle.course.specs.work.Machine.{Way, way, Left, leaves}
+use Rattle.course.specs.work.Machine.{Way, way, Left, leftBy}
 
 pub record Gone : Type 0 where
   pub rest : Move
@@ -40,4 +40,4 @@ abbrev pub glided : Glided → List ℕ → Left Gone
 glided r out = record { state = here (r .rest) (r .at); calls = r .calls; len = r .len; out = out }
 
 abbrev pub gliding : ℕ → Move → Counters → List ℕ → Left Gone
-gliding limit m at out = leaves (way glides glideOn glideSaid limit (here m at)) out
+gliding limit m at out = leftBy (way glides glideOn glideSaid limit (here m at)) out

@@ -28,5 +28,5 @@ pub record Left (S : Type 0) : Type 0 where
   pub len : ℕ
   pub out : List ℕ
 
-abbrev pub leaves : {S : Type 0} → Way S → List ℕ → Left S
-leaves w out = record { state = w .state; calls = w .calls; len = length (w .text); out = w .text ++ drop (length (w .text)) out }
+abbrev pub leftBy : {S : Type 0} → Way S → List ℕ → Left S
+leftBy w out = record { state = w .state; calls = w .calls; len = length (w .text); out = w .text ++ drop (length (w .text)) out }

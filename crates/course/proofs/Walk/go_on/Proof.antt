@@ -4,7 +4,7 @@ use mathlib.Core.Path.{ap, sym, _∙_}
 use native.Mathlib.Omega.{arith}
 use borrow.Author.Tests.{not-true, not-false}
 use Rattle.course.specs.declared.Portion.{Portion}
-use Rattle.course.specs.Run.{running}
+use Rattle.course.specs.Run.{runOutcome}
 use Rattle.course.specs.Walk.{walk, ready}
 use Rattle.course.specs.Walk.{doneOf}
 use Rattle.course.proofs.Portions.{on-over, on-unready, on-made, run-few}
@@ -46,7 +46,7 @@ returns-3 c =
     let a = c .before .before .before .before .before .before .before .before .before .before .before .before .before .args in
     let r = c .before .before .before .before .run in
     ap (λ (n : ℕ). doneOf (record { walk = walk (r .result .board) n (r .result .over); len = r .result .len }) (a .store .now) (r .last .1 .1 .1 .0)) (c .sum-of .ensures)
-    ∙ on-made (a .self) (a .store .now) (a .out .now) (c .before .before .before .before .before .before .before .before .before .before .if1 .left) (sym (c .before .before .before .before .before .before .before .before .before .is-ready .ensures) ∙ not-false _ (c .before .before .before .before .before .before .before .before .if2 .left)) (r .ensures ∙ ap (λ (n : ℕ). running n (a .self .board) (a .store .now) (a .out .now)) (c .before .before .before .before .before .before .left-of .ensures))
+    ∙ on-made (a .self) (a .store .now) (a .out .now) (c .before .before .before .before .before .before .before .before .before .before .if1 .left) (sym (c .before .before .before .before .before .before .before .before .before .is-ready .ensures) ∙ not-false _ (c .before .before .before .before .before .before .before .before .if2 .left)) (r .ensures ∙ ap (λ (n : ℕ). runOutcome n (a .self .board) (a .store .now) (a .out .now)) (c .before .before .before .before .before .before .left-of .ensures))
 
 pub go-on-spec : {M : Type 1} → statement M
 go-on-spec =

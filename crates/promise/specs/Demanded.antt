@@ -29,6 +29,6 @@ pub record DemandTwo (m : Machine) : Type 0 where
 
 -- 3 stands in `Three.antt`
 pub record Demanded (m : Machine) : Type 0 where
-  pub one : DemandOne m
-  pub two : DemandTwo m
-  pub three : DemandThree m
+  pub demand-1 : DemandOne m
+  pub demand-2 : DemandTwo m
+  pub demand-3 : DemandThree m

@@ -19,8 +19,8 @@ use Rattle.record.specs.Places.{inUse}
 use Rattle.record.specs.Bytes.{Below}
 use Rattle.program.specs.Program.{accepted}
 use Rattle.engine.specs.declared.Job.{Job}
-use Rattle.engine.specs.declared.Job.the-variants as job
 use Rattle.count.specs.Ranges.{names}
+use Rattle.engine.specs.Kinds.{kind, rowOf}
 use Rattle.engine.specs.State.{ceased, emptied}
 use Rattle.board.specs.declared.Board.{Board}
 use Rattle.board.specs.State.{board, noLine, textOf, lineDone}
@@ -35,22 +35,10 @@ abbrev pub replied : Heard → List ℕ
 replied h = take (h .len) (h .after .reply)
 
 abbrev pub isIdle : Job → Bool
-isIdle job.Idle = true
-isIdle job.Storing = false
-isIdle (job.Direct m) = false
-isIdle job.Ready = false
-isIdle (job.Moving m) = false
-isIdle (job.Delay q) = false
-isIdle (job.Wait c t) = false
+isIdle j = rowOf (kind j) .isIdle
 
 abbrev pub isWaiting : Job → Bool
-isWaiting (job.Wait c t) = true
-isWaiting job.Idle = false
-isWaiting job.Storing = false
-isWaiting (job.Direct m) = false
-isWaiting job.Ready = false
-isWaiting (job.Moving m) = false
-isWaiting (job.Delay q) = false
+isWaiting j = rowOf (kind j) .isWaiting
 
 -- idle, storing and waiting, where nothing stands stopped
 abbrev pub idles : Board → Bool

@@ -13,7 +13,7 @@ use Rattle.count.specs.Pick.{pick}
 use Rattle.count.specs.Paper.{Paper, says}
 use Rattle.engine.specs.declared.Engine.{Engine}
 use Rattle.engine.specs.declared.Job.{Job}
-use Rattle.engine.specs.declared.Job.the-variants as job
+use Rattle.engine.specs.Kinds.{kind, rowOf}
 use Rattle.board.specs.declared.Board.{Board}
 use Rattle.line.specs.Lines.{letterPaper, directOf}
 use Rattle.board.specs.State.{board, noLine, textOf, sound}
@@ -65,13 +65,7 @@ Unstopped (call d) = Unit
 
 -- idle or storing: nothing runs and nothing waits
 abbrev pub restsBy : Job → Bool
-restsBy job.Idle = true
-restsBy job.Storing = true
-restsBy (job.Direct m) = false
-restsBy job.Ready = false
-restsBy (job.Moving m) = false
-restsBy (job.Delay q) = false
-restsBy (job.Wait c t) = false
+restsBy j = rowOf (kind j) .isResting
 
 abbrev pub waits : Board → Bool
 waits b = isWaiting (b .engine .run .job)
@@ -89,13 +83,7 @@ takes b = not (b .standing) && (waits b || rests b)
 
 -- in a delay: between its first and its last pause
 abbrev pub delaysBy : Job → Bool
-delaysBy (job.Delay q) = true
-delaysBy job.Idle = false
-delaysBy job.Storing = false
-delaysBy (job.Direct m) = false
-delaysBy job.Ready = false
-delaysBy (job.Moving m) = false
-delaysBy (job.Wait c t) = false
+delaysBy j = rowOf (kind j) .isPausing
 
 -- a stop holds a running movement or program, but not in a delay
 abbrev pub stoppable : Board → Bool

@@ -65,7 +65,7 @@ module _ (m : Machine) where
     -- and stops are there: where 01 allows one it stands and sends F, elsewhere it does nothing, and an accepted S goes on
     pub holds : StopHolds m
     pub elsewhere : StopElseDoesNothing m
-    pub accepted : StartGoesOn m
+    pub startGoesOn : StartGoesOn m
     pub both : StopAndStart m
     -- a run begins with no line begun and axes set, from the first state on
     pub clear : RunsClear m

@@ -31,4 +31,4 @@ ours-demand-2 = record {
 }
 
 pub ours-demanded : Demanded ours
-ours-demanded = record { one = ours-demand-1; two = ours-demand-2; three = ours-demand-3 }
+ours-demanded = record { demand-1 = ours-demand-1; demand-2 = ours-demand-2; demand-3 = ours-demand-3 }

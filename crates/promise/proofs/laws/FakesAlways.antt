@@ -111,7 +111,7 @@ pub slows-fails : Demanded slows → ⊥
 unfolding reached shown number receiving sound soundOf counted inRange underWay hearing stopped earOf gathering gathered returned directSaid replyOf first directOf afterAddress letterOf behind digitsBehind digitsOf numberOf parted itemsOf numbersOf within in24 signed word placed added inSpeed rightCount rightZ2 rightDistances rightSpeeds pulses steps countAfter goal goalX goalY goalZ1 goalZ2 firstSpeed laterSpeed route goingTo planOf fromOf toOf leftOf afterOf countRight axesRight rangesRight speedsRight beginOf clocking ticked pulseOf nextBy skipped signAt speedAt
 slows-fails d =
     let s : Same slows (moving slows) (again once) once =
-    d .three .always (moving slows) (again once) once slows-begun (mild-again once (tt, tt)) (tt, tt) (slows-same .0 ∙ sym (slows-same .1)) (slows-same .2 ∙ sym (slows-same .3)) in
+    d .demand-3 .always (moving slows) (again once) once slows-begun (mild-again once (tt, tt)) (tt, tt) (slows-same .0 ∙ sym (slows-same .1)) (slows-same .2 ∙ sym (slows-same .3)) in
     eqb-false 30 600 refl (ap (λ (l : List ℤ). getD (map number l) 0 0) (s .speeds))
 
 -- ---- turned after a stop: along y, not along x
@@ -132,7 +132,7 @@ pub turns-fails : Demanded turns → ⊥
 unfolding reached shown number receiving sound soundOf counted inRange underWay hearing stopped earOf gathering gathered returned directSaid replyOf first directOf afterAddress letterOf behind digitsBehind digitsOf numberOf parted itemsOf numbersOf within in24 signed word placed added inSpeed rightCount rightZ2 rightDistances rightSpeeds pulses steps countAfter goal goalX goalY goalZ1 goalZ2 firstSpeed laterSpeed route goingTo planOf fromOf toOf leftOf afterOf countRight axesRight rangesRight speedsRight beginOf clocking ticked pulseOf nextBy skipped signAt speedAt
 turns-fails d =
     let s : Same turns (moving turns) (again once) once =
-    d .three .always (moving turns) (again once) once turns-begun (mild-again once (tt, tt)) (tt, tt) (turns-same .0 ∙ sym (turns-same .1)) (turns-same .2 ∙ sym (turns-same .3)) in
+    d .demand-3 .always (moving turns) (again once) once turns-begun (mild-again once (tt, tt)) (tt, tt) (turns-same .0 ∙ sym (turns-same .1)) (turns-same .2 ∙ sym (turns-same .3)) in
     eqb-false 0 1 refl (ap (λ (l : List Paper). getD (signs l) 0 0) (s .axes))
 
 -- ---- a pulse lost at a stop: pulse, pulse, 0 where there are three pulses
@@ -149,7 +149,7 @@ pub losesPulse-fails : Demanded losesPulse → ⊥
 unfolding reached shown number receiving sound soundOf counted inRange underWay hearing stopped earOf gathering gathered returned directSaid replyOf first directOf afterAddress letterOf behind digitsBehind digitsOf numberOf parted itemsOf numbersOf within in24 signed word placed added inSpeed rightCount rightZ2 rightDistances rightSpeeds pulses steps countAfter goal goalX goalY goalZ1 goalZ2 firstSpeed laterSpeed route goingTo planOf fromOf toOf leftOf afterOf countRight axesRight rangesRight speedsRight beginOf clocking ticked pulseOf nextBy skipped signAt speedAt
 losesPulse-fails d =
     let s : Same losesPulse (moving losesPulse) (again thrice) thrice =
-    d .three .always (moving losesPulse) (again thrice) thrice losesPulse-begun (mild-again thrice (tt, (tt, (tt, tt)))) (tt, (tt, (tt, tt))) (losesPulse-same .0 ∙ sym (losesPulse-same .1)) (losesPulse-same .2 ∙ sym (losesPulse-same .3)) in
+    d .demand-3 .always (moving losesPulse) (again thrice) thrice losesPulse-begun (mild-again thrice (tt, (tt, (tt, tt)))) (tt, (tt, (tt, tt))) (losesPulse-same .0 ∙ sym (losesPulse-same .1)) (losesPulse-same .2 ∙ sym (losesPulse-same .3)) in
     eqb-false 3 1 refl (ap (λ (l : List Paper). getD (map (λ (a : Paper). a .number) l) 2 0) (s .axes))
 
 -- ---- a refused call that moves: one step where there is none
@@ -162,7 +162,7 @@ pub stirs-fails : Demanded stirs → ⊥
 unfolding reached shown number receiving sound soundOf counted inRange underWay hearing stopped earOf gathering gathered returned directSaid replyOf first directOf afterAddress letterOf behind digitsBehind digitsOf numberOf parted itemsOf numbersOf within in24 signed word placed added inSpeed rightCount rightZ2 rightDistances rightSpeeds pulses steps countAfter goal goalX goalY goalZ1 goalZ2 firstSpeed laterSpeed route goingTo planOf fromOf toOf leftOf afterOf countRight axesRight rangesRight speedsRight beginOf clocking ticked pulseOf nextBy skipped signAt speedAt
 stirs-fails d =
     let s : Same stirs (moving stirs) elsewhere [] =
-    d .three .always (moving stirs) elsewhere [] stirs-begun (eqb-false (length {A = ℕ} []) 16384 refl, tt) tt refl refl in
+    d .demand-3 .always (moving stirs) elsewhere [] stirs-begun (eqb-false (length {A = ℕ} []) 16384 refl, tt) tt refl refl in
     eqb-false 8388609 8388608 refl (ap (λ (e : Engine). e .at .x) (s .engine))
 
 -- ---- and ours on the same case: two clock calls while it stands do not count and answer nothing, so that counting them would be wrong

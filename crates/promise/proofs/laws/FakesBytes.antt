@@ -82,5 +82,5 @@ pub losesBytes-fails : Demanded losesBytes → ⊥
 unfolding afterAll sent ticks listing listOf more numbersText lineText listText within in24 signed word placed added inSpeed inOffset inBack inLoop inDelay inCharacter inSwitch inPort inByte inZero rightCount rightZ2 rightDistances rightSpeeds hexDigit hexes twos24 report twoHex decimal digits shown fromOf toOf speedAt skipped nextBy pulseOf afterOf leftOf pulses steps signAt countAfter goal goalX goalY goalZ1 goalZ2 firstSpeed laterSpeed route goingTo planOf counted inRange underWay behind letterOf afterAddress directOf codeOf storedOf digitsBehind digitsOf numberOf parted itemsOf numbersOf bytes4 numBytes encode wordAt wordsOf front isCode countRight axesRight loopRight rangesRight speedsRight faultOf hasRoom storeOf recordAt spotFrom spotOf fetchOf recordsFrom recordsOf holds share around crosses early overlaps holders outside strays letter checked inside again opens looped aimed onwardOf checkOf verdictOf soundOf mixed resetOf heard beginOf performed ticked runsOf receiving clocking first replyOf directSaid earOf returned gathering stopped broken resetSaid hearing gathered sound recordReply storedSaid
 losesBytes-fails d =
     let r : ListedAgain losesBytes written page noStore host (afterAll losesBytes events (losesBytes .first)) =
-    d .two .round-trip events written page noStore host refl written-below accepts room refl (zeros-below 16384) in
+    d .demand-2 .round-trip events written page noStore host refl written-below accepts room refl (zeros-below 16384) in
     eqb-false 0 0xD7 refl (ap (λ (s : List ℕ). getD s 0 0) (r .restored .bytes))

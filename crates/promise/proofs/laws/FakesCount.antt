@@ -76,4 +76,4 @@ invents-fails-at limit store b c = never (course limit store b .calls) (says-the
 pub invents-fails : Demanded invents → ⊥
 invents-fails d =
     let s : Board = afterAll invents (typed (codes "@01\r@0A3,600\r")) (invents .first) in
-    invents-fails-at 100 noStore s (d .two .counted 100 noStore s)
+    invents-fails-at 100 noStore s (d .demand-2 .counted 100 noStore s)

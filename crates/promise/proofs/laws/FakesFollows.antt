@@ -36,21 +36,21 @@ pub refuses-fails : Demanded refuses → ⊥
 unfolding afterAll receiving sound soundOf counted inRange underWay hearing stopped earOf gathering gathered returned directSaid replyOf first directOf afterAddress letterOf behind digitsBehind digitsOf numberOf parted itemsOf numbersOf within in24 signed word placed added inSpeed rightCount rightZ2 rightDistances rightSpeeds pulses steps countAfter goal goalX goalY goalZ1 goalZ2 firstSpeed laterSpeed route goingTo planOf fromOf toOf leftOf afterOf countRight axesRight rangesRight speedsRight beginOf
 refuses-fails d =
     eqb-false 53 48 refl
-    (ap (λ (h : Heard). getD (h .after .reply) 0 0) (d .two .follows .hears 13 [] lent0 (afterAll refuses (typed (codes "@0k")) (refuses .first))))
+    (ap (λ (h : Heard). getD (h .after .reply) 0 0) (d .demand-2 .follows .hears 13 [] lent0 (afterAll refuses (typed (codes "@0k")) (refuses .first))))
 
 -- an empty line is refused 5, and it answers 0
 pub agrees-fails : Demanded agrees → ⊥
 unfolding afterAll receiving sound soundOf counted inRange underWay hearing stopped earOf gathering gathered returned directSaid replyOf first directOf afterAddress letterOf behind digitsBehind digitsOf numberOf parted itemsOf numbersOf within in24 signed word placed added inSpeed rightCount rightZ2 rightDistances rightSpeeds pulses steps countAfter goal goalX goalY goalZ1 goalZ2 firstSpeed laterSpeed route goingTo planOf fromOf toOf leftOf afterOf countRight axesRight rangesRight speedsRight beginOf
 agrees-fails d =
     eqb-false 48 53 refl
-    (ap (λ (h : Heard). getD (h .after .reply) 0 0) (d .two .follows .hears 13 [] lent0 (afterAll agrees (typed (codes "")) (agrees .first))))
+    (ap (λ (h : Heard). getD (h .after .reply) 0 0) (d .demand-2 .follows .hears 13 [] lent0 (afterAll agrees (typed (codes "")) (agrees .first))))
 
 -- in a movement of three steps a clock call makes a pulse, 1, and it answers nothing, 5
 pub sleeps-fails : Demanded sleeps → ⊥
 unfolding afterAll receiving sound soundOf counted inRange underWay hearing stopped earOf gathering gathered returned directSaid replyOf first directOf afterAddress letterOf behind digitsBehind digitsOf numberOf parted itemsOf numbersOf within in24 signed word placed added inSpeed rightCount rightZ2 rightDistances rightSpeeds pulses steps countAfter goal goalX goalY goalZ1 goalZ2 firstSpeed laterSpeed route goingTo planOf fromOf toOf leftOf afterOf countRight axesRight rangesRight speedsRight beginOf clocking ticked pulseOf nextBy skipped signAt speedAt
 sleeps-fails d =
     eqb-false 5 1 refl
-    (ap (λ (c : Clocked). c .answer .number) (d .two .follows .ticks noStore (afterAll sleeps (typed (codes "@01\r@0A3,600\r")) (sleeps .first))))
+    (ap (λ (c : Clocked). c .answer .number) (d .demand-2 .follows .ticks noStore (afterAll sleeps (typed (codes "@01\r@0A3,600\r")) (sleeps .first))))
 
 -- axes 2 are refused 103
 abbrev odd : Board
@@ -58,4 +58,4 @@ odd = board (record { axes = 2; at = zeroes; origin = zeroes; three = false; out
 
 pub blind-fails : Demanded blind → ⊥
 unfolding receiving sound soundOf counted inRange underWay hearing stopped earOf gathering gathered returned directSaid replyOf first directOf afterAddress letterOf behind digitsBehind digitsOf numberOf parted itemsOf numbersOf within in24 signed word placed added inSpeed rightCount rightZ2 rightDistances rightSpeeds pulses steps countAfter goal goalX goalY goalZ1 goalZ2 firstSpeed laterSpeed route goingTo planOf fromOf toOf leftOf afterOf countRight axesRight rangesRight speedsRight beginOf
-blind-fails d = eqb-false 0 103 refl (ap (λ (h : Heard). h .refusal) (d .two .follows .hears 13 [] lent0 odd))
+blind-fails d = eqb-false 0 103 refl (ap (λ (h : Heard). h .refusal) (d .demand-2 .follows .hears 13 [] lent0 odd))

@@ -75,7 +75,7 @@ pub shorts-fails : Demanded shorts → ⊥
 unfolding visits after reached within in24 signed word placed added inSpeed inOffset inBack inLoop inDelay inCharacter inSwitch inPort inByte inZero rightCount rightZ2 rightDistances rightSpeeds hexDigit hexes twos24 report twoHex decimal digits shown fromOf toOf speedAt skipped nextBy pulseOf afterOf leftOf pulses steps signAt countAfter goal goalX goalY goalZ1 goalZ2 firstSpeed laterSpeed route goingTo planOf counted inRange underWay behind letterOf afterAddress directOf codeOf storedOf digitsBehind digitsOf numberOf parted itemsOf numbersOf bytes4 numBytes encode wordAt wordsOf front isCode countRight axesRight loopRight rangesRight speedsRight faultOf hasRoom storeOf recordAt spotFrom spotOf fetchOf recordsFrom recordsOf holds share around crosses early overlaps holders outside strays letter checked inside again opens looped aimed onwardOf checkOf verdictOf soundOf mixed resetOf heard beginOf performed ticked runsOf receiving clocking first replyOf directSaid earOf returned gathering stopped broken resetSaid hearing gathered sound recordReply storedSaid
 shorts-fails d =
     let r : Route pattern (visits shorts looping four) =
-    d .two .routes (inStore shorts looping) pattern looping four looping-started (looping-program .0) (looping-program .1) (tt, (tt, (tt, (tt, tt)))) in
+    d .demand-2 .routes (inStore shorts looping) pattern looping four looping-started (looping-program .0) (looping-program .1) (tt, (tt, (tt, (tt, tt)))) in
     eqb-false 1 0 refl (r .loops 2 1 1 (omega arith) refl refl (omega arith) refl .0)
 
 -- ---- a movement and two characters: behind the movement it comes to 2, not to 1
@@ -101,5 +101,5 @@ pub overleaps-fails : Demanded overleaps → ⊥
 unfolding visits after reached within in24 signed word placed added inSpeed inOffset inBack inLoop inDelay inCharacter inSwitch inPort inByte inZero rightCount rightZ2 rightDistances rightSpeeds hexDigit hexes twos24 report twoHex decimal digits shown fromOf toOf speedAt skipped nextBy pulseOf afterOf leftOf pulses steps signAt countAfter goal goalX goalY goalZ1 goalZ2 firstSpeed laterSpeed route goingTo planOf counted inRange underWay behind letterOf afterAddress directOf codeOf storedOf digitsBehind digitsOf numberOf parted itemsOf numbersOf bytes4 numBytes encode wordAt wordsOf front isCode countRight axesRight loopRight rangesRight speedsRight faultOf hasRoom storeOf recordAt spotFrom spotOf fetchOf recordsFrom recordsOf holds share around crosses early overlaps holders outside strays letter checked inside again opens looped aimed onwardOf checkOf verdictOf soundOf mixed resetOf heard beginOf performed ticked runsOf receiving clocking first replyOf directSaid earOf returned gathering stopped broken resetSaid hearing gathered sound recordReply storedSaid
 overleaps-fails d =
     let r : Route course (visits overleaps milling two) =
-    d .two .routes (inStore overleaps milling) course milling two milling-started (milling-program .0) (milling-program .1) (tt, (tt, tt)) in
+    d .demand-2 .routes (inStore overleaps milling) course milling two milling-started (milling-program .0) (milling-program .1) (tt, (tt, tt)) in
     eqb-false 2 1 refl (r .others 0 (omega arith) (eqb-false 48 51 refl) (eqb-false 48 50 refl) .0)

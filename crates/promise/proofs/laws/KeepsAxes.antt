@@ -36,10 +36,11 @@ use Rattle.engine.proofs.laws.Cases.{record-cases, cases}
 use Rattle.board.specs.declared.Board.{Board}
 use Rattle.board.specs.declared.Ticked.{Ticked}
 use Rattle.board.specs.State.{textOf, Said, sound}
-use Rattle.board.specs.Direct.{heardStanding, needsAxes, replyOf, effectOf, accepted, directSaid}
+use Rattle.board.specs.Direct.{heardStanding, needsAxes, replyOf, effectOf, acceptedSaid, directSaid}
 use Rattle.board.specs.Storing.{recordOf, recordReply, storedBy, storedSaid}
-use Rattle.board.specs.Receive.Ear.{gathers, drops, waits}
-use Rattle.board.specs.Receive.{Ear, earOf, isStoring, returned, gathering, ordinary, hearing, holdsBy, stopped, endsBy, broken, resetSaid}
+use Rattle.engine.specs.Kinds.Ear.{gathers, drops, waits}
+use Rattle.engine.specs.Kinds.{Ear}
+use Rattle.board.specs.Receive.{earOf, isStoring, returned, gathering, ordinary, hearing, holdsBy, stopped, endsBy, broken, resetSaid}
 use Rattle.board.specs.Calls.{clocking, fresh}
 use Rattle.board.proofs.laws.Hears.{sound-engine}
 use Rattle.board.proofs.laws.Laws.{fresh-sound, hearing-sound, clocking-sound}
@@ -144,13 +145,13 @@ module _ (v : ℕ) (ports : List ℕ) (b : Board) (store : List ℕ) (h : sound 
       by false = other _ refl
   begun-on planned.Outside = w
 
-  start-on : (s : Bool) → On (accepted (effectOf letter.Start [] ports (b .engine) s) store)
+  start-on : (s : Bool) → On (acceptedSaid (effectOf letter.Start [] ports (b .engine) s) store)
   start-on true = w
   start-on false = other _ refl
 
   module _ (k : isStoring (b .engine .run .job) && not (b .standing) ≡ false) where
     effect-on : (x : Letter) (l : List ℕ) → b .standing && not (heardStanding x) ≡ false → needsAxes x && eqb (b .engine .axes) 0 ≡ false
-        → On (accepted (effectOf x l ports (b .engine) (b .standing)) store)
+        → On (acceptedSaid (effectOf x l ports (b .engine) (b .standing)) store)
     unfolding beginOf
     effect-on letter.Wrong l p q = w
     effect-on letter.Axes l p q = record { axes = w .axes }

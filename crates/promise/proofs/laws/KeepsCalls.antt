@@ -27,7 +27,7 @@ use Rattle.board.specs.State.{board, sound}
 use Rattle.board.specs.Receive.{hearing, isStoring}
 use Rattle.board.specs.Calls.{Outcome, refused, answered, receiving, clocked, wentOn, clocking, listing}
 use Rattle.course.specs.Text.{answerText}
-use Rattle.course.specs.Run.{runsNow, Course, rests, then, course}
+use Rattle.course.specs.Run.{runsNow, Course, noCalls, then, course}
 use Rattle.promise.specs.Machine.{Lent, lent, ours}
 use Rattle.promise.specs.Demands.{isIdle, isWaiting, RefusedCall, Quiet, ticks, CountedRun, Counted}
 
@@ -177,8 +177,8 @@ module _ (store : List ℕ) where
   counted-by : (k : ℕ) (s : Board) (x : Bool) → runsNow s ≡ x
       → CountedRun ours k store (clocking s store .board) (course k store (clocking s store .board) .board) (course k store (clocking s store .board) .calls)
       → CountedRun ours (suc k) store s
-      ((elim x as (λ _. Course) [ true ↦ then (answerText (clocking s store .answer)) (course k store (clocking s store .board)) | false ↦ rests s ]) .board)
-      ((elim x as (λ _. Course) [ true ↦ then (answerText (clocking s store .answer)) (course k store (clocking s store .board)) | false ↦ rests s ]) .calls)
+      ((elim x as (λ _. Course) [ true ↦ then (answerText (clocking s store .answer)) (course k store (clocking s store .board)) | false ↦ noCalls s ]) .board)
+      ((elim x as (λ _. Course) [ true ↦ then (answerText (clocking s store .answer)) (course k store (clocking s store .board)) | false ↦ noCalls s ]) .calls)
   unfolding ticks
   counted-by k s true e c =
       let n = course k store (clocking s store .board) .calls in

@@ -22,8 +22,9 @@ use Rattle.engine.specs.State.{ceased, emptied}
 use Rattle.board.specs.declared.Board.{Board}
 use Rattle.board.specs.State.{board, noLine, textOf, Said, said, sound}
 use Rattle.board.specs.Storing.{endSaid, storedBy, storedSaid}
-use Rattle.board.specs.Receive.Ear.{gathers}
-use Rattle.board.specs.Receive.{Ear, earBy, earOf, isStoring, returned, gathering, ordinary, hearing}
+use Rattle.engine.specs.Kinds.Ear.{gathers}
+use Rattle.engine.specs.Kinds.{Ear}
+use Rattle.board.specs.Receive.{earBy, earOf, isStoring, returned, gathering, ordinary, hearing}
 use Rattle.board.specs.Calls.{receiving, fresh}
 use Rattle.board.proofs.laws.Laws.{hearing-sound}
 use Rattle.promise.specs.Machine.{Lent, ours, Event, afterAll}

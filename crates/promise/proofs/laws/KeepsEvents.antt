@@ -26,8 +26,9 @@ use Rattle.board.specs.declared.Board.{Board}
 use Rattle.board.specs.State.{board, noLine, textOf, lineDone, Said, said}
 use Rattle.board.specs.Direct.{directSaid}
 use Rattle.board.specs.Storing.{recordOf, recordReply, recordSaid, endSaid, storedBy, storedSaid}
-use Rattle.board.specs.Receive.Ear.{gathers, drops, waits}
-use Rattle.board.specs.Receive.{Ear, earBy, earOf, isStoring, returned, gathering, ordinary, hearing, holdsBy, stopped, endsBy, broken, resetSaid}
+use Rattle.engine.specs.Kinds.Ear.{gathers, drops, waits}
+use Rattle.engine.specs.Kinds.{Ear}
+use Rattle.board.specs.Receive.{earBy, earOf, isStoring, returned, gathering, ordinary, hearing, holdsBy, stopped, endsBy, broken, resetSaid}
 use Rattle.board.specs.Calls.{Outcome, receiving, fresh}
 use Rattle.promise.specs.Machine.{Lent, heardBy as heardFrom, ours, Event, byte, clock, next, afterAll}
 use Rattle.promise.specs.Demands.{isIdle, idles, stores, Axis, X, Y, Z, counterOf, position, zeroLine, zeroes, sumAfter, pulseSum, SumOfPulses}

@@ -32,9 +32,9 @@ use Rattle.engine.specs.State.{withHeld, withJob, ceased, emptied, begun as beg
 use Rattle.engine.specs.Tick.{runsBy, runsOf}
 use Rattle.board.specs.declared.Board.{Board}
 use Rattle.board.specs.State.{board, noLine, textOf, lineDone, Said, said}
-use Rattle.board.specs.Direct.{isWrong, heardStanding, needsAxes, countFits, axesFit, rangesFit, speedsFit, restsOutside, isStart, isOutside, first, replyOf, effectOf, accepted, directSaid, started-with}
+use Rattle.board.specs.Direct.{isWrong, heardStanding, needsAxes, countFits, axesFit, rangesFit, speedsFit, restsOutside, isStart, isOutside, first, replyOf, effectOf, acceptedSaid, directSaid, started-with}
 use Rattle.board.specs.Storing.{recordOf, recordReply, recordSaid, endSaid, storedBy, storedSaid}
-use Rattle.board.specs.Receive.Ear.{gathers}
+use Rattle.engine.specs.Kinds.Ear.{gathers}
 use Rattle.board.specs.Receive.{earBy, earOf, isStoring, returned, gathering, ordinary, hearing}
 use Rattle.course.specs.Run.{runsNow}
 use Rattle.promise.specs.Demands.{isIdle, isWaiting, idles, stores, isNine, endLine, unstored, Silent, begun, onward, dropped, taken}
@@ -83,23 +83,23 @@ and-not-false false e = refl
 
 module _ (b : Board) (store ports words : List ℕ) (idle : b .standing ≡ false → idles b ≡ true) where
   moving-by : (p : Planned) → isOutside p ≡ false → b .standing ≡ false
-      → Came b store (accepted (started-with (begunBy p (b .engine)) (b .standing)) store)
+      → Came b store (acceptedSaid (started-with (begunBy p (b .engine)) (b .standing)) store)
   unfolding runsNow runsOf
   moving-by (planned.Going m) h s = by (eqb (leftOf m) 0)
     where
       by : (z : Bool)
-          → Came b store (accepted (started-with (pick z (begunWith 48 (b .engine)) (begunWith 0 (withJob (b .engine) (job.Direct m)))) (b .standing)) store)
+          → Came b store (acceptedSaid (started-with (pick z (begunWith 48 (b .engine)) (begunWith 0 (withJob (b .engine) (job.Direct m)))) (b .standing)) store)
       by true = zeroed [] refl refl
       by false = still refl (begun (idle s) (rw s))
   moving-by planned.Outside h s = never (sym h)
 
-  started-by : (s : Bool) → b .standing ≡ s → Came b store (accepted (effectOf letter.Start words ports (b .engine) s) store)
+  started-by : (s : Bool) → b .standing ≡ s → Came b store (acceptedSaid (effectOf letter.Start words ports (b .engine) s) store)
   unfolding runsNow runsOf
   started-by true q = still refl (onward q refl)
   started-by false q = still refl (begun (idle q) refl)
 
   effect-came : (k : Letter) → isWrong k ≡ false → b .standing && not (heardStanding k) ≡ false → restsOutside k (b .engine) words ≡ false
-      → Came b store (accepted (effectOf k words ports (b .engine) (b .standing)) store)
+      → Came b store (acceptedSaid (effectOf k words ports (b .engine) (b .standing)) store)
   unfolding beginOf report twoHex hexes
   effect-came letter.Wrong p q r = never (sym p)
   effect-came letter.Axes p q r = zeroed [] refl refl
@@ -122,7 +122,7 @@ module _ (b : Board) (store ports words : List ℕ) (idle : b .standing ≡ fals
   direct-came d w n = by (eqb (replyOf (b .engine) (b .standing) d) 48) refl
     where
       by : (z : Bool) → eqb (replyOf (b .engine) (b .standing) d) 48 ≡ z
-          → Came b store (pick z (accepted (effectOf (d .letter) (d .words) ports (b .engine) (b .standing)) store)
+          → Came b store (pick z (acceptedSaid (effectOf (d .letter) (d .words) ports (b .engine) (b .standing)) store)
           (said (lineDone b) (replyOf (b .engine) (b .standing) d ∷ []) store))
       by true e =
           let f = row-facts (b .engine) (b .standing) d (eqb-true _ 48 e) in

@@ -13,8 +13,9 @@ use Rattle.count.proofs.laws.Truth.{never}
 use Rattle.board.specs.declared.Board.{Board}
 use Rattle.engine.specs.State.{ceased}
 use Rattle.board.specs.State.{board, gathered, withLine, lineDone, Said, said}
-use Rattle.board.specs.Receive.Ear.{gathers, drops, waits}
-use Rattle.board.specs.Receive.{Ear, earOf, gathering, ordinary, hearing, holdsBy, stopped, endsBy, broken, resetSaid}
+use Rattle.engine.specs.Kinds.Ear.{gathers, drops, waits}
+use Rattle.engine.specs.Kinds.{Ear}
+use Rattle.board.specs.Receive.{earOf, gathering, ordinary, hearing, holdsBy, stopped, endsBy, broken, resetSaid}
 use Rattle.board.specs.Calls.{Outcome, answered, receiving}
 use Rattle.promise.specs.Machine.{Lent, lent, ours}
 use Rattle.promise.specs.Demands.{unstored, Untouched, Silent, RefusedLine, AcceptedLine, SilentReturn}

@@ -14,7 +14,7 @@ use Rattle.engine.specs.Sound.{soundOf}
 use Rattle.board.specs.declared.Line.{Line}
 use Rattle.board.specs.declared.Board.{Board}
 use Rattle.board.specs.State.{board, noLine, gathered, said, sound}
-use Rattle.board.specs.Receive.Ear.{gathers}
+use Rattle.engine.specs.Kinds.Ear.{gathers}
 use Rattle.board.specs.Receive.{earBy, earOf, gathering, hearing}
 use Rattle.board.specs.Calls.{Outcome, answered, receiving}
 use Rattle.promise.specs.Machine.{ours}

@@ -24,7 +24,7 @@ use Rattle.count.specs.Ranges.{names}
 use Rattle.engine.specs.State.{mixed, withJob, begun, begunBy, beginOf}
 use Rattle.board.specs.declared.Board.{Board}
 use Rattle.board.specs.State.{board, textOf, lineDone, Said, said}
-use Rattle.board.specs.Direct.{isWrong, heardStanding, replyOf, effectOf, accepted, directSaid, started-with}
+use Rattle.board.specs.Direct.{isWrong, heardStanding, replyOf, effectOf, acceptedSaid, directSaid, started-with}
 use Rattle.promise.specs.Demands.{isIdle, idles, Axis, X, Y, Z, counterOf, position, part, zeroLine}
 use Rattle.promise.proofs.laws.KeepsLines.{row-facts}
 
@@ -58,7 +58,7 @@ module _ (a : Axis) (b : Board) where
 
   module _ (ports words store : List ℕ) where
     abbrev after : Letter → Said
-    after k = accepted (effectOf k words ports (b .engine) (b .standing)) store
+    after k = acceptedSaid (effectOf k words ports (b .engine) (b .standing)) store
 
     abbrev zeroBy : Letter → Bool
     zeroBy k = eqb (letterPaper k .number) 48 || (eqb (letterPaper k .number) 78 && names (getD words 0 0) (part a))
@@ -159,7 +159,7 @@ module _ (a : Axis) (b : Board) (ports store : List ℕ) where
       off x = off-1 (idles b) (not (b .line .over)) (eqb (getD (x .reply) 0 0) 48) (zeroLine a line) (no-idle (isIdle (b .engine .run .job)))
 
       by : (z : Bool) → eqb reply 48 ≡ z
-          → Right a b (pick z (accepted (effectOf (line .letter) (line .words) ports (b .engine) (b .standing)) store) (said (lineDone b) (reply ∷ []) store))
+          → Right a b (pick z (acceptedSaid (effectOf (line .letter) (line .words) ports (b .engine) (b .standing)) store) (said (lineDone b) (reply ∷ []) store))
       by true e =
           let f = row-facts (b .engine) (b .standing) line (eqb-true reply 48 e) .1 in
           same a b (after a b ports (line .words) store (line .letter))
@@ -172,7 +172,7 @@ module _ (a : Axis) (b : Board) (ports store : List ℕ) where
   idle-right i o = by (eqb reply 48) refl
     where
       by : (z : Bool) → eqb reply 48 ≡ z
-          → Right a b (pick z (accepted (effectOf (line .letter) (line .words) ports (b .engine) (b .standing)) store) (said (lineDone b) (reply ∷ []) store))
+          → Right a b (pick z (acceptedSaid (effectOf (line .letter) (line .words) ports (b .engine) (b .standing)) store) (said (lineDone b) (reply ∷ []) store))
       by true e =
           let f = row-facts (b .engine) (b .standing) line (eqb-true reply 48 e) .0 in
           rw (i, o) (letter-at a b ports (line .words) store (line .letter) f)

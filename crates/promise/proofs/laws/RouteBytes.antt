@@ -16,7 +16,7 @@ use Rattle.engine.specs.State.{resetOf}
 use Rattle.board.specs.declared.Line.{Line}
 use Rattle.board.specs.declared.Board.{Board}
 use Rattle.board.specs.State.{board, Said}
-use Rattle.board.specs.Receive.Ear.{gathers}
+use Rattle.engine.specs.Kinds.Ear.{gathers}
 use Rattle.board.specs.Receive.{earBy, earOf, holdsBy, endsBy, stopped, broken, resetSaid, ordinary, hearing}
 use Rattle.promise.specs.Stop.{restsBy, rests}
 use Rattle.promise.proofs.laws.StopBoard.{left, held-byte}

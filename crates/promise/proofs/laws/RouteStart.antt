@@ -19,10 +19,11 @@ use Rattle.engine.specs.State.{started}
 use Rattle.board.specs.declared.Board.{Board}
 use Rattle.board.specs.declared.Line.{Line}
 use Rattle.board.specs.State.{board, noLine, textOf, lineDone, sound, Said, said}
-use Rattle.board.specs.Direct.{replyOf, effectOf, accepted, directSaid}
+use Rattle.board.specs.Direct.{replyOf, effectOf, acceptedSaid, directSaid}
 use Rattle.board.specs.Storing.{storedSaid}
-use Rattle.board.specs.Receive.{Ear, earBy, earOf, isStoring, returned, gathering, ordinary, hearing}
-use Rattle.board.specs.Receive.Ear.{gathers}
+use Rattle.engine.specs.Kinds.{Ear}
+use Rattle.board.specs.Receive.{earBy, earOf, isStoring, returned, gathering, ordinary, hearing}
+use Rattle.engine.specs.Kinds.Ear.{gathers}
 use Rattle.board.specs.Calls.{Outcome, refused, answered, receiving}
 use Rattle.board.proofs.laws.Laws.{hearing-sound}
 use Rattle.promise.specs.Machine.{ours, Lent, afterAll}
@@ -72,9 +73,9 @@ module _ (ports : List ℕ) (e : Engine) (l : Line) (store : List ℕ) (k : dire
   unfolding directSaid
   direct-begins = by (eqb (replyOf e false (directOf (textOf l))) 48)
     where
-      by : (t : Bool) → Begins (pick t (accepted (effectOf (directOf (textOf l) .letter) (directOf (textOf l) .words) ports e false) store)
+      by : (t : Bool) → Begins (pick t (acceptedSaid (effectOf (directOf (textOf l) .letter) (directOf (textOf l) .words) ports e false) store)
           (said (lineDone b) (replyOf e false (directOf (textOf l)) ∷ []) store))
-      by true n = ap (λ (x : Letter). accepted (effectOf x (directOf (textOf l) .words) ports e false) store) k
+      by true n = ap (λ (x : Letter). acceptedSaid (effectOf x (directOf (textOf l) .words) ports e false) store) k
       by false n = absurd (omega arith)
 
   return-begins : (j : Job) → isIdle j ≡ true

@@ -30,7 +30,7 @@ use Rattle.engine.proofs.laws.Cases.{record-cases, cases}
 use Rattle.board.specs.declared.Line.{Line}
 use Rattle.board.specs.declared.Board.{Board}
 use Rattle.board.specs.State.{board, noLine, textOf, gathered, lineDone, Said, said}
-use Rattle.board.specs.Direct.{needsAxes, replyOf, effectOf, accepted, directSaid}
+use Rattle.board.specs.Direct.{needsAxes, replyOf, effectOf, acceptedSaid, directSaid}
 use Rattle.board.specs.Storing.{recordReply, recordOf, storedBy, storedSaid}
 use Rattle.board.specs.Receive.{isStoring, returned, gathering}
 use Rattle.promise.specs.Stop.{restsBy}
@@ -86,7 +86,7 @@ module _ (ports : List ℕ) (e : Engine) (l : Line) (store : List ℕ) (r : rest
   direct-axed d = by (eqb (replyOf e false d) 48) refl
     where
       by : (c : Bool) → eqb (replyOf e false d) 48 ≡ c →
-          After (pick c (accepted (effectOf (d .letter) (d .words) ports e false) store) (said (lineDone b) (replyOf e false d ∷ []) store))
+          After (pick c (acceptedSaid (effectOf (d .letter) (d .words) ports e false) store) (said (lineDone b) (replyOf e false d ∷ []) store))
       by true q = effect-axed (d .letter) (d .words) (row-facts e false d (eqb-true _ 48 q) .3)
       by false q = λ q. still q
 

@@ -18,7 +18,7 @@ use Rattle.engine.specs.declared.Engine.{Engine}
 use Rattle.board.specs.declared.Line.{Line}
 use Rattle.board.specs.declared.Board.{Board}
 use Rattle.board.specs.State.{board, noLine, textOf, gathered, lineDone, Said, said}
-use Rattle.board.specs.Direct.{replyOf, first, effectOf, accepted, directSaid}
+use Rattle.board.specs.Direct.{replyOf, first, effectOf, acceptedSaid, directSaid}
 use Rattle.board.specs.Storing.{storedSaid}
 use Rattle.board.specs.Receive.{isStoring, returned, gathering}
 
@@ -92,12 +92,12 @@ module _ (e : Engine) (store : List ℕ) where
 
   module _ (ports : List ℕ) (l : Line) where
     -- P, b and S, accepted or not
-    held-heard : (x : Letter) (n : ℕ) (w : List ℕ) (s : Bool) → Held e store (left (accepted (effectOf x w ports e true) store)) →
+    held-heard : (x : Letter) (n : ℕ) (w : List ℕ) (s : Bool) → Held e store (left (acceptedSaid (effectOf x w ports e true) store)) →
         Held e store (left (directSaid (direct x n w) ports (board e true l) store))
     unfolding directSaid
     held-heard x n w s h = by (eqb (replyOf e true (direct x n w)) 48)
       where
-        by : (c : Bool) → Held e store (left (pick c (accepted (effectOf x w ports e true) store) (said (lineDone (board e true l)) (replyOf e true (direct x n w) ∷ []) store)))
+        by : (c : Bool) → Held e store (left (pick c (acceptedSaid (effectOf x w ports e true) store) (said (lineDone (board e true l)) (replyOf e true (direct x n w) ∷ []) store)))
         by true = h
         by false = held-on noLine refl
 

@@ -20,7 +20,7 @@ use Rattle.engine.specs.State.{withHeld, emptied, ceased}
 use Rattle.board.specs.declared.Line.{Line}
 use Rattle.board.specs.declared.Board.{Board}
 use Rattle.board.specs.State.{board, noLine, textOf, gathered, lineDone, Said, said}
-use Rattle.board.specs.Direct.{replyOf, effectOf, accepted, directSaid}
+use Rattle.board.specs.Direct.{replyOf, effectOf, acceptedSaid, directSaid}
 use Rattle.board.specs.Storing.{recordReply, recordOf, recordSaid, endSaid, storedBy, storedSaid}
 use Rattle.board.specs.Receive.{isStoring, returned, gathering}
 use Rattle.promise.proofs.laws.StopBoard.{twinBoard, Clear, Fit, fit-of, gathered-short, left}
@@ -45,7 +45,7 @@ module _ (ports : List ℕ) (e : Engine) (l : Line) (store : List ℕ) where
   abbrev b : Board
   b = board e false l
 
-  quiet-effect : (x : Letter) (w : List ℕ) → Quiet (left (accepted (effectOf x w ports e false) store)) (left (accepted (effectOf x w [] e false) store))
+  quiet-effect : (x : Letter) (w : List ℕ) → Quiet (left (acceptedSaid (effectOf x w ports e false) store)) (left (acceptedSaid (effectOf x w [] e false) store))
   quiet-effect letter.Wrong w = quiet-of _ store
   quiet-effect letter.Axes w = quiet-of _ store
   quiet-effect letter.Relative w = quiet-of _ store
@@ -67,8 +67,8 @@ module _ (ports : List ℕ) (e : Engine) (l : Line) (store : List ℕ) where
       no : Said
       no = said (lineDone b) (replyOf e false d ∷ []) store
 
-      by : (c : Bool) → Quiet (left (pick c (accepted (effectOf (d .letter) (d .words) ports e false) store) no))
-          (left (pick c (accepted (effectOf (d .letter) (d .words) [] e false) store) no))
+      by : (c : Bool) → Quiet (left (pick c (acceptedSaid (effectOf (d .letter) (d .words) ports e false) store) no))
+          (left (pick c (acceptedSaid (effectOf (d .letter) (d .words) [] e false) store) no))
       by true = quiet-effect (d .letter) (d .words)
       by false = quiet-of e store
 

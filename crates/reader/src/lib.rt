@@ -1,6 +1,9 @@
-// The numbers of a text, for the programs that run vectors: one number behind the other, whatever stands between them.
+// The numbers of a text, for the programs that run vectors: decimal ones one behind the other, whatever stands between them, and
+// hexadecimal ones at a place.
 ghost use mathlib.Core.Path.{_≡_};
-ghost use Rattle.reader.specs.Reader.{isDigit, withDigit, numberAt};
+ghost use Prim.Native.Nat.{_≤_};
+ghost use lib.ListN.{length};
+ghost use Rattle.reader.specs.Reader.{isDigit, withDigit, numberAt, wordsAt, behindWords, hexValue, hexAt};
 
 // A number of the text as a word of 32 bits, and where the text goes on.
 pub struct Number {
@@ -54,4 +57,56 @@ pub fn next_number(text: &[u8], from: usize) -> Number
         word: count::word_of(minus, size),
         at,
     }
+}
+
+// As many numbers as `words` has room for, from a place of the text on; answers where the text goes on.
+pub fn next_numbers(text: &[u8], from: usize, words: &mut [u32]) -> usize
+    ensures { λ r. ⌜ (r ≡ behindWords (length (now (words .entry))) (now (text .entry)) from) × (now (words .exit) ≡ wordsAt (length (now (words .entry))) (now (text .entry)) from) ⌝ }
+{
+    let mut at = from;
+    let mut k = 0;
+    while k < words.len() {
+        let t = next_number(text, at);
+        words[k] = t.word;
+        at = t.at;
+        k = k + 1;
+    }
+    at
+}
+
+// The value of a hexadecimal digit; any other byte counts as 0.
+fn hex_value(b: u8) -> u64
+    ensures { λ r. ⌜ (r ≡ hexValue b) × (r ≤ 15) ⌝ }
+{
+    if b < 48 {
+        return 0;
+    }
+    if b <= 57 {
+        return (b - 48) as u64;
+    }
+    if b < 97 {
+        return 0;
+    }
+    if b <= 102 {
+        return ((b - 97) as u64) + 10;
+    }
+    0
+}
+
+// The number of so many hexadecimal digits from a place of the text on, or of those that stand there; the last sixteen count.
+pub fn hex_number(text: &[u8], from: usize, digits: usize) -> u64
+    ensures { λ r. ⌜ r ≡ hexAt (now (text .entry)) from digits ⌝ }
+{
+    let mut at = from;
+    let mut left = digits;
+    let mut n: u64 = 0;
+    while at < text.len() {
+        if left == 0 {
+            return n;
+        }
+        n = n % 0x1000_0000_0000_0000 * 16 + hex_value(text[at]);
+        at = at + 1;
+        left = left - 1;
+    }
+    n
 }

@@ -12,25 +12,6 @@ use program::Loops;
 use record::Held;
 use record::Record;
 
-// The numbers of one step, and where the text goes on.
-struct Step {
-    words: [u32; 11],
-    at: usize,
-}
-
-fn next_step(text: &[u8], from: usize) -> Step {
-    let mut words: [u32; 11] = [0; 11];
-    let mut at = from;
-    let mut k = 0;
-    while k < 11 {
-        let t = reader::next_number(text, at);
-        words[k] = t.word;
-        at = t.at;
-        k = k + 1;
-    }
-    Step { words, at }
-}
-
 fn byte_of(w: u32) -> u8 {
     if w < 256 { w as u8 } else { 255 }
 }
@@ -250,14 +231,13 @@ fn write(e: Engine, store: &mut [u8], w: [u32; 11]) -> Engine {
 
 fn run_all(text: &[u8]) {
     let mut store: [u8; 16384] = [0; 16384];
+    let mut words: [u32; 11] = [0; 11];
     let mut e = Engine::fresh();
     let first = reader::next_number(text, 0);
     let mut left = first.word;
     let mut at = first.at;
     while 0 < left {
-        let s = next_step(text, at);
-        at = s.at;
-        let words = s.words;
+        at = reader::next_numbers(text, at, &mut words);
         let written = write(e, &mut store, words);
         let acted = act(written, &store, words);
         e = acted;

@@ -10,25 +10,6 @@ use line::Direct;
 use line::Letter;
 use line::Stored;
 
-// A hexadecimal digit's value; any other byte counts as 0.
-fn value(b: u8) -> u8
-    ensures { λ r. ⌜ r < 16 ⌝ }
-{
-    if b < 48 {
-        return 0;
-    }
-    if b < 58 {
-        return b - 48;
-    }
-    if b < 97 {
-        return 0;
-    }
-    if b < 103 {
-        return b - 87;
-    }
-    0
-}
-
 // The bytes of the hexadecimal pairs from byte `at` on, as many as `out` holds; answers how many.
 fn bytes_of(s: &[u8], at: usize, out: &mut [u8]) -> usize
     ensures { λ r. ⌜ Counts r (now (out .exit)) ⌝ }
@@ -39,13 +20,11 @@ fn bytes_of(s: &[u8], at: usize, out: &mut [u8]) -> usize
         if s.len() <= i {
             return n;
         }
-        let high = value(s[i]);
-        i = i + 1;
-        if s.len() <= i {
+        if s.len() - i < 2 {
             return n;
         }
-        out[n] = 16 * high + value(s[i]);
-        i = i + 1;
+        out[n] = (reader::hex_number(s, i, 2) % 256) as u8;
+        i = i + 2;
         n = n + 1;
     }
     n

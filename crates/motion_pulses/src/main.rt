@@ -9,25 +9,6 @@ use motion::Planned;
 use motion::Sign;
 use motion::Stepped;
 
-// The numbers of one movement, and where the text goes on.
-struct Given {
-    words: [u32; 18],
-    at: usize,
-}
-
-fn next_movement(text: &[u8], from: usize) -> Given {
-    let mut words: [u32; 18] = [0; 18];
-    let mut at = from;
-    let mut k = 0;
-    while k < 18 {
-        let t = reader::next_number(text, at);
-        words[k] = t.word;
-        at = t.at;
-        k = k + 1;
-    }
-    Given { words, at }
-}
-
 fn narrow(w: u32) -> u8 {
     if w < 256 { w as u8 } else { 0 }
 }
@@ -167,13 +148,12 @@ fn show(words: [u32; 18]) {
 }
 
 fn show_all(text: &[u8]) {
+    let mut words: [u32; 18] = [0; 18];
     let first = reader::next_number(text, 0);
     let mut left = first.word;
     let mut at = first.at;
     while 0 < left {
-        let n = next_movement(text, at);
-        at = n.at;
-        let words = n.words;
+        at = reader::next_numbers(text, at, &mut words);
         show(words);
         left = left - 1;
     }

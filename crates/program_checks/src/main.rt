@@ -1,7 +1,5 @@
 // Checks and runs the programs of its standard input (tests/vectors/programs.py). A program is a line of 18 bytes, `used records axes
 // bytes` in hexadecimal digits, and a line of the store's bytes, two digits each. Writes the verdict, and the places of its first 40 records.
-ghost use mathlib.Core.Path.{_≡_};
-ghost use Prim.Native.Nat.{_≤_};
 use libc::STDIN_FILENO;
 use libc::STDOUT_FILENO;
 use program::Going;
@@ -11,45 +9,21 @@ use program::Verdict;
 use program::Way;
 use record::Held;
 
-fn wide(b: u8) -> u32
-    ensures { λ r. ⌜ (r ≡ b) × (r ≤ 255) ⌝ }
-{
-    b as u32
+// The two digits that start at a place of the text.
+fn byte(text: &[u8], at: usize) -> u8 {
+    (reader::hex_number(text, at, 2) % 256) as u8
 }
 
-// A hexadecimal digit's value: 0 to 9, or a to f.
-fn digit(b: u8) -> u32
-    ensures { λ r. ⌜ r ≤ 24 ⌝ }
-{
-    let w = wide(b);
-    if w <= 57 {
-        return w % 16;
-    }
-    w % 16 + 9
-}
-
-fn byte_of(high: u8, low: u8) -> u8 {
-    ((digit(high) * 16 + digit(low)) % 256) as u8
-}
-
-// The four digits that start at a place of the line.
-fn number(line: &[u8; 18], at: usize) -> u16
-    requires { ⌜ at ≤ 14 ⌝ }
-{
-    let mut w = 0u32;
-    let mut i = 0usize;
-    while i < 4 {
-        w = (w * 16 + digit(line[at + i])) % 65536;
-        i += 1;
-    }
-    w as u16
+// The four digits that start at a place of the text.
+fn number(text: &[u8], at: usize) -> u16 {
+    (reader::hex_number(text, at, 4) % 65536) as u16
 }
 
 // The byte of the next two digits.
 fn read_byte() -> u8 {
     let mut pair = [0u8; 2];
     io::read_full(STDIN_FILENO, &mut pair);
-    byte_of(pair[0], pair[1])
+    byte(&pair, 0)
 }
 
 // Reads a byte for each place of the store.
@@ -168,7 +142,7 @@ fn one_program() -> bool {
     let held = Held {
         used: number(&line, 0),
         records: number(&line, 5),
-        axes: byte_of(line[10], line[11]),
+        axes: byte(&line, 10),
     };
     let mut store = [0u8; 16384];
     let size = number(&line, 13) as usize;

@@ -5,29 +5,10 @@ use libc::STDOUT_FILENO;
 use record::Held;
 use record::Record;
 
-// The numbers of one kind of record, and where the text goes on.
-struct Given {
-    words: [u32; 11],
-    at: usize,
-}
-
 // The part in use of a store that was filled, and where the text goes on.
 struct Filled {
     held: Held,
     at: usize,
-}
-
-fn next_record(text: &[u8], from: usize) -> Given {
-    let mut words: [u32; 11] = [0; 11];
-    let mut at = from;
-    let mut k = 0;
-    while k < 11 {
-        let t = reader::next_number(text, at);
-        words[k] = t.word;
-        at = t.at;
-        k = k + 1;
-    }
-    Given { words, at }
 }
 
 fn byte_of(w: u32) -> u8 {
@@ -57,6 +38,7 @@ fn store_times(store: &mut [u8], before: Held, item: Record, times: u32) -> Held
 
 // Stores so many kinds of record of the text.
 fn fill(store: &mut [u8], axes: u8, text: &[u8], from: usize, kinds: u32) -> Filled {
+    let mut words: [u32; 11] = [0; 11];
     let mut held = Held {
         used: 0,
         records: 0,
@@ -65,9 +47,7 @@ fn fill(store: &mut [u8], axes: u8, text: &[u8], from: usize, kinds: u32) -> Fil
     let mut at = from;
     let mut left = kinds;
     while 0 < left {
-        let t = next_record(text, at);
-        at = t.at;
-        let words = t.words;
+        at = reader::next_numbers(text, at, &mut words);
         let longer = store_times(store, held, record_of(words), words[0]);
         held = longer;
         left = left - 1;

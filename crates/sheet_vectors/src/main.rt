@@ -2,7 +2,6 @@
 // four patterns of sixteen hexadecimal digits (tests/vectors/sheet.py). Writes the refusal and the
 // value of each.
 ghost use mathlib.Core.Path.{_≡_};
-ghost use Prim.Native.Nat.{_≤_};
 ghost use lib.IntN.{natAbs};
 use libc::STDIN_FILENO;
 use libc::STDOUT_FILENO;
@@ -10,32 +9,9 @@ use sheet::Axis;
 use sheet::Converted;
 use sheet::Rate;
 
-fn wide(b: u8) -> u64
-    ensures { λ r. ⌜ r ≡ b ⌝ }
-{
-    b as u64
-}
-
-// A hexadecimal digit's value: 0 to 9, or a to f.
-fn digit(b: u8) -> u64 {
-    let w = wide(b);
-    if w <= 57 {
-        return w % 16;
-    }
-    w % 16 + 9
-}
-
 // The sixteen digits that start at a place of the line.
-fn word(line: &[u8; 70], at: usize) -> u64
-    requires { ⌜ at ≤ 53 ⌝ }
-{
-    let mut w = 0u64;
-    let mut i = 0usize;
-    while i < 16 {
-        w = (w << 4) | digit(line[at + i]);
-        i += 1;
-    }
-    w
+fn word(line: &[u8; 70], at: usize) -> u64 {
+    reader::hex_number(line, at, 16)
 }
 
 // The float of a pattern. Every pattern of not-a-number gives the same.

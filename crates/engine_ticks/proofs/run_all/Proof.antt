@@ -6,10 +6,10 @@ use Rattle.engine_ticks.proofs.run_all.Statement.{statement}
 use Rattle.engine_ticks.proofs.run_all.Tie as tie
 
 abbrev Inv-loop : tie.InvT-loop
-Inv-loop text store₀ e₀ left₀ at₀ store e left at = length store ≡ 16384
+Inv-loop text store₀ words₀ e₀ left₀ at₀ store words e left at = (length store ≡ 16384) × (length words ≡ 11)
 
 abbrev μ-loop : tie.MeasureT-loop
-μ-loop text store₀ e₀ left₀ at₀ store e left at = left
+μ-loop text store₀ words₀ e₀ left₀ at₀ store words e left at = left
 
 fresh-requires : tie.Need-fresh-requires Inv-loop μ-loop
 fresh-requires c κs = search needs
@@ -20,8 +20,11 @@ next-number-requires c κs = search needs
 loop-holds : tie.Need-loop-holds Inv-loop μ-loop
 loop-holds c = search needs
 
-next-step-requires : tie.Need-next-step-requires Inv-loop μ-loop
-next-step-requires c κs = search needs
+slice-aggregate-next-numbers : tie.Need-slice-aggregate-next-numbers Inv-loop μ-loop
+slice-aggregate-next-numbers c = search needs
+
+next-numbers-requires : tie.Need-next-numbers-requires Inv-loop μ-loop
+next-numbers-requires c κs = search needs
 
 slice-aggregate-write : tie.Need-slice-aggregate-write Inv-loop μ-loop
 slice-aggregate-write c = search needs
@@ -56,7 +59,8 @@ run-all-spec =
     fresh-requires
     next-number-requires
     loop-holds
-    next-step-requires
+    slice-aggregate-next-numbers
+    next-numbers-requires
     slice-aggregate-write
     write-requires
     slice-aggregate-act

@@ -1,14 +1,15 @@
 -- `motion_pulses::show_all` is safe and ends. Assumes nothing.
-use Prim.Native.Nat.{_≤_}
+use mathlib.Core.Path.{_≡_}
+use lib.ListN.{length}
 use borrow.Author.Needs.{needs}
 use Rattle.motion_pulses.proofs.show_all.Statement.{statement}
 use Rattle.motion_pulses.proofs.show_all.Tie as tie
 
 abbrev Inv-loop : tie.InvT-loop
-Inv-loop text left₀ at₀ left at = 0 ≤ left
+Inv-loop text words₀ left₀ at₀ words left at = length words ≡ 18
 
 abbrev μ-loop : tie.MeasureT-loop
-μ-loop text left₀ at₀ left at = left
+μ-loop text words₀ left₀ at₀ words left at = left
 
 next-number-requires : tie.Need-next-number-requires Inv-loop μ-loop
 next-number-requires c κs = search needs
@@ -16,8 +17,11 @@ next-number-requires c κs = search needs
 loop-holds : tie.Need-loop-holds Inv-loop μ-loop
 loop-holds c = search needs
 
-next-movement-requires : tie.Need-next-movement-requires Inv-loop μ-loop
-next-movement-requires c κs = search needs
+slice-aggregate-next-numbers : tie.Need-slice-aggregate-next-numbers Inv-loop μ-loop
+slice-aggregate-next-numbers c = search needs
+
+next-numbers-requires : tie.Need-next-numbers-requires Inv-loop μ-loop
+next-numbers-requires c κs = search needs
 
 show-requires : tie.Need-show-requires Inv-loop μ-loop
 show-requires c κs = search needs
@@ -42,7 +46,8 @@ show-all-spec =
     μ-loop
     next-number-requires
     loop-holds
-    next-movement-requires
+    slice-aggregate-next-numbers
+    next-numbers-requires
     show-requires
     sub-left
     loop-less

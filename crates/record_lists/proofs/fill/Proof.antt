@@ -6,16 +6,19 @@ use Rattle.record_lists.proofs.fill.Statement.{statement}
 use Rattle.record_lists.proofs.fill.Tie as tie
 
 abbrev Inv-loop : tie.InvT-loop
-Inv-loop store₀ axes text from kinds held₀ at₀ left₀ store held at left = length store ≡ length store₀
+Inv-loop store₀ axes text from kinds words₀ held₀ at₀ left₀ store words held at left = (length store ≡ length store₀) × (length words ≡ 11)
 
 abbrev μ-loop : tie.MeasureT-loop
-μ-loop store₀ axes text from kinds held₀ at₀ left₀ store held at left = left
+μ-loop store₀ axes text from kinds words₀ held₀ at₀ left₀ store words held at left = left
 
 loop-holds : tie.Need-loop-holds Inv-loop μ-loop
 loop-holds c = search needs
 
-next-record-requires : tie.Need-next-record-requires Inv-loop μ-loop
-next-record-requires c κs = search needs
+slice-aggregate-next-numbers : tie.Need-slice-aggregate-next-numbers Inv-loop μ-loop
+slice-aggregate-next-numbers c = search needs
+
+next-numbers-requires : tie.Need-next-numbers-requires Inv-loop μ-loop
+next-numbers-requires c κs = search needs
 
 record-of-requires : tie.Need-record-of-requires Inv-loop μ-loop
 record-of-requires c κs = search needs
@@ -48,7 +51,8 @@ fill-spec =
     Inv-loop
     μ-loop
     loop-holds
-    next-record-requires
+    slice-aggregate-next-numbers
+    next-numbers-requires
     record-of-requires
     array-read-store-times
     store-times-requires

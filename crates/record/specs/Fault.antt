@@ -40,8 +40,8 @@ unknown = record { known = false; count = λ axes n. false; values = any; ranges
 -- ---- the columns' entries, by what the numbers are
 
 -- 3: axes are 1 to 7 and none beyond the axes set; the sets 1, 3 and 7 hold just the values up to themselves
-abbrev pub axesSet : ℕ → List ℕ → Bool
-axesSet axes l = within (pos 1) (pos 7) (nth l 0) && within (pos 1) (pos axes) (nth l 0)
+abbrev pub axesNamed : ℕ → List ℕ → Bool
+axesNamed axes l = within (pos 1) (pos 7) (nth l 0) && within (pos 1) (pos axes) (nth l 0)
 
 abbrev pub distances : ℕ → List ℕ → Bool
 distances axes l = rightDistances axes false l
@@ -74,7 +74,7 @@ abbrev pub asks : ℕ → Asks
 asks code =
     pick (eqb code (ch "0")) (asking rightCount any distances rightSpeeds)
     (pick (eqb code (ch "m")) (asking rightCount any targets rightSpeeds)
-    (pick (eqb code (ch "n")) (asking (just 1) axesSet any any)
+    (pick (eqb code (ch "n")) (asking (just 1) axesNamed any any)
     (pick (eqb code (ch "z")) (asking (just 1) any switch any)
     (pick (eqb code (ch "3")) (asking (just 2) any loopOrJump any)
     (pick (eqb code (ch "5")) (asking (just 1) any delay any)

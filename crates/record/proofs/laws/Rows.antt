@@ -6,7 +6,7 @@ use mathlib.Core.Bool.{Bool, true, false, _||_}
 use lib.Dec.{eqb}
 use Rattle.count.specs.Pick.{pick}
 use Rattle.count.specs.Ranges.{rightCount, rightSpeeds}
-use Rattle.record.specs.Fault.{Asks, axesSet, isMovement, isCode, countRight, axesRight, rangesRight, speedsRight}
+use Rattle.record.specs.Fault.{Asks, axesNamed, isMovement, isCode, countRight, axesRight, rangesRight, speedsRight}
 use Rattle.record.proofs.laws.Faultless.{NoCode, row-none, one-byte, by-byte, by-code}
 
 pub code-so : (c : ℕ) → isCode c ≡ isMovement c || (eqb c 110 || eqb c 122 || eqb c 51 || eqb c 53 || eqb c 49 || eqb c 50)
@@ -22,10 +22,10 @@ count-so axes c n e =
     by-code (λ (k : ℕ). countRight axes k n ≡ pick (isMovement k) (rightCount axes n) (pick (eqb k 51 || eqb k 50) (eqb n 2) (eqb n 1))) c e
     refl refl refl refl refl refl refl refl
 
-pub axes-so : (axes c : ℕ) (l : List ℕ) → axesRight axes c l ≡ pick (eqb c 110) (axesSet axes l) true
+pub axes-so : (axes c : ℕ) (l : List ℕ) → axesRight axes c l ≡ pick (eqb c 110) (axesNamed axes l) true
 unfolding axesRight
 axes-so axes c l =
-    by-byte (λ (k : ℕ). axesRight axes k l ≡ pick (eqb k 110) (axesSet axes l) true) c
+    by-byte (λ (k : ℕ). axesRight axes k l ≡ pick (eqb k 110) (axesNamed axes l) true) c
     refl refl refl refl refl refl refl refl
     (λ n. rw (row-none c n, axesRight, n .not-n))
 

@@ -1,6 +1,6 @@
 -- A line while storing (01, "Lines", the paragraph on storing and the table of replies).
 use Prim.Native.Nat.{ℕ}
-use mathlib.Core.Bool.{Bool, true, false, not}
+use mathlib.Core.Bool.{not}
 use mathlib.Core.List.{List, [], _∷_}
 use lib.Dec.{eqb}
 use Rattle.count.specs.Chars.{ch}

@@ -11,7 +11,7 @@ use lib.IntN.{pos}
 use lib.ListN.{getD}
 use Rattle.count.specs.Pick.{pick}
 use Rattle.count.specs.Numbers.{within, signed}
-use Rattle.count.specs.Ranges.{inPort, inByte, inZero, nth}
+use Rattle.count.specs.Ranges.{inByte, inZero}
 use Rattle.count.proofs.laws.Laws.{within-up, within-zero}
 use Rattle.count.proofs.laws.Truth.{and-left, and-right}
 use Rattle.motion.specs.declared.Planned.{Planned}

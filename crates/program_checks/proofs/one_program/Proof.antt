@@ -15,20 +15,26 @@ read-full-requires c κs = search needs
 returns : tie.Need-returns
 returns c = search needs
 
+slice-aggregate-number : tie.Need-slice-aggregate-number
+slice-aggregate-number c = search needs
+
 number-requires : tie.Need-number-requires
 number-requires c κs = search needs
+
+slice-aggregate-number-2 : tie.Need-slice-aggregate-number-2
+slice-aggregate-number-2 c = search needs
 
 number-requires-2 : tie.Need-number-requires-2
 number-requires-2 c κs = search needs
 
-array-read-byte-of : tie.Need-array-read-byte-of
-array-read-byte-of c = search needs
+slice-aggregate-byte : tie.Need-slice-aggregate-byte
+slice-aggregate-byte c = search needs
 
-array-read-byte-of-2 : tie.Need-array-read-byte-of-2
-array-read-byte-of-2 c = search needs
+byte-requires : tie.Need-byte-requires
+byte-requires c κs = search needs
 
-byte-of-requires : tie.Need-byte-of-requires
-byte-of-requires c κs = search needs
+slice-aggregate-number-3 : tie.Need-slice-aggregate-number-3
+slice-aggregate-number-3 c = search needs
 
 number-requires-3 : tie.Need-number-requires-3
 number-requires-3 c κs = search needs
@@ -58,11 +64,13 @@ one-program-spec =
     slice-aggregate-read-full
     read-full-requires
     returns
+    slice-aggregate-number
     number-requires
+    slice-aggregate-number-2
     number-requires-2
-    array-read-byte-of
-    array-read-byte-of-2
-    byte-of-requires
+    slice-aggregate-byte
+    byte-requires
+    slice-aggregate-number-3
     number-requires-3
     cast-size
     returns-2

@@ -5,12 +5,13 @@ use Prim.Native.Nat.{ℕ, _/_, _%_}
 use lib.Dec.{eqb}
 use lib.IntN.{ℤ, pos, negsuc}
 use lib.ListN.{getD}
+use Rattle.count.specs.Sizes.{slowest, fastest}
 use Rattle.count.specs.Pick.{pick}
 use Rattle.count.specs.Numbers.{within, in24, signed}
 
 -- a speed: 30 to 10,000 (reply D)
 unfoldable pub inSpeed : ℤ → Bool
-inSpeed z = within (pos 30) (pos 10000) z
+inSpeed z = within (pos slowest) (pos fastest) z
 
 -- an offset: -32,768 to 32,767
 unfoldable pub inOffset : ℤ → Bool

@@ -20,3 +20,10 @@ lineBytes = 80
 -- a text buffer for the lister has at least so many bytes (106); the longest listing has 27,757
 abbrev pub textBytes : ℕ
 textBytes = 32768
+
+-- speeds are from the slowest to the fastest (D, 103, 203)
+abbrev pub slowest : ℕ
+slowest = 30
+
+abbrev pub fastest : ℕ
+fastest = 10000

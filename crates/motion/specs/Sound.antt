@@ -2,6 +2,7 @@
 use mathlib.Core.Bool.{Bool, _&&_}
 use Prim.Native.Nat.{ℕ}
 use lib.Dec.{ltb, leb, eqb}
+use Rattle.count.specs.Sizes.{slowest, fastest}
 use Rattle.count.specs.Numbers.{full}
 use Rattle.motion.specs.declared.Counters.{Counters}
 use Rattle.motion.specs.declared.Move.{Move}
@@ -10,7 +11,7 @@ use Rattle.motion.specs.Next.{fromOf, toOf, leg}
 
 -- a speed: 30 to 10,000
 abbrev pub speedRight : ℕ → Bool
-speedRight v = leb 30 v && leb v 10000
+speedRight v = leb slowest v && leb v fastest
 
 -- three counts of 24 bits
 unfoldable pub counted : Counters → Bool

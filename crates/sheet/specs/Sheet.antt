@@ -4,6 +4,7 @@ use mathlib.Core.Bool.{Bool, true, false, not, _&&_}
 use lib.IntN.{ℤ, pos, negsuc, negℤ}
 use lib.Signed.{leZ}
 use lib.Ieee.{Float, nan, inf, fin, binary64, up, down, round, le, mul, div}
+use Rattle.count.specs.Sizes.{slowest, fastest}
 use Rattle.count.specs.Pick.{pick}
 use Rattle.sheet.specs.declared.Axis.{Axis}
 use Rattle.sheet.specs.declared.Rate.{Rate}
@@ -80,7 +81,7 @@ unfoldable pub wholeSteps : ℤ → Converted
 wholeSteps z = pick (leZ (negsuc 8388607) z && leZ z (pos 8388607)) (found z) (refused 203)
 
 unfoldable pub wholeSpeed : ℤ → Converted
-wholeSpeed z = pick (leZ (pos 30) z && leZ z (pos 10000)) (found z) (refused 203)
+wholeSpeed z = pick (leZ (pos slowest) z && leZ z (pos fastest)) (found z) (refused 203)
 
 -- the float's whole number in such a range
 unfoldable pub rounded : (ℤ → Converted) → Float → Converted

@@ -2,12 +2,12 @@
 use Prim.Native.Nat.{ℕ}
 use mathlib.Core.Path.{_≡_, refl, ap}
 use mathlib.Core.List.{List}
-use mathlib.Core.Bool.{Bool, true, false, _||_}
+use mathlib.Core.Bool.{true, false, _||_}
 use lib.Dec.{eqb}
 use Rattle.count.specs.Pick.{pick}
 use Rattle.count.specs.Ranges.{rightCount, rightSpeeds}
 use Rattle.record.specs.Fault.{Asks, axesNamed, isMovement, isCode, countRight, axesRight, rangesRight, speedsRight}
-use Rattle.record.proofs.laws.Faultless.{NoCode, row-none, one-byte, by-byte, by-code}
+use Rattle.record.proofs.laws.Faultless.{row-none, one-byte, by-byte, by-code}
 
 pub code-so : (c : ℕ) → isCode c ≡ isMovement c || (eqb c 110 || eqb c 122 || eqb c 51 || eqb c 53 || eqb c 49 || eqb c 50)
 unfolding isCode

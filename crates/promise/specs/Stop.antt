@@ -67,19 +67,20 @@ Unstopped (call d) = Unit
 abbrev pub restsBy : Job → Bool
 restsBy j = rowOf (kind j) .isResting
 
-abbrev pub waits : Board → Bool
-waits b = isWaiting (b .engine .run .job)
+-- in a wait, whether it stands or not
+abbrev pub inWait : Board → Bool
+inWait b = isWaiting (b .engine .run .job)
 
 abbrev pub rests : Board → Bool
 rests b = restsBy (b .engine .run .job)
 
 -- a clock call counts if the board then runs: it does not stand, wait, and is not idle or storing
 abbrev pub counts : Board → Bool
-counts b = not (b .standing) && not (waits b || rests b)
+counts b = not (b .standing) && not (inWait b || rests b)
 
 -- a byte from 0 to 252 is taken if the board then waits, or nothing runs, and nothing stands
 abbrev pub takes : Board → Bool
-takes b = not (b .standing) && (waits b || rests b)
+takes b = not (b .standing) && (inWait b || rests b)
 
 -- in a delay: between its first and its last pause
 abbrev pub delaysBy : Job → Bool
@@ -91,7 +92,7 @@ stoppable b = counts b && not (delaysBy (b .engine .run .job))
 
 -- the run is over, or waits for a character: no clock call counts, and nothing stands
 abbrev pub over : Board → Bool
-over b = not (b .standing) && (waits b || rests b)
+over b = not (b .standing) && (inWait b || rests b)
 
 -- ---- the answers of clock calls on paper: the answer nothing, 5, is left out; a pulse without its speed; the speeds of the pulses
 

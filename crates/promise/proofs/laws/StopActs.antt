@@ -14,7 +14,7 @@ use Rattle.board.specs.declared.Board.{Board}
 use Rattle.promise.specs.Machine.{ours}
 use Rattle.promise.proofs.laws.Guard as G
 use Rattle.promise.specs.Steps.{reached, shown, Along}
-use Rattle.promise.specs.Stop.{Step, receive, call, own, other, isOwn, rightly, Mild, waits, rests, counts, takes, ahead, answerOf, countOf, byteOf}
+use Rattle.promise.specs.Stop.{Step, receive, call, own, other, isOwn, rightly, Mild, inWait, rests, counts, takes, ahead, answerOf, countOf, byteOf}
 use Rattle.promise.proofs.laws.StopSteps.{Act, byte, tick, At, twin, actOf, right, tells, acted, actAnswer, our-answer, refused-tick, one-answer}
 use Rattle.promise.proofs.laws.StopOne.{keeps, FitAt}
 
@@ -82,12 +82,12 @@ twin-takes false k h = h
 
 pub works : (p : At) (e : Step) → FitAt p → Mild e → keeps p e ≡ true → Works (twin p) (actOf e)
 works p (receive v ports reply d) f m h =
-    twin-takes (p .0 .standing) (waits (p .0) || rests (p .0))
+    twin-takes (p .0 .standing) (inWait (p .0) || rests (p .0))
     (and-right (ltb v 253) (takes (p .0)) (and-right (rightly (receive v ports reply d)) (ltb v 253 && takes (p .0)) h))
-works p (call d) f m h = twin-takes (p .0 .standing) (not (waits (p .0) || rests (p .0))) (and-right (isOwn d) (counts (p .0)) h)
+works p (call d) f m h = twin-takes (p .0 .standing) (not (inWait (p .0) || rests (p .0))) (and-right (isOwn d) (counts (p .0)) h)
 
 pub apart : (b : Board) → counts b ≡ true → takes b ≡ true → ⊥
-apart b c t = by (b .standing) (waits b || rests b) c t
+apart b c t = by (b .standing) (inWait b || rests b) c t
   where
     by : (s k : Bool) → not s && not k ≡ true → not s && k ≡ true → ⊥
     by true k c t = true≢false (sym c)

@@ -14,7 +14,7 @@ use Rattle.promise.specs.Machine.{Machine, ours}
 use Rattle.promise.proofs.laws.Guard as G
 use Rattle.promise.specs.Steps.{reached, shown, Along, keptOf}
 use Rattle.promise.proofs.laws.Guard.{shown-join}
-use Rattle.promise.specs.Stop.{Step, Mild, Mildly, waits, rests, takes, over, unsped, speedOf, speedsOf, final, Place, ahead, answerOf, countOf, byteOf, last, answers, counted, taken, Same, Begins, StopChangesNothing, SameWhenOver, SameAsFarAsFollowed}
+use Rattle.promise.specs.Stop.{Step, Mild, Mildly, inWait, rests, takes, over, unsped, speedOf, speedsOf, final, Place, ahead, answerOf, countOf, byteOf, last, answers, counted, taken, Same, Begins, StopChangesNothing, SameWhenOver, SameAsFarAsFollowed}
 use Rattle.promise.proofs.laws.StopBoard.{twinBoard, Fit, fit-of}
 use Rattle.promise.proofs.laws.StopSteps.{Act, At, twin, actOf, acted, actAnswer}
 use Rattle.promise.proofs.laws.StopOne.{keeps, FitAt, one}
@@ -76,7 +76,7 @@ module _ (p : At) (es fs : List Step) (f : FitAt p) (m : Mildly es) (n : Mildly 
   over-by : (gs : List Step) → Mildly gs → over (last ours p gs .0) ≡ true → takes (reached acted (twin p) (acts p gs) .0) ≡ true
   over-by gs k o = subst (λ (q : At). takes (q .0) ≡ true) (state-by p gs f k) (awake (last ours p gs .0) (last ours p gs .0 .standing) o)
     where
-      awake : (b : Board) (s : Bool) → not s && (waits b || rests b) ≡ true → takes (twinBoard b) ≡ true
+      awake : (b : Board) (s : Bool) → not s && (inWait b || rests b) ≡ true → takes (twinBoard b) ≡ true
       awake b true h = absurd (true≢false (sym h))
       awake b false h = h
 

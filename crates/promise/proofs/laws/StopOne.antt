@@ -12,7 +12,7 @@ use Rattle.board.specs.declared.Board.{Board}
 use Rattle.board.specs.Receive.{earOf, stopped, ordinary, hearing}
 use Rattle.promise.specs.Machine.{ours}
 use Rattle.promise.proofs.laws.Guard as G
-use Rattle.promise.specs.Stop.{Step, receive, call, own, other, Elsewhere, isOwn, rightly, Mild, waits, rests, counts, takes, ahead}
+use Rattle.promise.specs.Stop.{Step, receive, call, own, other, Elsewhere, isOwn, rightly, Mild, inWait, rests, counts, takes, ahead}
 use Rattle.promise.proofs.laws.StopBoard.{twinBoard, Fit, left}
 use Rattle.promise.proofs.laws.StopSteps.{byte, tick, At, twin, actOf, right, ticks, acted, our-byte, our-tick, refused-byte, refused-tick, Result, guarded, one-stop, one-ordinary, one-tick}
 
@@ -56,9 +56,9 @@ awake-and false k h = refl
 -- whatever counts comes while nothing stands
 pub awake : (p : At) (e : Step) → keeps p e ≡ true → p .0 .standing ≡ false
 awake p (receive v ports reply d) h =
-    awake-and (p .0 .standing) (waits (p .0) || rests (p .0))
+    awake-and (p .0 .standing) (inWait (p .0) || rests (p .0))
     (and-right (ltb v 253) (takes (p .0)) (and-right (rightly (receive v ports reply d)) (ltb v 253 && takes (p .0)) h))
-awake p (call d) h = awake-and (p .0 .standing) (not (waits (p .0) || rests (p .0))) (and-right (isOwn d) (counts (p .0)) h)
+awake p (call d) h = awake-and (p .0 .standing) (not (inWait (p .0) || rests (p .0))) (and-right (isOwn d) (counts (p .0)) h)
 
 abbrev pub FitAt : At → Type 0
 FitAt p = Fit (p .0)
@@ -72,7 +72,7 @@ own-byte : (v : ℕ) (ports reply : List ℕ) (p : At) (r : Bool) → leb 32 (le
 own-byte v ports reply p true q m f =
     subst (λ (s : At). Result (ltb v 253 && takes (p .0)) p (acted (twin p) (byte v)) s) (sym (our-byte v ports reply p (f .short) (leb-true 32 (length reply) q)))
     (guarded (right (p .0 .engine) (p .1)) (ltb v 253 && takes (p .0)) p (left (hearing v [] (twinBoard (p .0)) (p .1))) (left (hearing v ports (p .0) (p .1))) f
-    (λ h. awake-and (p .0 .standing) (waits (p .0) || rests (p .0)) (and-right (ltb v 253) (takes (p .0)) h)) (byte-free v ports p (m refl) f))
+    (λ h. awake-and (p .0 .standing) (inWait (p .0) || rests (p .0)) (and-right (ltb v 253) (takes (p .0)) h)) (byte-free v ports p (m refl) f))
 own-byte v ports reply p false q m f = passed p (acted (twin p) (byte v)) (ahead ours p (receive v ports reply own)) f (refused-byte v ports reply own p tt (rw q))
 
 other-byte : (v : ℕ) (ports reply t : List ℕ) (p : At) (r : Bool) → Elsewhere (other t) → Fit (p .0) →

@@ -14,7 +14,7 @@ use Rattle.board.specs.declared.Board.{Board}
 use Rattle.promise.specs.Machine.{ours}
 use Rattle.promise.proofs.laws.Guard as G
 use Rattle.promise.specs.Steps.{Each, reached, shown, Along, keptOf, consIf}
-use Rattle.promise.specs.Stop.{Step, receive, call, own, other, isOwn, rightly, Mild, Mildly, waits, rests, takes, ahead, countOf, byteOf, last, counted, taken, stays, unstopped, Unstopped, Begun, Same, StopsCanBeLeftOut}
+use Rattle.promise.specs.Stop.{Step, receive, call, own, other, isOwn, rightly, Mild, Mildly, inWait, rests, takes, ahead, countOf, byteOf, last, counted, taken, stays, unstopped, Unstopped, Begun, Same, StopsCanBeLeftOut}
 use Rattle.promise.proofs.laws.StopQuiet.{twin-of}
 use Rattle.promise.proofs.laws.StopSteps.{At, twin, actOf, right, ticks, acted, our-tick, Result}
 use Rattle.promise.proofs.laws.StopOne.{keeps, FitAt, awake, result}
@@ -67,7 +67,7 @@ Moves k p e = G.Moves (ahead ours) (ahead ours) out (λ d. d) twin FitAt Mild k 
 dropped : (p : At) (e : Step) → out p e ≡ false → keeps p e ≡ false
 dropped p (receive v ports reply d) h = h
 dropped p (call (other t)) h = refl
-dropped p (call own) h = by (p .0 .standing) (not (waits (p .0) || rests (p .0))) (not-false (p .0 .standing) h)
+dropped p (call own) h = by (p .0 .standing) (not (inWait (p .0) || rests (p .0))) (not-false (p .0 .standing) h)
   where
     by : (s k : Bool) → s ≡ true → not s && k ≡ false
     by true k q = refl

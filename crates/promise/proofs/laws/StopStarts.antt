@@ -22,7 +22,7 @@ use Rattle.board.proofs.laws.Laws.{hearing-sound, clocking-sound, store-length}
 use Rattle.course.specs.Run.{runsNow}
 use Rattle.promise.specs.Machine.{ours, byte, next, afterAll}
 use Rattle.promise.specs.Demands.{isIdle, idles, Silent, begun, onward, dropped, taken}
-use Rattle.promise.specs.Stop.{restsBy, waits, rests, counts, delaysBy, stoppable, LineBegins, StopAndStart}
+use Rattle.promise.specs.Stop.{restsBy, inWait, rests, counts, delaysBy, stoppable, LineBegins, StopAndStart}
 use Rattle.promise.proofs.laws.KeepsReturn.{out-so, keeps-silent-return}
 use Rattle.promise.proofs.laws.KeepsOn.{event-kept}
 use Rattle.promise.proofs.laws.StopHolds.{Stood, both}
@@ -85,7 +85,7 @@ ours-begins es ports l i r n =
 
 -- where a clock call counts, something is under way and does not stand
 counts-facts : (b : Board) → counts b ≡ true → (b .standing ≡ false) × (rests b ≡ false)
-counts-facts b h = by (b .standing) (waits b) (rests b) h
+counts-facts b h = by (b .standing) (inWait b) (rests b) h
   where
     by : (s w r : Bool) → not s && not (w || r) ≡ true → (s ≡ false) × (r ≡ false)
     by true w r h = never h

@@ -8,6 +8,7 @@ use borrow.Author.Tests.{leb-true, eqb-false}
 use lib.Dec.{leb}
 use lib.IntN.{ℤ}
 use lib.ListN.{length, getD}
+use Rattle.count.specs.Chars.{codes}
 use Rattle.count.specs.Paper.{Paper}
 use Rattle.count.specs.Numbers.{within, in24, signed, word, placed, added}
 use Rattle.count.specs.Ranges.{inSpeed, rightCount, rightZ2, rightDistances, rightSpeeds}
@@ -32,13 +33,12 @@ use Rattle.promise.specs.Steps.{reached, shown}
 use Rattle.promise.specs.Stop.{Step, receive, call, own, other, Mild, Mildly, Place, last, answers, counted as countOf, taken, over, boardAt, Begun, Same, StopChangesNothing}
 use Rattle.promise.specs.Three.{Equals, DemandThree}
 use Rattle.promise.specs.Demanded.{Demanded}
-use Rattle.promise.specs.Twelve.{text}
 use Rattle.promise.specs.Fakes.{claims, mutes, slows, turns, losesPulse, stirs}
 use Rattle.promise.proofs.laws.FakesTyped.{reply0, stepsOf, number}
 
 -- where a machine comes to by the lines `@01` and `@0A3,600`
 abbrev pub moving : (m : Machine) → Place m
-moving m = last m (m .first, noStore) (stepsOf (text "@01\r@0A3,600\r"))
+moving m = last m (m .first, noStore) (stepsOf (codes "@01\r@0A3,600\r"))
 
 -- ---- the schedules: a stop; a stop, the line `@0S` and clock calls; clock calls alone; a call that is refused 102
 
@@ -66,11 +66,11 @@ mild-again es m = (fits 253 refl, (fits 64 refl, (fits 48 refl, (fits 83 refl, (
 -- ---- 01's fourth: a stop alone changes the positions that it shows
 
 claims-begun : Begun claims (moving claims)
-unfolding text reached shown number receiving sound soundOf counted inRange underWay hearing stopped earOf gathering gathered returned directSaid replyOf first directOf afterAddress letterOf behind digitsBehind digitsOf numberOf parted itemsOf numbersOf within in24 signed word placed added inSpeed rightCount rightZ2 rightDistances rightSpeeds pulses steps countAfter goal goalX goalY goalZ1 goalZ2 firstSpeed laterSpeed route goingTo planOf fromOf toOf leftOf afterOf countRight axesRight rangesRight speedsRight beginOf clocking ticked pulseOf nextBy skipped signAt speedAt
+unfolding reached shown number receiving sound soundOf counted inRange underWay hearing stopped earOf gathering gathered returned directSaid replyOf first directOf afterAddress letterOf behind digitsBehind digitsOf numberOf parted itemsOf numbersOf within in24 signed word placed added inSpeed rightCount rightZ2 rightDistances rightSpeeds pulses steps countAfter goal goalX goalY goalZ1 goalZ2 firstSpeed laterSpeed route goingTo planOf fromOf toOf leftOf afterOf countRight axesRight rangesRight speedsRight beginOf clocking ticked pulseOf nextBy skipped signAt speedAt
 claims-begun = record { sound = refl; runs = refl; standing = refl; line = refl; store = refl }
 
 pub claims-fails-midway : StopChangesNothing claims → ⊥
-unfolding text reached shown number receiving sound soundOf counted inRange underWay hearing stopped earOf gathering gathered returned directSaid replyOf first directOf afterAddress letterOf behind digitsBehind digitsOf numberOf parted itemsOf numbersOf within in24 signed word placed added inSpeed rightCount rightZ2 rightDistances rightSpeeds pulses steps countAfter goal goalX goalY goalZ1 goalZ2 firstSpeed laterSpeed route goingTo planOf fromOf toOf leftOf afterOf countRight axesRight rangesRight speedsRight beginOf clocking ticked pulseOf nextBy skipped signAt speedAt
+unfolding reached shown number receiving sound soundOf counted inRange underWay hearing stopped earOf gathering gathered returned directSaid replyOf first directOf afterAddress letterOf behind digitsBehind digitsOf numberOf parted itemsOf numbersOf within in24 signed word placed added inSpeed rightCount rightZ2 rightDistances rightSpeeds pulses steps countAfter goal goalX goalY goalZ1 goalZ2 firstSpeed laterSpeed route goingTo planOf fromOf toOf leftOf afterOf countRight axesRight rangesRight speedsRight beginOf clocking ticked pulseOf nextBy skipped signAt speedAt
 claims-fails-midway f =
     let s : Same claims (moving claims) (stop ∷ []) [] = f (moving claims) (stop ∷ []) [] claims-begun (fits 253 refl, tt) tt refl refl in
     eqb-false 8388611 8388608 refl (ap (λ (e : Engine). e .at .x) (s .engine))
@@ -78,7 +78,7 @@ claims-fails-midway f =
 -- ---- 01's fourth in its other reading: a run stopped once and followed to its end has no pulse where the run never stopped has three
 
 mutes-begun : Begun mutes (moving mutes)
-unfolding text reached shown number receiving sound soundOf counted inRange underWay hearing stopped earOf gathering gathered returned directSaid replyOf first directOf afterAddress letterOf behind digitsBehind digitsOf numberOf parted itemsOf numbersOf within in24 signed word placed added inSpeed rightCount rightZ2 rightDistances rightSpeeds pulses steps countAfter goal goalX goalY goalZ1 goalZ2 firstSpeed laterSpeed route goingTo planOf fromOf toOf leftOf afterOf countRight axesRight rangesRight speedsRight beginOf clocking ticked pulseOf nextBy skipped signAt speedAt
+unfolding reached shown number receiving sound soundOf counted inRange underWay hearing stopped earOf gathering gathered returned directSaid replyOf first directOf afterAddress letterOf behind digitsBehind digitsOf numberOf parted itemsOf numbersOf within in24 signed word placed added inSpeed rightCount rightZ2 rightDistances rightSpeeds pulses steps countAfter goal goalX goalY goalZ1 goalZ2 firstSpeed laterSpeed route goingTo planOf fromOf toOf leftOf afterOf countRight axesRight rangesRight speedsRight beginOf clocking ticked pulseOf nextBy skipped signAt speedAt
 mutes-begun = record { sound = refl; runs = refl; standing = refl; line = refl; store = refl }
 
 abbrev four : List Step
@@ -86,11 +86,11 @@ four = call own ∷ thrice
 
 mutes-same : (over (boardAt mutes (last mutes (moving mutes) (again four))) ≡ true) × (over (boardAt mutes (last mutes (moving mutes) four)) ≡ true)
     × (taken mutes (moving mutes) (again four) ≡ []) × (taken mutes (moving mutes) four ≡ [])
-unfolding text reached shown number receiving sound soundOf counted inRange underWay hearing stopped earOf gathering gathered returned directSaid replyOf first directOf afterAddress letterOf behind digitsBehind digitsOf numberOf parted itemsOf numbersOf within in24 signed word placed added inSpeed rightCount rightZ2 rightDistances rightSpeeds pulses steps countAfter goal goalX goalY goalZ1 goalZ2 firstSpeed laterSpeed route goingTo planOf fromOf toOf leftOf afterOf countRight axesRight rangesRight speedsRight beginOf clocking ticked pulseOf nextBy skipped signAt speedAt
+unfolding reached shown number receiving sound soundOf counted inRange underWay hearing stopped earOf gathering gathered returned directSaid replyOf first directOf afterAddress letterOf behind digitsBehind digitsOf numberOf parted itemsOf numbersOf within in24 signed word placed added inSpeed rightCount rightZ2 rightDistances rightSpeeds pulses steps countAfter goal goalX goalY goalZ1 goalZ2 firstSpeed laterSpeed route goingTo planOf fromOf toOf leftOf afterOf countRight axesRight rangesRight speedsRight beginOf clocking ticked pulseOf nextBy skipped signAt speedAt
 mutes-same = (refl, refl, refl, refl)
 
 pub mutes-fails-ends : DemandThree mutes → ⊥
-unfolding text reached shown number receiving sound soundOf counted inRange underWay hearing stopped earOf gathering gathered returned directSaid replyOf first directOf afterAddress letterOf behind digitsBehind digitsOf numberOf parted itemsOf numbersOf within in24 signed word placed added inSpeed rightCount rightZ2 rightDistances rightSpeeds pulses steps countAfter goal goalX goalY goalZ1 goalZ2 firstSpeed laterSpeed route goingTo planOf fromOf toOf leftOf afterOf countRight axesRight rangesRight speedsRight beginOf clocking ticked pulseOf nextBy skipped signAt speedAt
+unfolding reached shown number receiving sound soundOf counted inRange underWay hearing stopped earOf gathering gathered returned directSaid replyOf first directOf afterAddress letterOf behind digitsBehind digitsOf numberOf parted itemsOf numbersOf within in24 signed word placed added inSpeed rightCount rightZ2 rightDistances rightSpeeds pulses steps countAfter goal goalX goalY goalZ1 goalZ2 firstSpeed laterSpeed route goingTo planOf fromOf toOf leftOf afterOf countRight axesRight rangesRight speedsRight beginOf clocking ticked pulseOf nextBy skipped signAt speedAt
 mutes-fails-ends d =
     let e : Equals mutes (moving mutes) (again four) four =
     d .ends (moving mutes) (again four) four mutes-begun (mild-again four (tt, (tt, (tt, (tt, tt)))))
@@ -100,15 +100,15 @@ mutes-fails-ends d =
 -- ---- slower after a stop: at 30, not at 600
 
 slows-begun : Begun slows (moving slows)
-unfolding text reached shown number receiving sound soundOf counted inRange underWay hearing stopped earOf gathering gathered returned directSaid replyOf first directOf afterAddress letterOf behind digitsBehind digitsOf numberOf parted itemsOf numbersOf within in24 signed word placed added inSpeed rightCount rightZ2 rightDistances rightSpeeds pulses steps countAfter goal goalX goalY goalZ1 goalZ2 firstSpeed laterSpeed route goingTo planOf fromOf toOf leftOf afterOf countRight axesRight rangesRight speedsRight beginOf clocking ticked pulseOf nextBy skipped signAt speedAt
+unfolding reached shown number receiving sound soundOf counted inRange underWay hearing stopped earOf gathering gathered returned directSaid replyOf first directOf afterAddress letterOf behind digitsBehind digitsOf numberOf parted itemsOf numbersOf within in24 signed word placed added inSpeed rightCount rightZ2 rightDistances rightSpeeds pulses steps countAfter goal goalX goalY goalZ1 goalZ2 firstSpeed laterSpeed route goingTo planOf fromOf toOf leftOf afterOf countRight axesRight rangesRight speedsRight beginOf clocking ticked pulseOf nextBy skipped signAt speedAt
 slows-begun = record { sound = refl; runs = refl; standing = refl; line = refl; store = refl }
 
 slows-same : (countOf slows (moving slows) (again once) ≡ 1) × (countOf slows (moving slows) once ≡ 1) × (taken slows (moving slows) (again once) ≡ []) × (taken slows (moving slows) once ≡ [])
-unfolding text reached shown number receiving sound soundOf counted inRange underWay hearing stopped earOf gathering gathered returned directSaid replyOf first directOf afterAddress letterOf behind digitsBehind digitsOf numberOf parted itemsOf numbersOf within in24 signed word placed added inSpeed rightCount rightZ2 rightDistances rightSpeeds pulses steps countAfter goal goalX goalY goalZ1 goalZ2 firstSpeed laterSpeed route goingTo planOf fromOf toOf leftOf afterOf countRight axesRight rangesRight speedsRight beginOf clocking ticked pulseOf nextBy skipped signAt speedAt
+unfolding reached shown number receiving sound soundOf counted inRange underWay hearing stopped earOf gathering gathered returned directSaid replyOf first directOf afterAddress letterOf behind digitsBehind digitsOf numberOf parted itemsOf numbersOf within in24 signed word placed added inSpeed rightCount rightZ2 rightDistances rightSpeeds pulses steps countAfter goal goalX goalY goalZ1 goalZ2 firstSpeed laterSpeed route goingTo planOf fromOf toOf leftOf afterOf countRight axesRight rangesRight speedsRight beginOf clocking ticked pulseOf nextBy skipped signAt speedAt
 slows-same = (refl, refl, refl, refl)
 
 pub slows-fails : Demanded slows → ⊥
-unfolding text reached shown number receiving sound soundOf counted inRange underWay hearing stopped earOf gathering gathered returned directSaid replyOf first directOf afterAddress letterOf behind digitsBehind digitsOf numberOf parted itemsOf numbersOf within in24 signed word placed added inSpeed rightCount rightZ2 rightDistances rightSpeeds pulses steps countAfter goal goalX goalY goalZ1 goalZ2 firstSpeed laterSpeed route goingTo planOf fromOf toOf leftOf afterOf countRight axesRight rangesRight speedsRight beginOf clocking ticked pulseOf nextBy skipped signAt speedAt
+unfolding reached shown number receiving sound soundOf counted inRange underWay hearing stopped earOf gathering gathered returned directSaid replyOf first directOf afterAddress letterOf behind digitsBehind digitsOf numberOf parted itemsOf numbersOf within in24 signed word placed added inSpeed rightCount rightZ2 rightDistances rightSpeeds pulses steps countAfter goal goalX goalY goalZ1 goalZ2 firstSpeed laterSpeed route goingTo planOf fromOf toOf leftOf afterOf countRight axesRight rangesRight speedsRight beginOf clocking ticked pulseOf nextBy skipped signAt speedAt
 slows-fails d =
     let s : Same slows (moving slows) (again once) once =
     d .three .always (moving slows) (again once) once slows-begun (mild-again once (tt, tt)) (tt, tt) (slows-same .0 ∙ sym (slows-same .1)) (slows-same .2 ∙ sym (slows-same .3)) in
@@ -121,15 +121,15 @@ signs [] = []
 signs (a ∷ l) = map number (a .values) ++ signs l
 
 turns-begun : Begun turns (moving turns)
-unfolding text reached shown number receiving sound soundOf counted inRange underWay hearing stopped earOf gathering gathered returned directSaid replyOf first directOf afterAddress letterOf behind digitsBehind digitsOf numberOf parted itemsOf numbersOf within in24 signed word placed added inSpeed rightCount rightZ2 rightDistances rightSpeeds pulses steps countAfter goal goalX goalY goalZ1 goalZ2 firstSpeed laterSpeed route goingTo planOf fromOf toOf leftOf afterOf countRight axesRight rangesRight speedsRight beginOf clocking ticked pulseOf nextBy skipped signAt speedAt
+unfolding reached shown number receiving sound soundOf counted inRange underWay hearing stopped earOf gathering gathered returned directSaid replyOf first directOf afterAddress letterOf behind digitsBehind digitsOf numberOf parted itemsOf numbersOf within in24 signed word placed added inSpeed rightCount rightZ2 rightDistances rightSpeeds pulses steps countAfter goal goalX goalY goalZ1 goalZ2 firstSpeed laterSpeed route goingTo planOf fromOf toOf leftOf afterOf countRight axesRight rangesRight speedsRight beginOf clocking ticked pulseOf nextBy skipped signAt speedAt
 turns-begun = record { sound = refl; runs = refl; standing = refl; line = refl; store = refl }
 
 turns-same : (countOf turns (moving turns) (again once) ≡ 1) × (countOf turns (moving turns) once ≡ 1) × (taken turns (moving turns) (again once) ≡ []) × (taken turns (moving turns) once ≡ [])
-unfolding text reached shown number receiving sound soundOf counted inRange underWay hearing stopped earOf gathering gathered returned directSaid replyOf first directOf afterAddress letterOf behind digitsBehind digitsOf numberOf parted itemsOf numbersOf within in24 signed word placed added inSpeed rightCount rightZ2 rightDistances rightSpeeds pulses steps countAfter goal goalX goalY goalZ1 goalZ2 firstSpeed laterSpeed route goingTo planOf fromOf toOf leftOf afterOf countRight axesRight rangesRight speedsRight beginOf clocking ticked pulseOf nextBy skipped signAt speedAt
+unfolding reached shown number receiving sound soundOf counted inRange underWay hearing stopped earOf gathering gathered returned directSaid replyOf first directOf afterAddress letterOf behind digitsBehind digitsOf numberOf parted itemsOf numbersOf within in24 signed word placed added inSpeed rightCount rightZ2 rightDistances rightSpeeds pulses steps countAfter goal goalX goalY goalZ1 goalZ2 firstSpeed laterSpeed route goingTo planOf fromOf toOf leftOf afterOf countRight axesRight rangesRight speedsRight beginOf clocking ticked pulseOf nextBy skipped signAt speedAt
 turns-same = (refl, refl, refl, refl)
 
 pub turns-fails : Demanded turns → ⊥
-unfolding text reached shown number receiving sound soundOf counted inRange underWay hearing stopped earOf gathering gathered returned directSaid replyOf first directOf afterAddress letterOf behind digitsBehind digitsOf numberOf parted itemsOf numbersOf within in24 signed word placed added inSpeed rightCount rightZ2 rightDistances rightSpeeds pulses steps countAfter goal goalX goalY goalZ1 goalZ2 firstSpeed laterSpeed route goingTo planOf fromOf toOf leftOf afterOf countRight axesRight rangesRight speedsRight beginOf clocking ticked pulseOf nextBy skipped signAt speedAt
+unfolding reached shown number receiving sound soundOf counted inRange underWay hearing stopped earOf gathering gathered returned directSaid replyOf first directOf afterAddress letterOf behind digitsBehind digitsOf numberOf parted itemsOf numbersOf within in24 signed word placed added inSpeed rightCount rightZ2 rightDistances rightSpeeds pulses steps countAfter goal goalX goalY goalZ1 goalZ2 firstSpeed laterSpeed route goingTo planOf fromOf toOf leftOf afterOf countRight axesRight rangesRight speedsRight beginOf clocking ticked pulseOf nextBy skipped signAt speedAt
 turns-fails d =
     let s : Same turns (moving turns) (again once) once =
     d .three .always (moving turns) (again once) once turns-begun (mild-again once (tt, tt)) (tt, tt) (turns-same .0 ∙ sym (turns-same .1)) (turns-same .2 ∙ sym (turns-same .3)) in
@@ -138,15 +138,15 @@ turns-fails d =
 -- ---- a pulse lost at a stop: pulse, pulse, 0 where there are three pulses
 
 losesPulse-begun : Begun losesPulse (moving losesPulse)
-unfolding text reached shown number receiving sound soundOf counted inRange underWay hearing stopped earOf gathering gathered returned directSaid replyOf first directOf afterAddress letterOf behind digitsBehind digitsOf numberOf parted itemsOf numbersOf within in24 signed word placed added inSpeed rightCount rightZ2 rightDistances rightSpeeds pulses steps countAfter goal goalX goalY goalZ1 goalZ2 firstSpeed laterSpeed route goingTo planOf fromOf toOf leftOf afterOf countRight axesRight rangesRight speedsRight beginOf clocking ticked pulseOf nextBy skipped signAt speedAt
+unfolding reached shown number receiving sound soundOf counted inRange underWay hearing stopped earOf gathering gathered returned directSaid replyOf first directOf afterAddress letterOf behind digitsBehind digitsOf numberOf parted itemsOf numbersOf within in24 signed word placed added inSpeed rightCount rightZ2 rightDistances rightSpeeds pulses steps countAfter goal goalX goalY goalZ1 goalZ2 firstSpeed laterSpeed route goingTo planOf fromOf toOf leftOf afterOf countRight axesRight rangesRight speedsRight beginOf clocking ticked pulseOf nextBy skipped signAt speedAt
 losesPulse-begun = record { sound = refl; runs = refl; standing = refl; line = refl; store = refl }
 
 losesPulse-same : (countOf losesPulse (moving losesPulse) (again thrice) ≡ 3) × (countOf losesPulse (moving losesPulse) thrice ≡ 3) × (taken losesPulse (moving losesPulse) (again thrice) ≡ []) × (taken losesPulse (moving losesPulse) thrice ≡ [])
-unfolding text reached shown number receiving sound soundOf counted inRange underWay hearing stopped earOf gathering gathered returned directSaid replyOf first directOf afterAddress letterOf behind digitsBehind digitsOf numberOf parted itemsOf numbersOf within in24 signed word placed added inSpeed rightCount rightZ2 rightDistances rightSpeeds pulses steps countAfter goal goalX goalY goalZ1 goalZ2 firstSpeed laterSpeed route goingTo planOf fromOf toOf leftOf afterOf countRight axesRight rangesRight speedsRight beginOf clocking ticked pulseOf nextBy skipped signAt speedAt
+unfolding reached shown number receiving sound soundOf counted inRange underWay hearing stopped earOf gathering gathered returned directSaid replyOf first directOf afterAddress letterOf behind digitsBehind digitsOf numberOf parted itemsOf numbersOf within in24 signed word placed added inSpeed rightCount rightZ2 rightDistances rightSpeeds pulses steps countAfter goal goalX goalY goalZ1 goalZ2 firstSpeed laterSpeed route goingTo planOf fromOf toOf leftOf afterOf countRight axesRight rangesRight speedsRight beginOf clocking ticked pulseOf nextBy skipped signAt speedAt
 losesPulse-same = (refl, refl, refl, refl)
 
 pub losesPulse-fails : Demanded losesPulse → ⊥
-unfolding text reached shown number receiving sound soundOf counted inRange underWay hearing stopped earOf gathering gathered returned directSaid replyOf first directOf afterAddress letterOf behind digitsBehind digitsOf numberOf parted itemsOf numbersOf within in24 signed word placed added inSpeed rightCount rightZ2 rightDistances rightSpeeds pulses steps countAfter goal goalX goalY goalZ1 goalZ2 firstSpeed laterSpeed route goingTo planOf fromOf toOf leftOf afterOf countRight axesRight rangesRight speedsRight beginOf clocking ticked pulseOf nextBy skipped signAt speedAt
+unfolding reached shown number receiving sound soundOf counted inRange underWay hearing stopped earOf gathering gathered returned directSaid replyOf first directOf afterAddress letterOf behind digitsBehind digitsOf numberOf parted itemsOf numbersOf within in24 signed word placed added inSpeed rightCount rightZ2 rightDistances rightSpeeds pulses steps countAfter goal goalX goalY goalZ1 goalZ2 firstSpeed laterSpeed route goingTo planOf fromOf toOf leftOf afterOf countRight axesRight rangesRight speedsRight beginOf clocking ticked pulseOf nextBy skipped signAt speedAt
 losesPulse-fails d =
     let s : Same losesPulse (moving losesPulse) (again thrice) thrice =
     d .three .always (moving losesPulse) (again thrice) thrice losesPulse-begun (mild-again thrice (tt, (tt, (tt, tt)))) (tt, (tt, (tt, tt))) (losesPulse-same .0 ∙ sym (losesPulse-same .1)) (losesPulse-same .2 ∙ sym (losesPulse-same .3)) in
@@ -155,11 +155,11 @@ losesPulse-fails d =
 -- ---- a refused call that moves: one step where there is none
 
 stirs-begun : Begun stirs (moving stirs)
-unfolding text reached shown number receiving sound soundOf counted inRange underWay hearing stopped earOf gathering gathered returned directSaid replyOf first directOf afterAddress letterOf behind digitsBehind digitsOf numberOf parted itemsOf numbersOf within in24 signed word placed added inSpeed rightCount rightZ2 rightDistances rightSpeeds pulses steps countAfter goal goalX goalY goalZ1 goalZ2 firstSpeed laterSpeed route goingTo planOf fromOf toOf leftOf afterOf countRight axesRight rangesRight speedsRight beginOf clocking ticked pulseOf nextBy skipped signAt speedAt
+unfolding reached shown number receiving sound soundOf counted inRange underWay hearing stopped earOf gathering gathered returned directSaid replyOf first directOf afterAddress letterOf behind digitsBehind digitsOf numberOf parted itemsOf numbersOf within in24 signed word placed added inSpeed rightCount rightZ2 rightDistances rightSpeeds pulses steps countAfter goal goalX goalY goalZ1 goalZ2 firstSpeed laterSpeed route goingTo planOf fromOf toOf leftOf afterOf countRight axesRight rangesRight speedsRight beginOf clocking ticked pulseOf nextBy skipped signAt speedAt
 stirs-begun = record { sound = refl; runs = refl; standing = refl; line = refl; store = refl }
 
 pub stirs-fails : Demanded stirs → ⊥
-unfolding text reached shown number receiving sound soundOf counted inRange underWay hearing stopped earOf gathering gathered returned directSaid replyOf first directOf afterAddress letterOf behind digitsBehind digitsOf numberOf parted itemsOf numbersOf within in24 signed word placed added inSpeed rightCount rightZ2 rightDistances rightSpeeds pulses steps countAfter goal goalX goalY goalZ1 goalZ2 firstSpeed laterSpeed route goingTo planOf fromOf toOf leftOf afterOf countRight axesRight rangesRight speedsRight beginOf clocking ticked pulseOf nextBy skipped signAt speedAt
+unfolding reached shown number receiving sound soundOf counted inRange underWay hearing stopped earOf gathering gathered returned directSaid replyOf first directOf afterAddress letterOf behind digitsBehind digitsOf numberOf parted itemsOf numbersOf within in24 signed word placed added inSpeed rightCount rightZ2 rightDistances rightSpeeds pulses steps countAfter goal goalX goalY goalZ1 goalZ2 firstSpeed laterSpeed route goingTo planOf fromOf toOf leftOf afterOf countRight axesRight rangesRight speedsRight beginOf clocking ticked pulseOf nextBy skipped signAt speedAt
 stirs-fails d =
     let s : Same stirs (moving stirs) elsewhere [] =
     d .three .always (moving stirs) elsewhere [] stirs-begun (eqb-false (length {A = ℕ} []) 16384 refl, tt) tt refl refl in
@@ -169,5 +169,5 @@ stirs-fails d =
 
 pub standing-does-not-count : (countOf ours (moving ours) (stop ∷ call own ∷ call own ∷ []) ≡ 0)
     × (answers ours (moving ours) (stop ∷ call own ∷ call own ∷ []) ≡ []) × (countOf ours (moving ours) thrice ≡ 3)
-unfolding text reached shown number receiving sound soundOf counted inRange underWay hearing stopped earOf gathering gathered returned directSaid replyOf first directOf afterAddress letterOf behind digitsBehind digitsOf numberOf parted itemsOf numbersOf within in24 signed word placed added inSpeed rightCount rightZ2 rightDistances rightSpeeds pulses steps countAfter goal goalX goalY goalZ1 goalZ2 firstSpeed laterSpeed route goingTo planOf fromOf toOf leftOf afterOf countRight axesRight rangesRight speedsRight beginOf clocking ticked pulseOf nextBy skipped signAt speedAt
+unfolding reached shown number receiving sound soundOf counted inRange underWay hearing stopped earOf gathering gathered returned directSaid replyOf first directOf afterAddress letterOf behind digitsBehind digitsOf numberOf parted itemsOf numbersOf within in24 signed word placed added inSpeed rightCount rightZ2 rightDistances rightSpeeds pulses steps countAfter goal goalX goalY goalZ1 goalZ2 firstSpeed laterSpeed route goingTo planOf fromOf toOf leftOf afterOf countRight axesRight rangesRight speedsRight beginOf clocking ticked pulseOf nextBy skipped signAt speedAt
 standing-does-not-count = (refl, refl, refl)

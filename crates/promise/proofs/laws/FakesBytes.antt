@@ -6,6 +6,7 @@ use mathlib.Core.List.{List, _∷_}
 use mathlib.Core.Path.{_≡_, refl, ap}
 use borrow.Author.Tests.{eqb-false, leb-true}
 use lib.ListN.{getD, length, replicate}
+use Rattle.count.specs.Chars.{codes}
 use Rattle.count.specs.Numbers.{within, in24, signed, word, placed, added}
 use Rattle.count.specs.Ranges.{inSpeed, inOffset, inBack, inLoop, inDelay, inCharacter, inSwitch, inPort, inByte, inZero, rightCount, rightZ2, rightDistances, rightSpeeds}
 use Rattle.count.specs.Text.{hexDigit, hexes, twos24, report, twoHex, decimal, digits, shown}
@@ -39,7 +40,6 @@ use Rattle.course.specs.Walk.{noPorts, noStore}
 use Rattle.promise.specs.Machine.{Event, afterAll}
 use Rattle.promise.specs.Demands.{ticks, Host, sent, ListedAgain}
 use Rattle.promise.specs.Demanded.{Demanded}
-use Rattle.promise.specs.Twelve.{text}
 use Rattle.promise.specs.Fakes.{losesBytes}
 use Rattle.promise.proofs.laws.FakesTyped.{typedOn}
 
@@ -49,7 +49,7 @@ abbrev written : List ℕ
 written = 0xD7 ∷ 0x2B ∷ 53 ∷ 1 ∷ 1 ∷ 0 ∷ 0 ∷ 0 ∷ replicate 16376 0
 
 abbrev events : List Event
-events = typedOn written (text "@01\r@0i\r5 1\r9\r")
+events = typedOn written (codes "@01\r@0i\r5 1\r9\r")
 
 abbrev page : List ℕ
 page = replicate 32768 0
@@ -72,14 +72,14 @@ written-below =
     (c 0 _ (omega arith) (c 0 _ (omega arith) (c 0 _ (omega arith) (zeros-below 16376))))))))
 
 accepts : accepted (losesBytes .board (afterAll losesBytes events (losesBytes .first)) .engine .held) written ≡ true
-unfolding text afterAll passes accepted within in24 signed word placed added inSpeed inOffset inBack inLoop inDelay inCharacter inSwitch inPort inByte inZero rightCount rightZ2 rightDistances rightSpeeds hexDigit hexes twos24 report twoHex decimal digits shown fromOf toOf speedAt skipped nextBy pulseOf afterOf leftOf pulses steps signAt countAfter goal goalX goalY goalZ1 goalZ2 firstSpeed laterSpeed route goingTo planOf counted inRange underWay behind letterOf afterAddress directOf codeOf storedOf digitsBehind digitsOf numberOf parted itemsOf numbersOf bytes4 numBytes encode wordAt wordsOf front isCode countRight axesRight loopRight rangesRight speedsRight faultOf hasRoom storeOf recordAt spotFrom spotOf fetchOf recordsFrom recordsOf holds share around crosses early overlaps holders outside strays letter checked inside again opens looped aimed onwardOf checkOf verdictOf soundOf mixed resetOf heard beginOf performed ticked runsOf receiving clocking first replyOf directSaid earOf returned gathering stopped broken resetSaid hearing gathered sound recordReply storedSaid
+unfolding afterAll passes accepted within in24 signed word placed added inSpeed inOffset inBack inLoop inDelay inCharacter inSwitch inPort inByte inZero rightCount rightZ2 rightDistances rightSpeeds hexDigit hexes twos24 report twoHex decimal digits shown fromOf toOf speedAt skipped nextBy pulseOf afterOf leftOf pulses steps signAt countAfter goal goalX goalY goalZ1 goalZ2 firstSpeed laterSpeed route goingTo planOf counted inRange underWay behind letterOf afterAddress directOf codeOf storedOf digitsBehind digitsOf numberOf parted itemsOf numbersOf bytes4 numBytes encode wordAt wordsOf front isCode countRight axesRight loopRight rangesRight speedsRight faultOf hasRoom storeOf recordAt spotFrom spotOf fetchOf recordsFrom recordsOf holds share around crosses early overlaps holders outside strays letter checked inside again opens looped aimed onwardOf checkOf verdictOf soundOf mixed resetOf heard beginOf performed ticked runsOf receiving clocking first replyOf directSaid earOf returned gathering stopped broken resetSaid hearing gathered sound recordReply storedSaid
 accepts = refl
 
 room : 32768 ≤ length page
 room = leb-true 32768 (length page) refl
 
 pub losesBytes-fails : Demanded losesBytes → ⊥
-unfolding text afterAll sent ticks listing listOf more numbersText lineText listText within in24 signed word placed added inSpeed inOffset inBack inLoop inDelay inCharacter inSwitch inPort inByte inZero rightCount rightZ2 rightDistances rightSpeeds hexDigit hexes twos24 report twoHex decimal digits shown fromOf toOf speedAt skipped nextBy pulseOf afterOf leftOf pulses steps signAt countAfter goal goalX goalY goalZ1 goalZ2 firstSpeed laterSpeed route goingTo planOf counted inRange underWay behind letterOf afterAddress directOf codeOf storedOf digitsBehind digitsOf numberOf parted itemsOf numbersOf bytes4 numBytes encode wordAt wordsOf front isCode countRight axesRight loopRight rangesRight speedsRight faultOf hasRoom storeOf recordAt spotFrom spotOf fetchOf recordsFrom recordsOf holds share around crosses early overlaps holders outside strays letter checked inside again opens looped aimed onwardOf checkOf verdictOf soundOf mixed resetOf heard beginOf performed ticked runsOf receiving clocking first replyOf directSaid earOf returned gathering stopped broken resetSaid hearing gathered sound recordReply storedSaid
+unfolding afterAll sent ticks listing listOf more numbersText lineText listText within in24 signed word placed added inSpeed inOffset inBack inLoop inDelay inCharacter inSwitch inPort inByte inZero rightCount rightZ2 rightDistances rightSpeeds hexDigit hexes twos24 report twoHex decimal digits shown fromOf toOf speedAt skipped nextBy pulseOf afterOf leftOf pulses steps signAt countAfter goal goalX goalY goalZ1 goalZ2 firstSpeed laterSpeed route goingTo planOf counted inRange underWay behind letterOf afterAddress directOf codeOf storedOf digitsBehind digitsOf numberOf parted itemsOf numbersOf bytes4 numBytes encode wordAt wordsOf front isCode countRight axesRight loopRight rangesRight speedsRight faultOf hasRoom storeOf recordAt spotFrom spotOf fetchOf recordsFrom recordsOf holds share around crosses early overlaps holders outside strays letter checked inside again opens looped aimed onwardOf checkOf verdictOf soundOf mixed resetOf heard beginOf performed ticked runsOf receiving clocking first replyOf directSaid earOf returned gathering stopped broken resetSaid hearing gathered sound recordReply storedSaid
 losesBytes-fails d =
     let r : ListedAgain losesBytes written page noStore host (afterAll losesBytes events (losesBytes .first)) =
     d .two .round-trip events written page noStore host refl written-below accepts room refl (zeros-below 16384) in

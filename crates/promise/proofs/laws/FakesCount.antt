@@ -7,13 +7,13 @@ use mathlib.Core.List.{List}
 use mathlib.Core.Path.{_≡_, refl, sym, _∙_, ap}
 use borrow.Author.Tests.{ltb-true, ltb-false}
 use lib.Dec.{ltb}
+use Rattle.count.specs.Chars.{codes}
 use Rattle.board.specs.declared.Board.{Board}
 use Rattle.course.specs.Run.{runsNow, course}
 use Rattle.course.specs.Walk.{noStore}
 use Rattle.promise.specs.Machine.{Machine, ours, afterAll}
 use Rattle.promise.specs.Demands.{ticks, CountedRun}
 use Rattle.promise.specs.Demanded.{Demanded}
-use Rattle.promise.specs.Twelve.{text}
 use Rattle.promise.specs.Fakes.{miscounts, invents}
 use Rattle.promise.proofs.laws.FakesTyped.{typed}
 use Rattle.promise.proofs.laws.KeepsCalls.{keeps-counted}
@@ -75,5 +75,5 @@ invents-fails-at limit store b c = never (course limit store b .calls) (says-the
 -- a movement of three steps on x, with a limit far above its four calls
 pub invents-fails : Demanded invents → ⊥
 invents-fails d =
-    let s : Board = afterAll invents (typed (text "@01\r@0A3,600\r")) (invents .first) in
+    let s : Board = afterAll invents (typed (codes "@01\r@0A3,600\r")) (invents .first) in
     invents-fails-at 100 noStore s (d .two .counted 100 noStore s)

@@ -5,6 +5,7 @@ use mathlib.Core.List.{[]}
 use mathlib.Core.Path.{refl, ap}
 use borrow.Author.Tests.{eqb-false}
 use lib.ListN.{getD}
+use Rattle.count.specs.Chars.{codes}
 use Rattle.count.specs.Numbers.{within, in24, signed, word, placed, added}
 use Rattle.count.specs.Ranges.{inSpeed, rightCount, rightZ2, rightDistances, rightSpeeds}
 use Rattle.motion.specs.Phase.{pulses, steps, countAfter, signAt}
@@ -27,30 +28,29 @@ use Rattle.board.specs.State.{board, noLine}
 use Rattle.course.specs.Walk.{noStore}
 use Rattle.promise.specs.Machine.{Heard, Clocked, afterAll}
 use Rattle.promise.specs.Demanded.{Demanded}
-use Rattle.promise.specs.Twelve.{text}
 use Rattle.promise.specs.Fakes.{refuses, agrees, sleeps, blind}
 use Rattle.promise.proofs.laws.FakesTyped.{lent0, typed}
 
 -- `@0k` is accepted with 0, and it answers 5
 pub refuses-fails : Demanded refuses → ⊥
-unfolding text afterAll receiving sound soundOf counted inRange underWay hearing stopped earOf gathering gathered returned directSaid replyOf first directOf afterAddress letterOf behind digitsBehind digitsOf numberOf parted itemsOf numbersOf within in24 signed word placed added inSpeed rightCount rightZ2 rightDistances rightSpeeds pulses steps countAfter goal goalX goalY goalZ1 goalZ2 firstSpeed laterSpeed route goingTo planOf fromOf toOf leftOf afterOf countRight axesRight rangesRight speedsRight beginOf
+unfolding afterAll receiving sound soundOf counted inRange underWay hearing stopped earOf gathering gathered returned directSaid replyOf first directOf afterAddress letterOf behind digitsBehind digitsOf numberOf parted itemsOf numbersOf within in24 signed word placed added inSpeed rightCount rightZ2 rightDistances rightSpeeds pulses steps countAfter goal goalX goalY goalZ1 goalZ2 firstSpeed laterSpeed route goingTo planOf fromOf toOf leftOf afterOf countRight axesRight rangesRight speedsRight beginOf
 refuses-fails d =
     eqb-false 53 48 refl
-    (ap (λ (h : Heard). getD (h .after .reply) 0 0) (d .two .follows .hears 13 [] lent0 (afterAll refuses (typed (text "@0k")) (refuses .first))))
+    (ap (λ (h : Heard). getD (h .after .reply) 0 0) (d .two .follows .hears 13 [] lent0 (afterAll refuses (typed (codes "@0k")) (refuses .first))))
 
 -- an empty line is refused 5, and it answers 0
 pub agrees-fails : Demanded agrees → ⊥
-unfolding text afterAll receiving sound soundOf counted inRange underWay hearing stopped earOf gathering gathered returned directSaid replyOf first directOf afterAddress letterOf behind digitsBehind digitsOf numberOf parted itemsOf numbersOf within in24 signed word placed added inSpeed rightCount rightZ2 rightDistances rightSpeeds pulses steps countAfter goal goalX goalY goalZ1 goalZ2 firstSpeed laterSpeed route goingTo planOf fromOf toOf leftOf afterOf countRight axesRight rangesRight speedsRight beginOf
+unfolding afterAll receiving sound soundOf counted inRange underWay hearing stopped earOf gathering gathered returned directSaid replyOf first directOf afterAddress letterOf behind digitsBehind digitsOf numberOf parted itemsOf numbersOf within in24 signed word placed added inSpeed rightCount rightZ2 rightDistances rightSpeeds pulses steps countAfter goal goalX goalY goalZ1 goalZ2 firstSpeed laterSpeed route goingTo planOf fromOf toOf leftOf afterOf countRight axesRight rangesRight speedsRight beginOf
 agrees-fails d =
     eqb-false 48 53 refl
-    (ap (λ (h : Heard). getD (h .after .reply) 0 0) (d .two .follows .hears 13 [] lent0 (afterAll agrees (typed (text "")) (agrees .first))))
+    (ap (λ (h : Heard). getD (h .after .reply) 0 0) (d .two .follows .hears 13 [] lent0 (afterAll agrees (typed (codes "")) (agrees .first))))
 
 -- in a movement of three steps a clock call makes a pulse, 1, and it answers nothing, 5
 pub sleeps-fails : Demanded sleeps → ⊥
-unfolding text afterAll receiving sound soundOf counted inRange underWay hearing stopped earOf gathering gathered returned directSaid replyOf first directOf afterAddress letterOf behind digitsBehind digitsOf numberOf parted itemsOf numbersOf within in24 signed word placed added inSpeed rightCount rightZ2 rightDistances rightSpeeds pulses steps countAfter goal goalX goalY goalZ1 goalZ2 firstSpeed laterSpeed route goingTo planOf fromOf toOf leftOf afterOf countRight axesRight rangesRight speedsRight beginOf clocking ticked pulseOf nextBy skipped signAt speedAt
+unfolding afterAll receiving sound soundOf counted inRange underWay hearing stopped earOf gathering gathered returned directSaid replyOf first directOf afterAddress letterOf behind digitsBehind digitsOf numberOf parted itemsOf numbersOf within in24 signed word placed added inSpeed rightCount rightZ2 rightDistances rightSpeeds pulses steps countAfter goal goalX goalY goalZ1 goalZ2 firstSpeed laterSpeed route goingTo planOf fromOf toOf leftOf afterOf countRight axesRight rangesRight speedsRight beginOf clocking ticked pulseOf nextBy skipped signAt speedAt
 sleeps-fails d =
     eqb-false 5 1 refl
-    (ap (λ (c : Clocked). c .answer .number) (d .two .follows .ticks noStore (afterAll sleeps (typed (text "@01\r@0A3,600\r")) (sleeps .first))))
+    (ap (λ (c : Clocked). c .answer .number) (d .two .follows .ticks noStore (afterAll sleeps (typed (codes "@01\r@0A3,600\r")) (sleeps .first))))
 
 -- axes 2 are refused 103
 abbrev odd : Board

@@ -6,6 +6,7 @@ use mathlib.Core.Bool.{true}
 use mathlib.Core.List.{List, [], _∷_}
 use mathlib.Core.Path.{_≡_, refl}
 use borrow.Author.Tests.{eqb-false}
+use Rattle.count.specs.Chars.{codes}
 use Rattle.count.specs.Numbers.{within, in24, signed, word, placed, added}
 use Rattle.count.specs.Ranges.{inSpeed, inOffset, inBack, inLoop, inDelay, inCharacter, inSwitch, inPort, inByte, inZero, rightCount, rightZ2, rightDistances, rightSpeeds}
 use Rattle.count.specs.Text.{hexDigit, hexes, twos24, report, twoHex, decimal, digits, shown}
@@ -41,7 +42,6 @@ use Rattle.promise.specs.Steps.{reached}
 use Rattle.promise.specs.Stop.{Step, call, own, Place, boardAt, last}
 use Rattle.promise.specs.Route.{visits, after, Route, Started}
 use Rattle.promise.specs.Demanded.{Demanded}
-use Rattle.promise.specs.Twelve.{text}
 use Rattle.promise.specs.Fakes.{shorts, overleaps}
 use Rattle.promise.proofs.laws.FakesTyped.{stepsOf}
 
@@ -58,21 +58,21 @@ abbrev pattern : List Record
 pattern = made 49 (65 ∷ []) ∷ made 49 (66 ∷ []) ∷ made 51 (1 ∷ 4294967294 ∷ []) ∷ []
 
 abbrev looping : Place shorts
-looping = sends shorts (text "@01\r@0i\r1 65\r1 66\r3 1,-2\r9\r@0S\r")
+looping = sends shorts (codes "@01\r@0i\r1 65\r1 66\r3 1,-2\r9\r@0S\r")
 
 looping-started : Started shorts (inStore shorts looping) looping
-unfolding text reached within in24 signed word placed added inSpeed inOffset inBack inLoop inDelay inCharacter inSwitch inPort inByte inZero rightCount rightZ2 rightDistances rightSpeeds hexDigit hexes twos24 report twoHex decimal digits shown fromOf toOf speedAt skipped nextBy pulseOf afterOf leftOf pulses steps signAt countAfter goal goalX goalY goalZ1 goalZ2 firstSpeed laterSpeed route goingTo planOf counted inRange underWay behind letterOf afterAddress directOf codeOf storedOf digitsBehind digitsOf numberOf parted itemsOf numbersOf bytes4 numBytes encode wordAt wordsOf front isCode countRight axesRight loopRight rangesRight speedsRight faultOf hasRoom storeOf recordAt spotFrom spotOf fetchOf recordsFrom recordsOf holds share around crosses early overlaps holders outside strays letter checked inside again opens looped aimed onwardOf checkOf verdictOf soundOf mixed resetOf heard beginOf performed ticked runsOf receiving clocking first replyOf directSaid earOf returned gathering stopped broken resetSaid hearing gathered sound recordReply storedSaid
+unfolding reached within in24 signed word placed added inSpeed inOffset inBack inLoop inDelay inCharacter inSwitch inPort inByte inZero rightCount rightZ2 rightDistances rightSpeeds hexDigit hexes twos24 report twoHex decimal digits shown fromOf toOf speedAt skipped nextBy pulseOf afterOf leftOf pulses steps signAt countAfter goal goalX goalY goalZ1 goalZ2 firstSpeed laterSpeed route goingTo planOf counted inRange underWay behind letterOf afterAddress directOf codeOf storedOf digitsBehind digitsOf numberOf parted itemsOf numbersOf bytes4 numBytes encode wordAt wordsOf front isCode countRight axesRight loopRight rangesRight speedsRight faultOf hasRoom storeOf recordAt spotFrom spotOf fetchOf recordsFrom recordsOf holds share around crosses early overlaps holders outside strays letter checked inside again opens looped aimed onwardOf checkOf verdictOf soundOf mixed resetOf heard beginOf performed ticked runsOf receiving clocking first replyOf directSaid earOf returned gathering stopped broken resetSaid hearing gathered sound recordReply storedSaid
 looping-started = record { sound = refl; standing = refl; held = refl; run = refl; store = refl }
 
 looping-program : (accepted (inStore shorts looping) (looping .1) ≡ true) × (recordsOf (inStore shorts looping) (looping .1) ≡ are pattern)
-unfolding passes accepted text reached within in24 signed word placed added inSpeed inOffset inBack inLoop inDelay inCharacter inSwitch inPort inByte inZero rightCount rightZ2 rightDistances rightSpeeds hexDigit hexes twos24 report twoHex decimal digits shown fromOf toOf speedAt skipped nextBy pulseOf afterOf leftOf pulses steps signAt countAfter goal goalX goalY goalZ1 goalZ2 firstSpeed laterSpeed route goingTo planOf counted inRange underWay behind letterOf afterAddress directOf codeOf storedOf digitsBehind digitsOf numberOf parted itemsOf numbersOf bytes4 numBytes encode wordAt wordsOf front isCode countRight axesRight loopRight rangesRight speedsRight faultOf hasRoom storeOf recordAt spotFrom spotOf fetchOf recordsFrom recordsOf holds share around crosses early overlaps holders outside strays letter checked inside again opens looped aimed onwardOf checkOf verdictOf soundOf mixed resetOf heard beginOf performed ticked runsOf receiving clocking first replyOf directSaid earOf returned gathering stopped broken resetSaid hearing gathered sound recordReply storedSaid
+unfolding passes accepted reached within in24 signed word placed added inSpeed inOffset inBack inLoop inDelay inCharacter inSwitch inPort inByte inZero rightCount rightZ2 rightDistances rightSpeeds hexDigit hexes twos24 report twoHex decimal digits shown fromOf toOf speedAt skipped nextBy pulseOf afterOf leftOf pulses steps signAt countAfter goal goalX goalY goalZ1 goalZ2 firstSpeed laterSpeed route goingTo planOf counted inRange underWay behind letterOf afterAddress directOf codeOf storedOf digitsBehind digitsOf numberOf parted itemsOf numbersOf bytes4 numBytes encode wordAt wordsOf front isCode countRight axesRight loopRight rangesRight speedsRight faultOf hasRoom storeOf recordAt spotFrom spotOf fetchOf recordsFrom recordsOf holds share around crosses early overlaps holders outside strays letter checked inside again opens looped aimed onwardOf checkOf verdictOf soundOf mixed resetOf heard beginOf performed ticked runsOf receiving clocking first replyOf directSaid earOf returned gathering stopped broken resetSaid hearing gathered sound recordReply storedSaid
 looping-program = (refl, refl)
 
 abbrev four : List Step
 four = call own ∷ call own ∷ call own ∷ call own ∷ []
 
 pub shorts-fails : Demanded shorts → ⊥
-unfolding visits after text reached within in24 signed word placed added inSpeed inOffset inBack inLoop inDelay inCharacter inSwitch inPort inByte inZero rightCount rightZ2 rightDistances rightSpeeds hexDigit hexes twos24 report twoHex decimal digits shown fromOf toOf speedAt skipped nextBy pulseOf afterOf leftOf pulses steps signAt countAfter goal goalX goalY goalZ1 goalZ2 firstSpeed laterSpeed route goingTo planOf counted inRange underWay behind letterOf afterAddress directOf codeOf storedOf digitsBehind digitsOf numberOf parted itemsOf numbersOf bytes4 numBytes encode wordAt wordsOf front isCode countRight axesRight loopRight rangesRight speedsRight faultOf hasRoom storeOf recordAt spotFrom spotOf fetchOf recordsFrom recordsOf holds share around crosses early overlaps holders outside strays letter checked inside again opens looped aimed onwardOf checkOf verdictOf soundOf mixed resetOf heard beginOf performed ticked runsOf receiving clocking first replyOf directSaid earOf returned gathering stopped broken resetSaid hearing gathered sound recordReply storedSaid
+unfolding visits after reached within in24 signed word placed added inSpeed inOffset inBack inLoop inDelay inCharacter inSwitch inPort inByte inZero rightCount rightZ2 rightDistances rightSpeeds hexDigit hexes twos24 report twoHex decimal digits shown fromOf toOf speedAt skipped nextBy pulseOf afterOf leftOf pulses steps signAt countAfter goal goalX goalY goalZ1 goalZ2 firstSpeed laterSpeed route goingTo planOf counted inRange underWay behind letterOf afterAddress directOf codeOf storedOf digitsBehind digitsOf numberOf parted itemsOf numbersOf bytes4 numBytes encode wordAt wordsOf front isCode countRight axesRight loopRight rangesRight speedsRight faultOf hasRoom storeOf recordAt spotFrom spotOf fetchOf recordsFrom recordsOf holds share around crosses early overlaps holders outside strays letter checked inside again opens looped aimed onwardOf checkOf verdictOf soundOf mixed resetOf heard beginOf performed ticked runsOf receiving clocking first replyOf directSaid earOf returned gathering stopped broken resetSaid hearing gathered sound recordReply storedSaid
 shorts-fails d =
     let r : Route pattern (visits shorts looping four) =
     d .two .routes (inStore shorts looping) pattern looping four looping-started (looping-program .0) (looping-program .1) (tt, (tt, (tt, (tt, tt)))) in
@@ -84,21 +84,21 @@ abbrev course : List Record
 course = made 48 (1 ∷ 600 ∷ []) ∷ made 49 (65 ∷ []) ∷ made 49 (66 ∷ []) ∷ []
 
 abbrev milling : Place overleaps
-milling = sends overleaps (text "@01\r@0i\r01,600\r1 65\r1 66\r9\r@0S\r")
+milling = sends overleaps (codes "@01\r@0i\r01,600\r1 65\r1 66\r9\r@0S\r")
 
 milling-started : Started overleaps (inStore overleaps milling) milling
-unfolding text reached within in24 signed word placed added inSpeed inOffset inBack inLoop inDelay inCharacter inSwitch inPort inByte inZero rightCount rightZ2 rightDistances rightSpeeds hexDigit hexes twos24 report twoHex decimal digits shown fromOf toOf speedAt skipped nextBy pulseOf afterOf leftOf pulses steps signAt countAfter goal goalX goalY goalZ1 goalZ2 firstSpeed laterSpeed route goingTo planOf counted inRange underWay behind letterOf afterAddress directOf codeOf storedOf digitsBehind digitsOf numberOf parted itemsOf numbersOf bytes4 numBytes encode wordAt wordsOf front isCode countRight axesRight loopRight rangesRight speedsRight faultOf hasRoom storeOf recordAt spotFrom spotOf fetchOf recordsFrom recordsOf holds share around crosses early overlaps holders outside strays letter checked inside again opens looped aimed onwardOf checkOf verdictOf soundOf mixed resetOf heard beginOf performed ticked runsOf receiving clocking first replyOf directSaid earOf returned gathering stopped broken resetSaid hearing gathered sound recordReply storedSaid
+unfolding reached within in24 signed word placed added inSpeed inOffset inBack inLoop inDelay inCharacter inSwitch inPort inByte inZero rightCount rightZ2 rightDistances rightSpeeds hexDigit hexes twos24 report twoHex decimal digits shown fromOf toOf speedAt skipped nextBy pulseOf afterOf leftOf pulses steps signAt countAfter goal goalX goalY goalZ1 goalZ2 firstSpeed laterSpeed route goingTo planOf counted inRange underWay behind letterOf afterAddress directOf codeOf storedOf digitsBehind digitsOf numberOf parted itemsOf numbersOf bytes4 numBytes encode wordAt wordsOf front isCode countRight axesRight loopRight rangesRight speedsRight faultOf hasRoom storeOf recordAt spotFrom spotOf fetchOf recordsFrom recordsOf holds share around crosses early overlaps holders outside strays letter checked inside again opens looped aimed onwardOf checkOf verdictOf soundOf mixed resetOf heard beginOf performed ticked runsOf receiving clocking first replyOf directSaid earOf returned gathering stopped broken resetSaid hearing gathered sound recordReply storedSaid
 milling-started = record { sound = refl; standing = refl; held = refl; run = refl; store = refl }
 
 milling-program : (accepted (inStore overleaps milling) (milling .1) ≡ true) × (recordsOf (inStore overleaps milling) (milling .1) ≡ are course)
-unfolding passes accepted text reached within in24 signed word placed added inSpeed inOffset inBack inLoop inDelay inCharacter inSwitch inPort inByte inZero rightCount rightZ2 rightDistances rightSpeeds hexDigit hexes twos24 report twoHex decimal digits shown fromOf toOf speedAt skipped nextBy pulseOf afterOf leftOf pulses steps signAt countAfter goal goalX goalY goalZ1 goalZ2 firstSpeed laterSpeed route goingTo planOf counted inRange underWay behind letterOf afterAddress directOf codeOf storedOf digitsBehind digitsOf numberOf parted itemsOf numbersOf bytes4 numBytes encode wordAt wordsOf front isCode countRight axesRight loopRight rangesRight speedsRight faultOf hasRoom storeOf recordAt spotFrom spotOf fetchOf recordsFrom recordsOf holds share around crosses early overlaps holders outside strays letter checked inside again opens looped aimed onwardOf checkOf verdictOf soundOf mixed resetOf heard beginOf performed ticked runsOf receiving clocking first replyOf directSaid earOf returned gathering stopped broken resetSaid hearing gathered sound recordReply storedSaid
+unfolding passes accepted reached within in24 signed word placed added inSpeed inOffset inBack inLoop inDelay inCharacter inSwitch inPort inByte inZero rightCount rightZ2 rightDistances rightSpeeds hexDigit hexes twos24 report twoHex decimal digits shown fromOf toOf speedAt skipped nextBy pulseOf afterOf leftOf pulses steps signAt countAfter goal goalX goalY goalZ1 goalZ2 firstSpeed laterSpeed route goingTo planOf counted inRange underWay behind letterOf afterAddress directOf codeOf storedOf digitsBehind digitsOf numberOf parted itemsOf numbersOf bytes4 numBytes encode wordAt wordsOf front isCode countRight axesRight loopRight rangesRight speedsRight faultOf hasRoom storeOf recordAt spotFrom spotOf fetchOf recordsFrom recordsOf holds share around crosses early overlaps holders outside strays letter checked inside again opens looped aimed onwardOf checkOf verdictOf soundOf mixed resetOf heard beginOf performed ticked runsOf receiving clocking first replyOf directSaid earOf returned gathering stopped broken resetSaid hearing gathered sound recordReply storedSaid
 milling-program = (refl, refl)
 
 abbrev two : List Step
 two = call own ∷ call own ∷ []
 
 pub overleaps-fails : Demanded overleaps → ⊥
-unfolding visits after text reached within in24 signed word placed added inSpeed inOffset inBack inLoop inDelay inCharacter inSwitch inPort inByte inZero rightCount rightZ2 rightDistances rightSpeeds hexDigit hexes twos24 report twoHex decimal digits shown fromOf toOf speedAt skipped nextBy pulseOf afterOf leftOf pulses steps signAt countAfter goal goalX goalY goalZ1 goalZ2 firstSpeed laterSpeed route goingTo planOf counted inRange underWay behind letterOf afterAddress directOf codeOf storedOf digitsBehind digitsOf numberOf parted itemsOf numbersOf bytes4 numBytes encode wordAt wordsOf front isCode countRight axesRight loopRight rangesRight speedsRight faultOf hasRoom storeOf recordAt spotFrom spotOf fetchOf recordsFrom recordsOf holds share around crosses early overlaps holders outside strays letter checked inside again opens looped aimed onwardOf checkOf verdictOf soundOf mixed resetOf heard beginOf performed ticked runsOf receiving clocking first replyOf directSaid earOf returned gathering stopped broken resetSaid hearing gathered sound recordReply storedSaid
+unfolding visits after reached within in24 signed word placed added inSpeed inOffset inBack inLoop inDelay inCharacter inSwitch inPort inByte inZero rightCount rightZ2 rightDistances rightSpeeds hexDigit hexes twos24 report twoHex decimal digits shown fromOf toOf speedAt skipped nextBy pulseOf afterOf leftOf pulses steps signAt countAfter goal goalX goalY goalZ1 goalZ2 firstSpeed laterSpeed route goingTo planOf counted inRange underWay behind letterOf afterAddress directOf codeOf storedOf digitsBehind digitsOf numberOf parted itemsOf numbersOf bytes4 numBytes encode wordAt wordsOf front isCode countRight axesRight loopRight rangesRight speedsRight faultOf hasRoom storeOf recordAt spotFrom spotOf fetchOf recordsFrom recordsOf holds share around crosses early overlaps holders outside strays letter checked inside again opens looped aimed onwardOf checkOf verdictOf soundOf mixed resetOf heard beginOf performed ticked runsOf receiving clocking first replyOf directSaid earOf returned gathering stopped broken resetSaid hearing gathered sound recordReply storedSaid
 overleaps-fails d =
     let r : Route course (visits overleaps milling two) =
     d .two .routes (inStore overleaps milling) course milling two milling-started (milling-program .0) (milling-program .1) (tt, (tt, tt)) in

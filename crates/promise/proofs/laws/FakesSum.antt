@@ -3,6 +3,7 @@
 use mathlib.Core.List.{List, [], _∷_, _++_}
 use mathlib.Core.Path.{refl, ap}
 use borrow.Author.Tests.{eqb-false}
+use Rattle.count.specs.Chars.{codes}
 use Rattle.count.specs.Numbers.{within, in24, signed, word, placed, added}
 use Rattle.count.specs.Ranges.{inSpeed, rightCount, rightZ2, rightDistances, rightSpeeds}
 use Rattle.motion.specs.Phase.{pulses, steps, countAfter, signAt}
@@ -23,19 +24,18 @@ use Rattle.course.specs.Walk.{noStore}
 use Rattle.promise.specs.Machine.{Event, clock, afterAll}
 use Rattle.promise.specs.Demands.{X, adds, zeroLine, zeroes, pulseSum}
 use Rattle.promise.specs.Demanded.{Demanded}
-use Rattle.promise.specs.Twelve.{text}
 use Rattle.promise.specs.Fakes.{claims, mutes}
 use Rattle.promise.proofs.laws.FakesTyped.{typed, number}
 
 abbrev stopped-once : List Event
-stopped-once = typed (text "@01\r@0A3,600\r") ++ clock noStore ∷ typed (253 ∷ [])
+stopped-once = typed (codes "@01\r@0A3,600\r") ++ clock noStore ∷ typed (253 ∷ [])
 
 -- it shows three steps, and one pulse was made
 pub claims-fails : Demanded claims → ⊥
-unfolding number text afterAll pulseSum zeroes zeroLine adds receiving sound soundOf counted inRange underWay hearing stopped earOf gathering gathered returned directSaid replyOf first directOf afterAddress letterOf behind digitsBehind digitsOf numberOf parted itemsOf numbersOf within in24 signed word placed added inSpeed rightCount rightZ2 rightDistances rightSpeeds pulses steps countAfter goal goalX goalY goalZ1 goalZ2 firstSpeed laterSpeed route goingTo planOf fromOf toOf leftOf afterOf countRight axesRight rangesRight speedsRight beginOf clocking ticked pulseOf nextBy skipped signAt speedAt
+unfolding number afterAll pulseSum zeroes zeroLine adds receiving sound soundOf counted inRange underWay hearing stopped earOf gathering gathered returned directSaid replyOf first directOf afterAddress letterOf behind digitsBehind digitsOf numberOf parted itemsOf numbersOf within in24 signed word placed added inSpeed rightCount rightZ2 rightDistances rightSpeeds pulses steps countAfter goal goalX goalY goalZ1 goalZ2 firstSpeed laterSpeed route goingTo planOf fromOf toOf leftOf afterOf countRight axesRight rangesRight speedsRight beginOf clocking ticked pulseOf nextBy skipped signAt speedAt
 claims-fails d = eqb-false 3 1 refl (ap number (d .two .sum-of-pulses X stopped-once))
 
 -- started again, it has made two steps, and one pulse was answered
 pub mutes-fails : Demanded mutes → ⊥
-unfolding number text afterAll pulseSum zeroes zeroLine adds receiving sound soundOf counted inRange underWay hearing stopped earOf gathering gathered returned directSaid replyOf first directOf afterAddress letterOf behind digitsBehind digitsOf numberOf parted itemsOf numbersOf within in24 signed word placed added inSpeed rightCount rightZ2 rightDistances rightSpeeds pulses steps countAfter goal goalX goalY goalZ1 goalZ2 firstSpeed laterSpeed route goingTo planOf fromOf toOf leftOf afterOf countRight axesRight rangesRight speedsRight beginOf clocking ticked pulseOf nextBy skipped signAt speedAt
-mutes-fails d = eqb-false 2 1 refl (ap number (d .two .sum-of-pulses X (stopped-once ++ typed (text "@0S\r") ++ clock noStore ∷ [])))
+unfolding number afterAll pulseSum zeroes zeroLine adds receiving sound soundOf counted inRange underWay hearing stopped earOf gathering gathered returned directSaid replyOf first directOf afterAddress letterOf behind digitsBehind digitsOf numberOf parted itemsOf numbersOf within in24 signed word placed added inSpeed rightCount rightZ2 rightDistances rightSpeeds pulses steps countAfter goal goalX goalY goalZ1 goalZ2 firstSpeed laterSpeed route goingTo planOf fromOf toOf leftOf afterOf countRight axesRight rangesRight speedsRight beginOf clocking ticked pulseOf nextBy skipped signAt speedAt
+mutes-fails d = eqb-false 2 1 refl (ap number (d .two .sum-of-pulses X (stopped-once ++ typed (codes "@0S\r") ++ clock noStore ∷ [])))

@@ -163,10 +163,11 @@ effectOf letter.Empty l ports e s = effect (emptied e) s (ch "0" ∷ [])
 effectOf letter.Start l ports e s = pick s (effect e false []) (effect (started e) false [])
 effectOf letter.Wrong l ports e s = effect e s (ch "5" ∷ [])
 
--- a refused line sends its one character and changes nothing but the line, which is empty after every return
+-- an accepted line has its effect; the line is empty after every return
 abbrev pub acceptedSaid : Effect → List ℕ → Said
 acceptedSaid f store = said (board (f .engine) (f .standing) noLine) (f .reply) store
 
+-- a refused one sends its one character and changes nothing but the line
 unfoldable pub directSaid : Direct → List ℕ → Board → List ℕ → Said
 directSaid d ports b store =
     pick (eqb (replyOf (b .engine) (b .standing) d) (ch "0"))

@@ -290,4 +290,4 @@ module _ (m : Machine) where
       (es : List Event) (ports : List ℕ) (l : Lent) (text other : List ℕ) (host : Host) → endLine (m .board (afterAll m es (m .first))) ≡ true
       → hears m (ch "\r") ports l (afterAll m es (m .first)) .refusal ≡ 0 → getD (replied (hears m (ch "\r") ports l (afterAll m es (m .first)))) 0 0 ≡ ch "0"
       → Below 256 (l .store) → textBytes ≤ length text → length other ≡ storeBytes → Below 256 other
-      → ListedAgain (hears m (ch "\r") ports l (afterAll m es (m .first)) .after .store) text other host ((m .hear 13 ports l (afterAll m es (m .first))) .0)
+      → ListedAgain (hears m (ch "\r") ports l (afterAll m es (m .first)) .after .store) text other host ((m .hear (ch "\r") ports l (afterAll m es (m .first))) .0)

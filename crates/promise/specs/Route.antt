@@ -5,7 +5,7 @@ use mathlib.Core.Bool.{Bool, true, false, not, _&&_}
 use mathlib.Core.List.{List, [], _∷_, _++_}
 use mathlib.Core.Path.{_≡_}
 use lib.Dec.{eqb}
-use lib.IntN.{ℤ, pos, negsuc, _+ℤ_}
+use lib.IntN.{ℤ, pos, negsuc}
 use lib.ListN.{length, getD}
 use Rattle.count.specs.Sizes.{storeBytes}
 use Rattle.count.specs.Chars.{ch}
@@ -13,11 +13,10 @@ use Rattle.count.specs.Pick.{pick}
 use Rattle.count.specs.Ranges.{nth}
 use Rattle.record.specs.declared.Held.{Held}
 use Rattle.record.specs.declared.Record.{Record}
-use Rattle.record.specs.Bytes.{made}
 use Rattle.record.specs.Places.{recordsOf}
 use Rattle.record.specs.Places.Records.{are}
 use Rattle.program.specs.Onward.{noLoops}
-use Rattle.program.specs.Program.{accepted}
+use Rattle.program.specs.Program.{recordIn, targetAt, accepted}
 use Rattle.program.specs.Rounds.{Rounds}
 use Rattle.line.specs.Lines.{letterPaper, directOf}
 use Rattle.engine.specs.declared.Job.{Job}
@@ -74,13 +73,13 @@ pub data Either (a b : ℤ) (q : ℕ) : Type 0 where
   that : pos q ≡ b → Either a b q
 
 abbrev pub codeAt : List Record → ℕ → ℕ
-codeAt l i = getD l i (made 0 []) .code
+codeAt l i = recordIn l i .code
 
 abbrev pub numberAt : List Record → ℕ → ℕ
-numberAt l i = getD (getD l i (made 0 []) .words) 0 0
+numberAt l i = getD (recordIn l i .words) 0 0
 
 abbrev pub offsetAt : List Record → ℕ → ℤ
-offsetAt l i = nth (getD l i (made 0 []) .words) 1
+offsetAt l i = nth (recordIn l i .words) 1
 
 abbrev pub BeginsAt0 : List ℕ → Type 0
 BeginsAt0 [] = Unit
@@ -95,9 +94,9 @@ pub record Route (l : List Record) (v : List ℕ) : Type 0 where
   pub loops : (i c k : ℕ) → i < length l → codeAt l i ≡ ch "3" → numberAt l i ≡ c → 0 < c → offsetAt l i ≡ negsuc k →
       Rounds (i - suc k) (suc i) c c (after i v)
   -- a jump, number 0: own place plus offset
-  pub jumps : (i : ℕ) → i < length l → codeAt l i ≡ ch "3" → numberAt l i ≡ 0 → Each (λ q. pos q ≡ pos i +ℤ offsetAt l i) (after i v)
+  pub jumps : (i : ℕ) → i < length l → codeAt l i ≡ ch "3" → numberAt l i ≡ 0 → Each (λ q. pos q ≡ targetAt l i) (after i v)
   -- a wait: own place plus offset, or the next record
-  pub waits : (i : ℕ) → i < length l → codeAt l i ≡ ch "2" → Each (Either (pos i +ℤ offsetAt l i) (pos (suc i))) (after i v)
+  pub waits : (i : ℕ) → i < length l → codeAt l i ≡ ch "2" → Each (Either (targetAt l i) (pos (suc i))) (after i v)
   -- every other record: the next one, so that none is passed over
   pub others : (i : ℕ) → i < length l → (codeAt l i ≡ ch "3" → ⊥) → (codeAt l i ≡ ch "2" → ⊥) → Each (λ q. q ≡ suc i) (after i v)
 

@@ -39,11 +39,11 @@ abbrev pub Elsewhere : Lending → Type 0
 Elsewhere own = Unit
 Elsewhere (other t) = length t ≡ storeBytes → ⊥
 
--- neither 101 nor 102: a reply buffer of at least 32 bytes and the one store
 abbrev pub isOwn : Lending → Bool
 isOwn own = true
 isOwn (other t) = false
 
+-- neither 101 nor 102: a reply buffer of at least 32 bytes and the one store
 abbrev pub rightly : Step → Bool
 rightly (receive v ports reply d) = leb replyBytes (length reply) && isOwn d
 rightly (call d) = isOwn d

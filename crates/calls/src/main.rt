@@ -1,5 +1,6 @@
 // `calls`: drives a board call by call from a script on standard input (trial/README.md), and prints what each call answers.
 mod host;
+mod quiet;
 mod script;
 mod show;
 
@@ -13,10 +14,12 @@ use host::kept_as;
 use host::word_of;
 use libc::STDIN_FILENO;
 use libc::STDOUT_FILENO;
+use quiet::run;
 use record::Held;
 use script::Row;
 use show::show_heard;
 use show::show_listing;
+use show::show_mark;
 use show::show_state;
 use show::show_ticked;
 use show::within;
@@ -27,14 +30,15 @@ const STORE: usize = 16384;
 const REPLY: usize = 32;
 
 // Where a script has come to: the board, the input ports, the bytes of the store and the reply buffer that the next call is lent, the line
-// being read and its number, and whether input may follow.
-struct Play {
+// being read and its number, whether a run is over, and whether input may follow.
+pub(crate) struct Play {
     pub board: Board,
     pub ports: [u8; 4],
     pub store: usize,
     pub reply: usize,
     pub row: Row,
     pub number: u64,
+    pub over: bool,
     pub more: bool,
 }
 
@@ -52,7 +56,7 @@ fn lending(play: Play, store: usize, reply: usize) -> Play {
 }
 
 // A call was made: the next one is lent what is usual.
-fn called(play: Play, board: Board) -> Play {
+pub(crate) fn called(play: Play, board: Board) -> Play {
     lending(with_board(play, board), STORE, REPLY)
 }
 
@@ -171,15 +175,27 @@ fn set_field(play: Play, name: u64, word: u64) -> Play {
     wrong(play)
 }
 
+// No more is read, if the last run is not over.
+fn ended(play: Play) -> Play {
+    let mut next = play;
+    next.more = play.over;
+    next
+}
+
 // A line that makes no call and leaves the store's bytes.
 fn prepare(play: Play, letter: u8, row: Row) -> Play {
     let words = row.words;
     let n = word_of(words[1]);
     match letter {
+        b'E' => ended(play),
         b'H' => set_field(play, row.name, words[2]),
         b'I' => set_ports(play, words),
         b'K' => set_held(play, words),
         b'M' => lending(play, n as usize, play.reply),
+        b'N' => {
+            show_mark(n);
+            play
+        }
         b'R' => lending(play, play.store, n as usize),
         b'S' => {
             show_state(play.board);
@@ -198,6 +214,7 @@ fn act(play: Play, row: Row, space: &mut [u8]) -> Play {
         b'B' => receive(play, byte_of(words[1]), space),
         b'C' => clocks(play, n, space),
         b'L' => list(play, space),
+        b'Q' => run(play, n, space),
         b'W' => poke(play, space, n as usize, byte_of(words[2])),
         _ => prepare(play, letter, row),
     }
@@ -228,6 +245,9 @@ fn take_all(start: Play, input: &[u8], space: &mut [u8]) -> Play {
     let mut play = start;
     let mut i = 0;
     while i < input.len() {
+        if !play.more {
+            return play;
+        }
         let next = take_byte(play, input[i], &mut *space);
         play = next;
         i = i + 1;
@@ -283,6 +303,7 @@ fn start() -> Play {
         reply: REPLY,
         row,
         number: 1,
+        over: true,
         more: true,
     }
 }

@@ -39,7 +39,7 @@ fn show_with(before: &[u8], n: u32) -> bool {
 }
 
 // A name and a number behind it.
-fn show_named(name: &[u8], n: u32) -> bool {
+pub(crate) fn show_named(name: &[u8], n: u32) -> bool {
     io::write_all(STDOUT_FILENO, name);
     io::print_decimal(STDOUT_FILENO, n as u64)
 }
@@ -52,7 +52,7 @@ fn show_count(c: u32) -> bool {
     show_named(b" ", c - 8388608)
 }
 
-fn show_point(name: &[u8], c: Counters) -> bool {
+pub(crate) fn show_point(name: &[u8], c: Counters) -> bool {
     io::write_all(STDOUT_FILENO, name);
     show_count(c.x);
     show_count(c.y);
@@ -107,6 +107,11 @@ pub(crate) fn show_ticked(refusal: u16, answer: Answer) -> bool {
         return show_with(b"C ", refusal as u32);
     }
     show_answer(answer)
+}
+
+// A mark.
+pub(crate) fn show_mark(n: u32) -> bool {
+    show_with(b"N ", n)
 }
 
 // A byte received: its refusal, or its reply.
@@ -173,7 +178,7 @@ pub(crate) fn show_listing(refusal: u16, text: &[u8], n: usize) -> bool {
     }
 }
 
-fn show_job(job: Job) -> bool {
+pub(crate) fn show_job(job: Job) -> bool {
     match job {
         Job::Idle => io::write_all(STDOUT_FILENO, b" job Idle"),
         Job::Storing => io::write_all(STDOUT_FILENO, b" job Storing"),

@@ -1,0 +1,136 @@
+// A run of clock calls until the board has nothing more to do, `Q`, and what is printed of it.
+use crate::Play;
+use crate::called;
+use crate::show::show_job;
+use crate::show::show_named;
+use crate::show::show_point;
+use crate::show::show_ticked;
+use crate::show::within;
+use board::Board;
+use engine::Answer;
+use engine::Job;
+use libc::STDOUT_FILENO;
+
+fn is_nothing(answer: Answer) -> bool {
+    match answer {
+        Answer::Pulse(_, _) => false,
+        Answer::Pause => false,
+        Answer::Send(_) => false,
+        Answer::Done => false,
+        Answer::Nothing => true,
+    }
+}
+
+fn is_pulse(answer: Answer) -> bool {
+    match answer {
+        Answer::Pulse(_, _) => true,
+        Answer::Pause => false,
+        Answer::Send(_) => false,
+        Answer::Done => false,
+        Answer::Nothing => false,
+    }
+}
+
+// Whether a pulse just made was the first of its phase.
+fn is_first(job: Job) -> bool {
+    match job {
+        Job::Idle => false,
+        Job::Storing => false,
+        Job::Direct(m) => m.made == 1,
+        Job::Ready => false,
+        Job::Moving(m) => m.made == 1,
+        Job::Delay(_) => false,
+        Job::Wait(_, _) => false,
+    }
+}
+
+// What the board is at after a call: its job, the next place and the origin.
+fn show_place(board: Board) -> bool {
+    let e = board.engine;
+    let run = e.run;
+    io::write_all(STDOUT_FILENO, b"T");
+    let job = run.job;
+    show_job(job);
+    show_named(b" place ", run.place as u32);
+    show_point(b" origin", e.origin);
+    io::write_all(STDOUT_FILENO, b"\n")
+}
+
+fn show_answered(answer: Answer, board: Board) -> bool {
+    let e = board.engine;
+    let run = e.run;
+    let job = run.job;
+    let first = is_first(job);
+    let pulse = is_pulse(answer);
+    show_ticked(0, answer);
+    if pulse & !first {
+        return true;
+    }
+    show_place(board)
+}
+
+// A call of a run: its refusal, or its answer with what the board is at. The nothing at the end is not printed.
+fn show_run(refusal: u16, answer: Answer, board: Board) -> bool {
+    if refusal != 0 {
+        return show_ticked(refusal, answer);
+    }
+    if is_nothing(answer) {
+        return true;
+    }
+    show_answered(answer, board)
+}
+
+fn show_over(over: bool) -> bool {
+    if over {
+        return io::write_all(STDOUT_FILENO, b"Q over\n");
+    }
+    io::write_all(STDOUT_FILENO, b"Q more\n")
+}
+
+// One call of a run. A run that is over takes no more.
+fn step(play: Play, space: &[u8]) -> Play {
+    let board = play.board;
+    let n = within(play.store, space);
+    let ticked = board.clock(&space[0..n]);
+    let answer = ticked.answer;
+    let next = ticked.board;
+    let over = is_nothing(answer);
+    show_run(ticked.refusal, answer, next);
+    let mut done = called(play, next);
+    done.over = over;
+    done
+}
+
+// Whether a run that was not over in its calls is over now.
+fn looked(play: Play, space: &[u8]) -> Play {
+    let board = play.board;
+    let n = within(play.store, space);
+    let ticked = board.clock(&space[0..n]);
+    let answer = ticked.answer;
+    let over = is_nothing(answer);
+    let mut done = called(play, board);
+    done.over = over;
+    done
+}
+
+// Clock calls until one answers nothing, at most so many.
+fn steps(start: Play, n: u32, space: &[u8]) -> Play {
+    let mut play = start;
+    let mut left = n;
+    while 0 < left {
+        let next = step(play, space);
+        play = next;
+        if play.over {
+            return play;
+        }
+        left = left - 1;
+    }
+    looked(play, space)
+}
+
+// The calls of `Q`, and whether they were enough.
+pub(crate) fn run(play: Play, n: u32, space: &[u8]) -> Play {
+    let done = steps(play, n, space);
+    show_over(done.over);
+    done
+}

@@ -1,0 +1,248 @@
+# What the board did, for a person, under each line of the file that it answers: awk -f told.awk LINES STREAM. LINES is what sent.awk wrote of
+# the file, STREAM what `calls` printed. -v scale="x y z": the steps of a mm on each axis, or empty; -v pulses=1 shows every pulse.
+BEGIN {
+    split(scale, per, " ")
+    split("x y z", axis, " ")
+    means["1"] = "a number is out of range"
+    means["3"] = "these axes are not allowed"
+    means["4"] = "no axes are set"
+    means["6"] = "no room for this record"
+    means["7"] = "too few or too many numbers"
+    means["8"] = "no program is stored"
+    means["9"] = "the movement would leave the range of positions"
+    means["D"] = "a speed is out of range"
+    means["W"] = "something stands stopped"
+    job = "Idle"
+}
+
+FNR == NR {
+    text[$1] = substr($0, length($1) + 2)
+    if (length(text[$1]) > width) width = length(text[$1])
+    if (width > 40) width = 40
+    next
+}
+
+# A pulse waits for the line behind it, which may say that it begins a phase.
+held != "" && $1 != "T" { step() }
+$1 == "N" { mark($2) }
+$1 == "B" && $2 != "-" { reply(substr($0, 3)) }
+$1 == "C" && $2 == "Pulse" { held = $3; rate = $4 }
+$1 == "C" && $2 != "Pulse" { answer = $2; value = $3 }
+$1 == "T" { told($3, $5, $7 " " $8 " " $9) }
+$1 == "Q" { unfinished = $2 == "more" }
+$1 == "L" { say("  " ($2 ~ /^(G|102|103|106)$/ ? "refused " : "") $2) }
+$1 == "S" { state() }
+
+END {
+    mark("")
+    if (unfinished) print "not over after 100,000 clock calls: no more is sent"
+    print "end: " place(at[1], at[2], at[3])
+}
+
+# The next line of the file begins.
+function mark(number) {
+    settle()
+    if (current != "" && !headed) head("")
+    current = number
+    headed = 0
+    storing = job == "Storing"
+    if (running() && text[number] !~ /^(clock|list|ports|stop|break|reset|byte)/) head("dropped: something runs")
+}
+
+function running() {
+    return !standing && job != "Idle" && job != "Storing" && job != "Wait"
+}
+
+# The line with its number, and what it is answered.
+function head(words, shown) {
+    shown = sprintf("%4d  %s", current, text[current])
+    if (words != "") {
+        while (length(shown) < width + 6) shown = shown " "
+        shown = shown "  " words
+    }
+    print shown
+    headed = 1
+}
+
+# Something that happened under the line.
+function say(words) {
+    settle()
+    if (!headed) head("")
+    print "        " words
+}
+
+function reply(sent, words) {
+    settle()
+    words = sent
+    if (length(sent) == 19) words = sent "  " place(hex(substr(sent, 2, 6)), hex(substr(sent, 8, 6)), hex(substr(sent, 14, 6)))
+    else if (length(sent) == 1 && sent != "0") words = sent "  " reason(sent)
+    else if (sent == "0" && storing && text[current] !~ /^9/) words = sent "  record " records
+    if (headed) say(words)
+    else head(words)
+}
+
+function reason(sent) {
+    if (sent == "F") return text[current] ~ /^(break|byte 255)/ ? "ended" : "stopped, and stands"
+    if (sent == "G") return storing ? "the program fails its check, and the store is empty now" : "the program was stored under other axes"
+    if (sent != "5") return means[sent]
+    return (storing ? "this is no record" : "this is no line of the board") (text[current] ~ /[ \t]$/ ? ": a space stands at its end" : "")
+}
+
+function hex(digits, i, n) {
+    for (i = 1; i <= 6; i++) n = n * 16 + index("0123456789ABCDEF", substr(digits, i, 1)) - 1
+    return n > 8388607 ? n - 16777216 : n
+}
+
+# A place, or with signs a distance: each axis in steps, and in mm where their steps are known.
+function place(x, y, z) {
+    return "x " x mm(x, 1) ", y " y mm(y, 2) ", z " z mm(z, 3)
+}
+function mm(n, i, shown) {
+    if (scale == "" || n == 0) return ""
+    shown = sprintf("%.3f", n / per[i] + (n > 0 ? 1e-9 : -1e-9))
+    sub(/0+$/, "", shown)
+    sub(/\.$/, "", shown)
+    return " (" shown " mm)"
+}
+
+# The pulse that waits is made. A movement that was held goes on with it.
+function step(i, sign) {
+    if (open == 2) open = 1
+    for (i = 1; i <= 3; i++) {
+        sign = substr(held, i, 1)
+        sign = sign == "+" ? 1 : sign == "-" ? -1 : 0
+        way[i] += sign
+        at[i] += sign
+    }
+    if (pulses) {
+        if (!named) under(movement(what, pass, pass) ":")
+        named = 1
+        print "          " held " " rate
+    }
+    speed = rate
+    held = ""
+}
+
+# The job, the next record's place and the origin after a call. Behind a pulse they say that it begins a phase.
+function told(now, next_place, origin, was) {
+    was = job
+    job = now
+    if (held != "") {
+        if (open && next_place == open_place) phase()
+        else begin(next_place)
+        step()
+    } else answered(was, next_place, origin)
+    home = origin
+    if (now == "Idle") idle()
+}
+
+# Nothing runs: the passes of the next run are counted anew.
+function idle() {
+    settle()
+    open = 0
+    split("", passes)
+}
+
+function begin(next_place) {
+    close_movement()
+    show_pause()
+    open = 1
+    named = 0
+    open_place = next_place
+    what = job == "Direct" ? "direct" : next_place - 1
+    pass = ++passes[what]
+}
+
+# A phase of the movement is over.
+function phase(i, words) {
+    for (i = 1; i <= 3; i++) {
+        if (way[i] != 0) words = words (words == "" ? "" : ", ") axis[i] " " (way[i] > 0 ? "+" : "") way[i] mm(way[i], i)
+        way[i] = 0
+    }
+    if (words != "") phases = phases (phases == "" ? "" : "; ") words " at " speed
+}
+
+# The movement is over, or as far as it shows under this line. Equal passes that follow each other are one line.
+function close_movement() {
+    if (open == 1) {
+        phase()
+        if (kept && what != "direct" && what == kept_what && phases == kept_phases && pass == kept_last + 1) kept_last = pass
+        else {
+            show_kept()
+            kept = !pulses
+            kept_what = what
+            kept_phases = phases
+            kept_first = kept_last = pass
+        }
+        phases = ""
+    }
+    open = 0
+}
+
+function movement(record, first, last) {
+    if (record == "direct") return "moves"
+    return "record " record (first == last ? ", pass " first : ", passes " first " to " last)
+}
+
+function show_kept() {
+    if (kept) under(movement(kept_what, kept_first, kept_last) ": " kept_phases)
+    kept = 0
+}
+
+function show_pause() {
+    if (pauses) under("record " pause_record ": a pause of " pauses / 10 " s")
+    pauses = 0
+}
+
+# Whatever is not printed yet. A movement under way is held, and may go on under the next line.
+function settle(was) {
+    was = open
+    close_movement()
+    show_kept()
+    show_pause()
+    if (was) open = 2
+    named = 0
+}
+
+function under(words) {
+    if (!headed) head("")
+    print "        " words
+}
+
+# An answer without a pulse, the job before it, and the next record's place after it.
+function answered(was, next_place, origin) {
+    close_movement()
+    if (answer == "Pause") {
+        show_kept()
+        if (pause_record != next_place - 1) show_pause()
+        pause_record = next_place - 1
+        pauses++
+    } else if (answer == "Send") {
+        value = sprintf("%c", value + 0)
+        say(job == "Idle" ? value "  " ending(was) : "record " (next_place - 1) " sends " value)
+    } else if (answer == "Done") {
+        show_pause()
+        if (origin != home) say("record " (next_place - 1) ": the origin is moved here")
+    }
+}
+
+function ending(was) {
+    if (value == "0") return was == "Direct" ? "the movement is made" : "the program has reached its end"
+    if (value == "9") return "the next movement would leave the range of positions: the program ends"
+    return "the store cannot be read: the program ends, and the store is empty now"
+}
+
+# The state behind a line.
+function state() {
+    settle()
+    for (i = 1; i <= 3; i++) at[i] = $(4 + i)
+    home = $9 " " $10 " " $11
+    job = $23
+    standing = $25
+    records = $19
+    if (text[current] ~ /^clock/ && !headed) say("nothing to do")
+    if (job == "Wait") say("it waits for a character")
+    else if (running() && text[current] ~ /^clock/) say("it is still running")
+    if (job == "Idle" && !standing) idle()
+    unfinished = 0
+}

@@ -46,7 +46,7 @@ function mark(number) {
     current = number
     headed = 0
     storing = job == "Storing"
-    if (running() && text[number] !~ /^(clock|list|ports|stop|break|reset|byte)/) head("dropped: something runs")
+    if (number != "" && running() && text[number] !~ /^(clock|list|ports|stop|break|reset|byte)/) head("dropped: something runs")
 }
 
 function running() {

@@ -133,13 +133,14 @@ function told(now, next_place, origin, was) {
         step()
     } else answered(was, next_place, origin)
     home = origin
+    upcoming = next_place
     if (now == "Idle") idle()
 }
 
 # Nothing runs: the passes of the next run are counted anew.
 function idle() {
     settle()
-    open = 0
+    open = upcoming = 0
     split("", passes)
 }
 
@@ -221,6 +222,7 @@ function answered(was, next_place, origin) {
         value = sprintf("%c", value + 0)
         say(job == "Idle" ? value "  " ending(was) : "record " (next_place - 1) " sends " value)
     } else if (answer == "Done") {
+        if (upcoming >= 0) passes[upcoming]++ # a movement without a step is a pass of its record too
         show_pause()
         if (origin != home) say("record " (next_place - 1) ": the origin is moved here")
     }
@@ -241,8 +243,11 @@ function state() {
     standing = $25
     records = $19
     if (text[current] ~ /^clock/ && !headed) say("nothing to do")
-    if (job == "Wait") say("it waits for a character")
-    else if (running() && text[current] ~ /^clock/) say("it is still running")
+    if (job == "Wait") {
+        say("it waits for a character")
+        upcoming = -1 # the answer decides
+    }
+    if (running() && text[current] ~ /^clock/) say("it is still running")
     if (job == "Idle" && !standing) idle()
     unfinished = 0
 }

@@ -78,16 +78,34 @@ fn seen(counter: i32) -> i64 {
     (counter as i64 - BELOW).rem_euclid(1 << 32) + BELOW
 }
 
+/// Whether a movement under way has made exactly one pulse of its phase.
+pub fn first_of_a_phase(board: &Board) -> bool {
+    matches!(&board.job, Job::Direct(movement) | Job::Moving(movement) if movement.made == 1)
+}
+
+/// A name and its values, each with a space before it.
+fn push_field(out: &mut Vec<u8>, name: &str, values: &[i64]) {
+    out.push(b' ');
+    out.extend_from_slice(name.as_bytes());
+    for &v in values {
+        out.push(b' ');
+        push_decimal(out, v);
+    }
+}
+
+/// The line T: where a run has come to.
+pub fn push_place(out: &mut Vec<u8>, board: &Board) {
+    out.extend_from_slice(b"T");
+    push_field(out, "job", &[]);
+    push_field(out, job_name(&board.job), &[]);
+    push_field(out, "place", &[board.place as i64]);
+    push_field(out, "origin", &board.origin.map(seen));
+    out.push(b'\n');
+}
+
 pub fn push_state(out: &mut Vec<u8>, board: &Board) {
     out.extend_from_slice(b"S");
-    let mut field = |name: &str, values: &[i64]| {
-        out.push(b' ');
-        out.extend_from_slice(name.as_bytes());
-        for &v in values {
-            out.push(b' ');
-            push_decimal(out, v);
-        }
-    };
+    let mut field = |name: &str, values: &[i64]| push_field(out, name, values);
     field("axes", &[board.axes as i64]);
     field("position", &board.position.map(seen));
     field("origin", &board.origin.map(seen));

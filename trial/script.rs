@@ -2,7 +2,7 @@
 
 use crate::host;
 use std::io::{self, Write};
-use trial::board::{Answer, Board};
+use trial::board::{Answer, Board, Refusal};
 use trial::lister::TEXT;
 use trial::number::push_decimal;
 use trial::receive::Ports;
@@ -20,6 +20,10 @@ pub struct Calls {
     /// The lengths that the next call is lent.
     next_store: Option<usize>,
     next_reply: Option<usize>,
+    /// Whether the last Q printed `Q more`.
+    more: bool,
+    /// Whether an E has passed over the rest of the script.
+    ended: bool,
     out: Vec<u8>,
 }
 
@@ -31,12 +35,14 @@ impl Calls {
             store: vec![0; STORE],
             next_store: None,
             next_reply: None,
+            more: false,
+            ended: false,
             out: Vec::new(),
         }
     }
 
     /// Runs a script: what stands before each line feed, and what stands after the last one if
-    /// that is not empty.
+    /// that is not empty. It is over early where an E says so.
     pub fn script(&mut self, script: &[u8], to: &mut impl Write) -> io::Result<()> {
         for (i, line) in script.split_inclusive(|&b| b == b'\n').enumerate() {
             if self.line(line.strip_suffix(b"\n").unwrap_or(line)).is_none() {
@@ -46,6 +52,9 @@ impl Calls {
             }
             to.write_all(&self.out)?;
             self.out.clear();
+            if self.ended {
+                break;
+            }
         }
         Ok(())
     }
@@ -64,6 +73,9 @@ impl Calls {
             ("I", &[a, b, c, d]) => self.ports = [byte(a)?, byte(b)?, byte(c)?, byte(d)?],
             ("B", &[v]) => self.receive(byte(v)?),
             ("C", &[n]) => (0..u32::try_from(n).ok()?).for_each(|_| self.clock()),
+            ("Q", &[n]) => self.run_until_quiet(u32::try_from(n).ok()?),
+            ("E", &[]) => self.ended = self.more,
+            ("N", &[v]) => self.mark(u32::try_from(v).ok()?),
             ("W", &[at, v]) => *self.store.get_mut(usize::try_from(at).ok()?)? = byte(v)?,
             ("K", &[used, records, axes]) => self.set_store(used, records, axes)?,
             ("M", &[n]) => self.next_store = Some(lent(n)?),
@@ -107,24 +119,47 @@ impl Calls {
     }
 
     fn clock(&mut self) {
-        let answer = self.lend(|board, _, store| board.clock(store));
-        self.out.extend_from_slice(b"C ");
-        match answer {
-            Ok(Answer::Pulse(pulse)) => {
-                self.out.extend_from_slice(b"Pulse ");
-                self.out.extend(pulse.signs.map(|s| b"-.+"[(s + 1) as usize]));
-                self.out.push(b' ');
-                push_decimal(&mut self.out, pulse.speed as i64);
-            }
-            Ok(Answer::Pause) => self.out.extend_from_slice(b"Pause"),
-            Ok(Answer::Send(byte)) => {
-                self.out.extend_from_slice(b"Send ");
-                push_decimal(&mut self.out, byte as i64);
-            }
-            Ok(Answer::Done) => self.out.extend_from_slice(b"Done"),
-            Ok(Answer::Nothing) => self.out.extend_from_slice(b"Nothing"),
-            Err(refusal) => push_decimal(&mut self.out, refusal as i64),
+        let answer = self.clock_call();
+        push_answer(&mut self.out, answer);
+    }
+
+    fn clock_call(&mut self) -> Result<Answer, Refusal> {
+        self.lend(|board, _, store| board.clock(store))
+    }
+
+    /// At most n clock calls, then one that is tried and taken back, until one is quiet.
+    fn run_until_quiet(&mut self, n: u32) {
+        let over = (0..n).any(|_| self.tell_call()) || self.would_be_quiet();
+        self.more = !over;
+        self.out.extend_from_slice(if over { b"Q over\n" } else { b"Q more\n" });
+    }
+
+    /// One call of a Q, with the line T where one belongs. Says whether it was quiet.
+    fn tell_call(&mut self) -> bool {
+        let answer = self.clock_call();
+        if answer != Ok(Answer::Nothing) {
+            push_answer(&mut self.out, answer);
         }
+        let quiet = quiet(&answer);
+        let pulse = matches!(answer, Ok(Answer::Pulse(_)));
+        if !quiet && (!pulse || host::first_of_a_phase(&self.board)) {
+            host::push_place(&mut self.out, &self.board);
+        }
+        quiet
+    }
+
+    /// Whether one more clock call would be quiet. It may use up what M and R lent, and leaves no
+    /// other trace: a clock call only reads the store.
+    fn would_be_quiet(&mut self) -> bool {
+        let before = self.board;
+        let answer = self.clock_call();
+        self.board = before;
+        quiet(&answer)
+    }
+
+    fn mark(&mut self, v: u32) {
+        self.out.extend_from_slice(b"N ");
+        push_decimal(&mut self.out, v as i64);
         self.out.push(b'\n');
     }
 
@@ -147,6 +182,32 @@ impl Calls {
             }
         }
     }
+}
+
+/// A clock call that ends a Q: it answers nothing or is refused.
+fn quiet(answer: &Result<Answer, Refusal>) -> bool {
+    matches!(answer, Ok(Answer::Nothing) | Err(_))
+}
+
+fn push_answer(out: &mut Vec<u8>, answer: Result<Answer, Refusal>) {
+    out.extend_from_slice(b"C ");
+    match answer {
+        Ok(Answer::Pulse(pulse)) => {
+            out.extend_from_slice(b"Pulse ");
+            out.extend(pulse.signs.map(|s| b"-.+"[(s + 1) as usize]));
+            out.push(b' ');
+            push_decimal(out, pulse.speed as i64);
+        }
+        Ok(Answer::Pause) => out.extend_from_slice(b"Pause"),
+        Ok(Answer::Send(byte)) => {
+            out.extend_from_slice(b"Send ");
+            push_decimal(out, byte as i64);
+        }
+        Ok(Answer::Done) => out.extend_from_slice(b"Done"),
+        Ok(Answer::Nothing) => out.extend_from_slice(b"Nothing"),
+        Err(refusal) => push_decimal(out, refusal as i64),
+    }
+    out.push(b'\n');
 }
 
 /// An optional minus and 1 to 10 digits.

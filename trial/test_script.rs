@@ -2,14 +2,14 @@
 
 use crate::script::Calls;
 
-fn printed(script: &[u8]) -> String {
+pub fn printed(script: &[u8]) -> String {
     let mut out = Vec::new();
     Calls::fresh().script(script, &mut out).unwrap();
     String::from_utf8(out).unwrap()
 }
 
 /// Whether each line by itself is right, by what it prints at the start of a script.
-fn all_right(lines: &[&str], right: bool) {
+pub fn all_right(lines: &[&str], right: bool) {
     for line in lines {
         assert_eq!(!printed(line.as_bytes()).contains('?'), right, "{line}");
     }

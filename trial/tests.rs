@@ -9,6 +9,7 @@ mod test_check;
 mod test_host;
 mod test_lines;
 mod test_movement;
+mod test_quiet;
 mod test_random;
 mod test_run;
 mod test_script;

@@ -3,6 +3,7 @@
 mod damage;
 mod gen_calls;
 mod gen_host;
+mod gen_quiet;
 mod gen_sheet;
 mod gen_walk;
 mod program;

@@ -1,4 +1,5 @@
-//! Scripts for `calls`: COUNT scenes with stops between any two calls and what a host does.
+//! Scripts for `calls`: COUNT scenes with stops between any two calls and what a host does, and in half
+//! of them one more that an E may pass over.
 
 use crate::damage;
 use crate::gen_walk;
@@ -7,9 +8,15 @@ use crate::rng::Rng;
 use std::io::Write;
 
 pub fn script(rng: &mut Rng, count: u64, out: &mut Vec<u8>) {
-    let mut script = Script { rng, out, altered: false, hurt_movement: false, stored: (0, 0, 0) };
-    for _ in 0..count {
+    let stored = (0, 0, 0);
+    let mut script =
+        Script { rng, out, altered: false, hurt_movement: false, tame: false, late: false, stored };
+    for scene in 0..count {
+        script.late = 2 * scene >= count;
         script.scene();
+    }
+    if script.rng.once_in(2) {
+        script.last_scene();
     }
     if script.rng.once_in(3) {
         script.out.pop(); // the last line needs no line feed
@@ -22,6 +29,10 @@ pub struct Script<'a> {
     /// Whether the host has set fields that no later call would mend.
     pub altered: bool,
     pub hurt_movement: bool,
+    /// Whether what is sent in this scene comes to an end soon, but for a rare jump back.
+    tame: bool,
+    /// Whether half of the script is written: an E comes only then, since it may pass over the rest.
+    pub late: bool,
     /// Used bytes, records and axes of the program sent last, if all of it was accepted.
     pub stored: (usize, usize, u8),
 }
@@ -43,8 +54,13 @@ impl Script<'_> {
     }
 
     /// A scene starts from a board that is set up afresh and ends with its state.
-    fn scene(&mut self) {
+    pub fn scene(&mut self) {
         let axes = self.rng.pick(&[1, 3, 7, 7]);
+        self.tame = self.rng.once_in(4);
+        if self.rng.once_in(4) {
+            let mark = self.rng.pick(&[0, 1, 7, 12, 1_000, 2_147_483_648, 4_294_967_295u64]);
+            self.say(format!("N {mark}"));
+        }
         if self.altered {
             self.repair();
         }
@@ -65,15 +81,21 @@ impl Script<'_> {
             self.store(axes);
             self.line("@0S");
         }
-        self.run(axes);
+        if self.tame {
+            self.run_quietly();
+        } else {
+            self.run(axes);
+        }
         self.say("S".to_string());
         if self.rng.once_in(3) {
             self.say("L".to_string());
         }
     }
 
+    /// Now and then farther than a few steps. The edges of 24 bits take too long for a run to its end.
     fn span(&mut self) -> Span {
-        Span { reach: if self.rng.once_in(30) { 400 } else { 7 }, edges: 60 }
+        let edges = if self.tame { u64::MAX } else { 60 };
+        Span { reach: if self.rng.once_in(30) { 400 } else { 7 }, edges }
     }
 
     fn move_directly(&mut self, axes: u8) {
@@ -90,14 +112,14 @@ impl Script<'_> {
         let span = self.span();
         let taste = Taste { axes, span, waits: true, long: false };
         let mut lines = program::sound(self.rng, &taste);
-        if self.rng.once_in(8) {
+        if self.rng.once_in(8) && !self.tame {
             let at = self.rng.below(lines.len() as u64) as usize;
             lines[at] = damage::hurt(self.rng, &lines[at]);
         }
         let used = lines.iter().map(|l| 8 + 4 * l.bytes().filter(|&b| b == b',').count()).sum();
         self.stored = (used, lines.len(), axes);
         self.line("@0i");
-        let hurt = self.rng.once_in(10);
+        let hurt = self.rng.once_in(10) && !self.tame;
         for text in lines {
             self.line(&text);
             if hurt && self.rng.once_in(3) {
@@ -112,7 +134,7 @@ impl Script<'_> {
         let calm = self.rng.once_in(2);
         for _ in 0..self.rng.between(1, 14) {
             let calls = if self.rng.once_in(15) { 40 } else { self.rng.below(6) };
-            self.say(format!("C {calls}"));
+            self.clocks(calls);
             match self.rng.below(14) {
                 0..=2 => self.stop(axes),
                 3..=6 => {
@@ -129,7 +151,7 @@ impl Script<'_> {
             }
         }
         let calls = self.rng.pick(&[1, 3, 20]);
-        self.say(format!("C {calls}"));
+        self.clocks(calls);
     }
 
     /// A stop, lines while it stands, and mostly a restart.
@@ -137,7 +159,7 @@ impl Script<'_> {
         self.byte(253);
         for _ in 0..self.rng.below(3) {
             match self.rng.below(8) {
-                0 => self.say(format!("C {}", 1)),
+                0 => self.clocks(1),
                 1 => self.byte(253),
                 2 => self.line("@0P"),
                 3 => self.any_line(axes),

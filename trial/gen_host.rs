@@ -125,6 +125,21 @@ impl Script<'_> {
             "H  1",
             "I 1 2 3 256",
             "\u{e9}",
+            "Q -1",
+            "Q 4294967296",
+            "Q 00000000001",
+            "Q 0000000002",
+            "Q -0",
+            "Q 1 1",
+            "E 1",
+            "E ",
+            "e",
+            "N",
+            "N -1",
+            "N 4294967296",
+            "N 0000000012",
+            "N -0",
+            "N 1 2",
         ]);
         match self.rng.below(12) {
             0 => self.long_line(),
@@ -136,7 +151,7 @@ impl Script<'_> {
     fn long_line(&mut self) {
         let len = self.rng.pick(&[59, 60, 61, 64, 128, 1_000]);
         let fill = self.rng.pick(&["0", " ", "B"]);
-        let tail = self.rng.pick(&["C 1", "B 64", "S"]);
+        let tail = self.rng.pick(&["C 1", "B 64", "S", "Q 1", "E", "N 1"]);
         self.say(format!("{}{tail}", fill.repeat(len)));
     }
 
@@ -168,7 +183,8 @@ impl Script<'_> {
         let value = self.rng.pick(values);
         self.hurt_movement |= name.starts_with("speed");
         self.say(format!("H {name} {value}"));
-        self.say("C 1".to_string());
+        let calls = self.rng.pick(&[1, 1, 1, 0, 2, 5]);
+        self.clocks(calls);
         if self.rng.once_in(3) {
             self.line("@0P");
         }
@@ -196,10 +212,11 @@ impl Script<'_> {
         let text =
             self.rng.pick(&["M 0", "M 16383", "M 16384", "M 16385", "R 0", "R 31", "R 32", "R 33", "R 1"]);
         self.say(text.to_string());
-        match self.rng.below(4) {
-            0 => self.say("C 2".to_string()),
-            1 => self.say("L".to_string()),
-            2 => self.byte(253),
+        match self.rng.below(5) {
+            0 => self.clocks(2),
+            1 => self.clocks(0),
+            2 => self.say("L".to_string()),
+            3 => self.byte(253),
             _ => self.line("@0P"),
         }
     }

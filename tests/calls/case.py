@@ -47,6 +47,21 @@ def nothing(n=1):
     return clock(*["Nothing"] * n)
 
 
+def told(job, place, origin=(0, 0, 0)):
+    return "T job %s place %d origin %d %d %d" % ((job, place) + origin)
+
+
+def run(n, *answers, end="over"):
+    """Q n: each answer is a text alone, or in a tuple with what the line T behind it tells."""
+    printed = []
+    for answer in answers:
+        if isinstance(answer, str):
+            printed.append("C " + answer)
+        else:
+            printed += ["C " + answer[0], told(*answer[1:])]
+    return [("Q %d" % n, printed + ["Q " + end])]
+
+
 def sends(character):
     return "Send %d" % ord(character)
 

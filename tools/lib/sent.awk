@@ -1,5 +1,5 @@
 # A program of the user's as a script for `calls` (trial/README.md), and its lines for whoever shows what came of them.
-# -v name=NAME: how messages call the file; -v lines=FILE: gets `number text` of each line that is sent. Lines end with a line feed, a
+# The environment's NAME: how messages call the file; -v lines=FILE: gets `number text` of each line that is sent. Lines end with a line feed, a
 # carriage return or both; a byte order mark, comments (#) and empty lines are passed over. Words between the lines: docs/MANUAL.md.
 BEGIN {
     for (i = 1; i < 256; i++) code[sprintf("%c", i)] = i
@@ -23,7 +23,7 @@ END {
 }
 
 function refuse(why) {
-    print "exercise: " name ": " why >"/dev/stderr"
+    print "exercise: " ENVIRON["NAME"] ": " why >"/dev/stderr"
     wrong = 1
 }
 

@@ -111,7 +111,8 @@ pub(crate) fn show_ticked(refusal: u16, answer: Answer) -> bool {
 
 // A mark.
 pub(crate) fn show_mark(n: u32) -> bool {
-    show_with(b"N ", n)
+    show_named(b"N ", n);
+    io::write_all(STDOUT_FILENO, b"\n")
 }
 
 // A byte received: its refusal, or its reply.

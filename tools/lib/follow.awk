@@ -1,0 +1,274 @@
+# Follows the stream that the program calls prints, and keeps what the table and the tool did. It draws and prints nothing: plate.awk
+# and measure.awk do, from what is kept here.
+#
+# Given: surface, the height of the plate in steps above the start (0 if it is not given).
+# Kept: x y z, the table counted from the start, by the pulses alone;
+#   made[1..n_made], in the order of happening, fields parted by spaces:
+#     go or cut x1 y1 z1 x2 y2 z2 speed record pass line, and for a sloping way the corners of its pulses, three numbers each;
+#     hole or left x y top x y bottom 0 record pass line; record and pass are - for a movement that was sent as a line;
+#   left right low high, the extent in x and y; deepest, the lowest z in the plate; has_z, whether z was ever set; moved, any pulse;
+#   home[1..n_homes], places that were the origin; begun[1..n_begun], places where records began to move, and begun_by[place];
+#   note[1..n_notes], what the board refused and how runs ended; sent_text, the characters that programs sent; limit, the last run
+#   was not over when the clock calls were.
+
+BEGIN {
+    surface += 0
+    x = y = z = left = right = low = high = deepest = bottom = off_x = off_y = has_z = moved = limit = n_made = n_notes = 0
+    top = surface > 0 ? surface : 0
+    low_line = 0
+    low_record = low_pass = "-"
+    keep_notes = 60
+    keep_sent = 40
+    record = pass = "-"
+    next_place = -1
+    origin_at(0, 0)
+}
+
+$0 == "B -" { next }
+$0 == "Q over" { limit = 0; next }
+$0 == pulse { count++; fresh = 1; next }
+/^C Pulse/ {
+    pulses(count)
+    pulse = $0
+    count = 1
+    fresh = 1
+    dx = sign(substr($3, 1, 1))
+    dy = sign(substr($3, 2, 1))
+    dz = sign(substr($3, 3, 1))
+    speed = $4
+    next
+}
+/^T / { tick(); fresh = 0; next }
+{
+    pulses(count)
+    count = fresh = 0
+}
+/^C / { answer = $2; byte = $3; next }
+/^N / { line = $2; next }
+/^B / { reply($2); next }
+/^S / { state(); next }
+$0 == "Q more" { limit = 1; next }
+/^\?/ { wrong = 1 }
+
+END { # awk runs the ENDs in the order of the files, so this one comes before those that draw and print
+    pulses(count)
+    close_way()
+    if (z < surface) {
+        is_left = 1
+        if (bottom < top) add_stay("left")
+    }
+    if (running && !limit) still_running()
+}
+
+function sign(c) { return c == "+" ? 1 : c == "-" ? -1 : 0 }
+
+# A line T: behind a pulse, that pulse is the first of its phase; behind another answer it says what is now at work.
+function tick() {
+    if (fresh) {
+        pulses(count - 1)
+        close_way()
+        run_is($3)
+        if ($3 == "Moving") begin_record($5 - 1)
+        else record = pass = "-"
+        pulses(1)
+    } else {
+        run_is($3)
+        answered($3)
+    }
+    count = 0
+    last_place = $3 == "Moving" ? $5 : -1
+    next_place = $5
+    origin_at($7 + off_x, $8 + off_y)
+}
+
+# What an answer that is no pulse was. A record without a step counts as a pass of it as well.
+function answered(job) {
+    if (answer == "Done" && next_place >= 0) passes[next_place]++
+    if (answer != "Send") return
+    if (job == "Idle") end_run(sprintf("%c", byte + 0))
+    else sent(sprintf("%c", byte + 0))
+}
+
+# The first phase of a record's movement begins a pass; its other phases come without anything between.
+function begin_record(place,    at) {
+    record = place
+    if (last_place != place + 1) {
+        passes[place]++
+        at = x " " y
+        if (!(at in begun_by)) {
+            begun[++n_begun] = at
+            begun_by[at] = place
+        } else if (index("," begun_by[at] ",", "," place ",") == 0 && length(begun_by[at]) < 24)
+            begun_by[at] = begun_by[at] "," place
+    }
+    pass = passes[place]
+}
+
+# A job is seen at work; where none was, this line of the file began it.
+function run_is(job) {
+    if (job == "Idle" || job == "Storing" || running) return
+    close_way()
+    running = job == "Direct" ? "movement" : "run"
+    run_line = line
+    last_place = -1
+    next_place = 0
+    split("", passes)
+}
+
+# The end of what ran, by a reply. Only a run of the program and a break are worth a note.
+function end_run(by) {
+    if (running == "run" || by == "F") add_note(running " of line " run_line " ended with " by, by)
+    running = ""
+    last_place = next_place = -1
+}
+
+function still_running() {
+    if (standing) add_note(running " of line " run_line " stands stopped", "")
+    else if (job_now == "Wait") add_note("run of line " run_line " waits for a character", "")
+    else add_note(running " of line " run_line " is not over", "")
+}
+
+# A reply to a byte. An F says stop or break; the state behind it tells which.
+function reply(text) {
+    if (text == "F") held = 1
+    else if (length(text) == 1 && text != "0") add_note("line " line ": " text, text == "G" ? "G" job_now : text)
+}
+
+# A line S: what is at work, and where the positions and the origin lie on the table.
+function state(    job) {
+    job = $23
+    standing = $25
+    if (held && standing) add_note("line " line ": F", "stop")
+    if (job != "Idle" && job != "Storing") run_is(job)
+    else if (running && held) end_run("F")
+    else if (running) end_run("a reset")
+    held = 0
+    job_now = job
+    if (job == "Wait") next_place = -1
+    if ($3 == 7) has_z = 1
+    off_x = x - $5
+    off_y = y - $6
+    origin_at($9 + off_x, $10 + off_y)
+}
+
+function add_note(text, why) {
+    n_notes++
+    if (n_notes > keep_notes) return
+    note[n_notes] = text
+    note_why[n_notes] = why
+}
+
+function sent(character) {
+    n_sent++
+    if (n_sent <= keep_sent) sent_text = sent_text character
+}
+
+function origin_at(ox, oy) {
+    if (n_homes && ox == home_x && oy == home_y) return
+    home_x = ox
+    home_y = oy
+    widen(ox, oy)
+    if ((ox, oy) in homes) return
+    homes[ox, oy] = 1
+    home[++n_homes] = ox " " oy
+}
+
+function widen(px, py) {
+    if (px < left) left = px
+    if (px > right) right = px
+    if (py < low) low = py
+    if (py > high) high = py
+}
+
+# The next n pulses alike, parted where the tool comes to the surface: a pulse is in the plate if either of its ends is.
+function pulses(n,    k) {
+    if (n < 1) return
+    moved = 1
+    if (dz == 0) {
+        stretch(n, z < surface)
+        return
+    }
+    k = dz < 0 ? z - surface : surface - z
+    if (k > n) k = n
+    if (k < 0) k = 0
+    stretch(k, dz > 0)
+    stretch(n - k, dz < 0)
+}
+
+# Pulses alike, all in the plate or none.
+function stretch(n, inside) {
+    if (n < 1) return
+    if (!open || inside != cuts) {
+        close_way()
+        open_way(inside)
+    }
+    if (dx || dy) aside = 1
+    corner(dx " " dy " " dz)
+    x += n * dx
+    y += n * dy
+    z += n * dz
+    widen(x, y)
+    if (z < deepest && inside) deepest = z
+}
+
+# A corner of the way is kept where the direction changes. Beyond 160 steps both ways no step is wide enough to be drawn, and none is kept.
+function corner(direction) {
+    if (direction == heading) return
+    if (heading != "" && n_corners < 600 && (right - left <= 160 || high - low <= 160)) {
+        n_corners++
+        corners = corners " " x " " y " " z
+    } else if (heading != "") n_corners = 601
+    heading = direction
+}
+
+function open_way(inside) {
+    open = 1
+    cuts = inside
+    way_speed = speed
+    aside = 0
+    x1 = x
+    y1 = y
+    z1 = z
+    corners = heading = ""
+    n_corners = 0
+}
+
+# The way since the phase began, or since the tool came to the surface. One that goes aside is a line; one that does not is down or up.
+function close_way() {
+    if (!open) return
+    open = 0
+    if (!aside) {
+        upright()
+        return
+    }
+    if (bottom < top && bottom < z1) add_stay("hole")
+    made[++n_made] = (cuts ? "cut" : "go") " " x1 " " y1 " " z1 " " x " " y " " z " " way_speed " " by_whom() (n_corners < 601 ? corners : "")
+    top = bottom = z
+}
+
+# Down or up at one place. A hole is where the tool went deeper than it came and than it goes on: top is the height at which it came, or
+# the surface, and bottom the lowest since.
+function upright() {
+    if (!cuts) {
+        top = bottom = z
+        return
+    }
+    if (z < bottom) {
+        bottom = z
+        low_record = record
+        low_pass = pass
+        low_line = run_line
+    }
+    if (z < surface) return
+    if (bottom < top) add_stay("hole")
+    top = bottom = z
+}
+
+function by_whom() { return record " " pass " " run_line }
+
+# A hole at the place where the tool stands or stood last, or the tool left in the plate. A way aside that has just ended began there.
+function add_stay(what,    px, py) {
+    px = aside ? x1 : x
+    py = aside ? y1 : y
+    made[++n_made] = what " " px " " py " " top " " px " " py " " bottom " 0 " low_record " " low_pass " " low_line
+}

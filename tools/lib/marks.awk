@@ -1,0 +1,157 @@
+# Draws what stands on the lines of the plot: arrows, holes, the marks of start, end and origins, and small figures that keep clear of each
+# other. Behind plot.awk, in whose measure it draws.
+
+# Arrows show the direction in the middle of a line that is long enough, and now and then along short ones. There is at most one in a
+# square of 24 units, and 200 in all; a way back over the same line has its arrow at a third.
+function draw_arrows(    i, c) {
+    for (i = 1; i <= n_made; i++) {
+        if (substr(made[i], 1, 3) != "cut" && substr(made[i], 1, 3) != "go ") continue
+        corners_of(i)
+        arrow_on(across(at_x[1]), down(at_y[1]), across(at_x[n_at]), down(at_y[n_at]), colour(speed))
+        if (n_arrows >= 200) break
+    }
+    for (c = 1; c <= 5; c++) if (arrows[c] != "") print "<path class=\"arrows\" d=\"" arrows[c] "\" fill=\"#" colours[c] "\"/>"
+}
+
+function arrow_on(x1, y1, x2, y2, c,    long) {
+    long = length_of(x1, y1, x2, y2)
+    if (long >= 2600) {
+        along = 0
+        if (!arrow_at(x1, y1, x2, y2, 2, c, long) && long >= 5000) arrow_at(x1, y1, x2, y2, 3, c, long)
+        return
+    }
+    if (along == 0 || x1 != along_x || y1 != along_y) {
+        along = 0
+        tail_x = x1
+        tail_y = y1
+        tail = 0
+    }
+    along_x = x2
+    along_y = y2
+    along += long
+    if (along - tail < 1200) return
+    if (along >= 9000 && arrow_at(tail_x, tail_y, x2, y2, 1, c, length_of(tail_x, tail_y, x2, y2))) along = 0.001
+    tail = along
+    tail_x = x2
+    tail_y = y2
+}
+
+# An arrowhead at a fraction of a way, if its square has none.
+function arrow_at(x1, y1, x2, y2, parts, c, long,    px, py, ux, uy, square) {
+    if (long < 1) return 0
+    ux = (x2 - x1) / long
+    uy = (y2 - y1) / long
+    px = x1 + (x2 - x1) / parts + 100 * ux
+    py = y1 + (y2 - y1) / parts + 100 * uy
+    square = int(px / 2400) " " int(py / 2400)
+    if (square in has_arrow) return 0
+    has_arrow[square] = 1
+    n_arrows++
+    arrows[c] = arrows[c] "M" int(px + 450 * ux + 0.5) " " int(py + 450 * uy + 0.5) \
+        "L" int(px - 450 * ux + 380 * uy + 0.5) " " int(py - 450 * uy - 380 * ux + 0.5) \
+        "L" int(px - 450 * ux - 380 * uy + 0.5) " " int(py - 450 * uy + 380 * ux + 0.5) "z"
+    return 1
+}
+
+# Holes: a circle for each place, its shade that of the deepest one there.
+function draw_holes(    i, f, n, place, size, k) {
+    for (i = 1; i <= n_made; i++) {
+        if (substr(made[i], 1, 4) != "hole") continue
+        split(made[i], f, " ")
+        place = across(f[2]) " " down(f[3])
+        if (!(place in hole_depth)) hole_place[++n] = place
+        if (surface - f[7] > hole_depth[place]) hole_depth[place] = surface - f[7]
+    }
+    if (!n) return
+    hole_size = size_of_holes(n)
+    print "<g class=\"holes\" stroke=\"#000000\" stroke-width=\"" int(hole_size * 0.28 + 0.5) "\">"
+    for (k = 1; k <= n; k++) {
+        split(hole_place[k], f, " ")
+        used_shade[shade(hole_depth[hole_place[k]])] = 1
+        print circle(f[1], f[2], hole_size, greys[shade(hole_depth[hole_place[k]])])
+        take(f[1] - hole_size, f[2] - hole_size, f[1] + hole_size, f[2] + hole_size)
+    }
+    print "</g>"
+}
+
+# The radius of the holes: smaller where one stands close to the next.
+function size_of_holes(n,    k, f, g, size, apart) {
+    size = 550
+    for (k = 2; k <= n; k++) {
+        split(hole_place[k - 1], f, " ")
+        split(hole_place[k], g, " ")
+        apart = length_of(f[1], f[2], g[1], g[2])
+        size = most(130, least(size, apart * 0.38))
+    }
+    return int(size)
+}
+
+function circle(x, y, radius, fill) { return "<circle cx=\"" x "\" cy=\"" y "\" r=\"" radius "\" fill=\"#" fill "\"/>" }
+
+# The marks, each at a place: origin, start, end, and the tool left down.
+function mark_origin(x, y) { print "<path d=\"M" x " " y "m-1300 0h2600m-1300 -1300v2600\" stroke=\"#000000\" stroke-width=\"160\"/>" }
+function mark_start(x, y) { print "<path d=\"M" x " " y "m0 -1000l850 1500h-1700z\" fill=\"#117733\" fill-opacity=\"0.7\"/>" }
+function mark_end(x, y) { print "<path d=\"M" x " " y "m-950 -950h1900v1900h-1900z\" stroke=\"#CC0000\" stroke-width=\"220\"/>" }
+function mark_left(x, y) {
+    print "<path class=\"left\" d=\"M" x " " y "m0 -700l700 700l-700 700l-700 -700z\" fill=\"#000000\" stroke=\"#FFFFFF\" stroke-width=\"120\"/>"
+}
+
+function draw_marks(    k, f) {
+    for (k = 1; k <= n_homes; k++) {
+        split(home[k], f, " ")
+        mark_origin(across(f[1]), down(f[2]))
+        if (k <= 100) take(across(f[1]) - 900, down(f[2]) - 900, across(f[1]) + 900, down(f[2]) + 900)
+    }
+    mark_start(across(0), down(0))
+    take(across(0) - 700, down(0) - 900, across(0) + 700, down(0) + 400)
+    mark_end(across(x), down(y))
+    take(across(x) - 900, down(y) - 900, across(x) + 900, down(y) + 900)
+    if (is_left) mark_left(across(x), down(y))
+}
+
+# What small figures keep clear of, in squares of four units.
+function take(x1, y1, x2, y2,    i, j) {
+    for (i = int(x1 / 400); i <= int(x2 / 400); i++) for (j = int(y1 / 400); j <= int(y2 / 400); j++) taken[i, j] = 1
+}
+
+function is_free(x1, y1, x2, y2,    i, j) {
+    if (x1 < 2100 || x2 > 65900 || y1 < 5100 || y2 > 53900) return 0
+    for (i = int(x1 / 400); i <= int(x2 / 400); i++) for (j = int(y1 / 400); j <= int(y2 / 400); j++) if ((i, j) in taken) return 0
+    return 1
+}
+
+# Figures near a place, on the first of eight sides that is free; nothing if none is.
+function figures(text, x, y, style,    side, w, left_x, top_y) {
+    w = length(text) * 650
+    for (side = 1; side <= 8; side++) {
+        left_x = x + (side == 1 || side == 3 ? 700 : side == 2 || side == 4 ? -700 - w : side < 7 ? -w / 2 : side == 7 ? 1300 : -1300 - w)
+        top_y = y + (side < 3 ? -1500 : side < 5 ? 500 : side == 5 ? -2200 : side == 6 ? 1100 : -500)
+        if (!is_free(left_x, top_y, left_x + w, top_y + 1000)) continue
+        take(left_x, top_y, left_x + w, top_y + 1000)
+        print "<text x=\"" in_units(left_x) "\" y=\"" in_units(top_y + 950) "\" " style ">" text "</text>"
+        return 1
+    }
+    return 0
+}
+
+function in_units(n) { return sprintf("%d.%02d", int(n / 100), int(n) % 100) }
+
+# The places of the records at the starts of their movements.
+function draw_places(    k, f) {
+    for (k = 1; k <= n_begun; k++) {
+        split(begun[k], f, " ")
+        if (figures(begun_by[begun[k]], across(f[1]), down(f[2]), "class=\"place\" font-size=\"11\" fill=\"#555555\"")) has_places = 1
+    }
+}
+
+# The numbers of the rows at their holes and cuts.
+function draw_numbers(    r, f, t) {
+    for (r = 1; r <= n_rows && r <= 60; r++) {
+        split(made[row[r]], f, " ")
+        for (t = 1; t <= 3; t++) if (number_at(r, f, t == 1 ? 0.5 : t == 2 ? 0.3 : 0.7)) break
+    }
+}
+
+function number_at(r, f, t) {
+    return figures(r, across(f[2] + (f[5] - f[2]) * t), down(f[3] + (f[6] - f[3]) * t), "class=\"number\" font-size=\"11\" font-weight=\"bold\" fill=\"#B00020\"")
+}

@@ -1,0 +1,33 @@
+# Prints the table of measures: one row for each hole and each cut that the program leaves on the plate, as text or, with csv=1, as comma
+# separated values. Behind follow.awk, scale.awk and rows.awk.
+
+END {
+    find_rows()
+    if (csv) print_csv()
+    else print_text()
+}
+
+function print_text(    r) {
+    measure_columns(n_rows)
+    if (in_mm) print units_text()
+    fill_heads()
+    print cells_text()
+    for (r = 1; r <= n_rows; r++) {
+        fill_cells(r, 0)
+        print cells_text()
+    }
+    print sum_text()
+    if (limit) print "not over after 100,000 clock calls"
+}
+
+function print_csv(    r, c, text) {
+    text = "from_x,from_y,from_z,to_x,to_y,to_z,depth"
+    if (in_mm) text = text ",from_x_mm,from_y_mm,from_z_mm,to_x_mm,to_y_mm,to_z_mm,depth_mm"
+    print "number,what," text ",record,pass,line"
+    for (r = 1; r <= n_rows; r++) {
+        fill_cells(r, 1)
+        text = cell[1]
+        for (c = 2; c <= n_cells; c++) text = text "," cell[c]
+        print text
+    }
+}

@@ -1,0 +1,38 @@
+# The picture and the table of measures of a stream; to be read with the command "." by a script that has set `lib` to this folder.
+# They use: scale, as scale_of prints it, or empty; surface, as surface_of prints it, or empty; title; numbers, 1 or empty.
+
+is_whole() { # STREAM: whether calls has printed it to its end
+    case $(tail -n 1 "$1") in
+    'S '* | 'Q more') ! grep -q '^?' "$1" ;;
+    *) return 1 ;;
+    esac
+}
+
+follow() { # STREAM FILE...: runs these awk files behind those that follow the stream
+    stream=$1
+    shift
+    files=
+    for file in follow scale rows "$@"; do
+        files="$files -f $file.awk"
+    done
+    set -- -v "surface=${surface:-0}"
+    if [ -n "$scale" ]; then
+        set -- "$@" -v "per_x=${scale%% *}" -v "per_z=${scale##* }"
+        scale_y=${scale#* }
+        set -- "$@" -v "per_y=${scale_y% *}"
+    fi
+    # The files are named without their folder, whose name may have spaces.
+    # shellcheck disable=SC2086
+    (cd "$lib" && LC_ALL=C TITLE=$title exec awk "$@" -v "numbers=$numbers" -v "csv=$csv" $files) <"$stream"
+}
+
+picture_of() { # STREAM: prints the picture
+    csv=
+    follow "$1" plot marks plate
+}
+
+measures_of() { # STREAM [csv]: prints the table of measures, as text or as comma separated values
+    csv=
+    [ "${2-}" != csv ] || csv=1
+    follow "$1" measure
+}

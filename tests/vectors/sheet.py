@@ -6,7 +6,8 @@
 
 A line of stdin is a letter and four 64-bit patterns as sixteen hexadecimal digits each: lead, steps, gear and the value.
 D is a distance in mm, S a speed in mm per second, M one in mm per minute, N one in whole steps per second, whose pattern
-is the whole number in two's complement. A line of stdout is the refusal, or 0, and the value.
+is the whole number in two's complement. A line of stdout is the refusal, or 0, and the value. Behind the vectors stand lines
+that are none, each answered with `?` and its number.
 
 Every operation is taken on fractions and rounded once to the nearest 64-bit float, a tie to the even one, by `nearest_float`
 below. The machine's own operation must give the same float, or the script stops.
@@ -254,20 +255,33 @@ def line(kind, axis, v):
     return " ".join([kind] + ["%016x" % w for w in words]) + "\n"
 
 
+def shapes():
+    """Lines of every kind that are no vectors, and what they are answered with; None is a line that is none. The last has no line feed."""
+    right = line("D", (5.0, 400.0, 1.0), 10.0)[:-1]
+    wrong = ["", " ", "D", right.lower(), right.upper(), "X" + right[1:], right[:-1], right + "0", right + " ", " " + right[:-1]]
+    wrong += [right.replace(" ", "\t"), right[:1] + "  " + right[3:], right[:20] + "g" + right[21:], right[:20] + "-" + right[21:]]
+    wrong += [right + "\r\r", right[:-1] + "\r", right + right, "D" * 69, "0" * 1000]
+    for text in wrong:
+        yield text + "\n", None
+    yield right + "\r\n", "0 800"
+    yield right, "0 800"
+
+
 def main():
     rows = list(vectors())
+    lines = [(line(*row), "%d %d" % expected(*row)) for row in rows] + list(shapes())
     files = {
-        "stdin": "".join(line(*row) for row in rows),
-        "stdout": "".join("%d %d\n" % expected(*row) for row in rows),
+        "stdin": "".join(text for text, _ in lines),
+        "stdout": "".join("%s\n" % (answer or "? %d" % n) for n, (_, answer) in enumerate(lines, 1)),
     }
     for name, text in files.items():
         path = os.path.join(FOLDER, name)
         if "--check" in sys.argv[1:]:
-            with open(path) as f:
+            with open(path, newline="") as f:
                 if f.read() != text:
                     sys.exit(f"{path} is not what this script writes")
         else:
-            with open(path, "w") as f:
+            with open(path, "w", newline="") as f:
                 f.write(text)
     print(len(rows), "vectors")
 

@@ -5,7 +5,7 @@ BEGIN {
     if (part == "axis") exit axis_of(ARGV[1], ARGV[2], ARGV[3])
 }
 NR == 1 && substr($0, 1, 3) == "\357\273\277" { $0 = substr($0, 4) }
-{ gsub(/^[ \t]+|[ \t\r]+$/, "") }
+{ gsub(/^[ \t]+|[ \t]+$/, "") }
 /^#/ || $0 == "" { next }
 {
     take($0)

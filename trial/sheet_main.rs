@@ -26,8 +26,9 @@ fn convert(line: &str) -> Option<Result<i32, u8>> {
 }
 
 fn main() -> io::Result<()> {
-    let mut text = String::new();
-    io::stdin().lock().read_to_string(&mut text)?;
+    let mut bytes = Vec::new();
+    io::stdin().lock().read_to_end(&mut bytes)?;
+    let text = String::from_utf8_lossy(&bytes);
     let mut out = Vec::new();
     for (i, line) in text.lines().enumerate() {
         match convert(line) {

@@ -15,8 +15,7 @@ BEGIN {
     surface += 0
     x = y = z = left = right = low = high = deepest = bottom = off_x = off_y = has_z = moved = limit = n_made = n_notes = 0
     top = surface > 0 ? surface : 0
-    low_line = 0
-    low_record = low_pass = "-"
+    low_record = low_pass = low_line = "-"
     keep_notes = 60
     keep_sent = 40
     record = pass = "-"
@@ -44,9 +43,9 @@ $0 == pulse { count++; fresh = 1; next }
     count = fresh = 0
 }
 /^C / { answer = $2; byte = $3; next }
-/^N / { line = $2; next }
+/^N / { line = $2; limit = 0; next }
 /^B / { reply($2); next }
-/^S / { state(); next }
+/^S / { state(); limit = 0; next }
 $0 == "Q more" { limit = 1; next }
 /^\?/ { wrong = 1 }
 
@@ -76,8 +75,8 @@ function tick() {
         answered($3)
     }
     count = 0
-    last_place = $3 == "Moving" ? $5 : -1
-    next_place = $5
+    last_place = $3 == "Moving" ? $5 + 0 : -1
+    next_place = $5 + 0
     origin_at($7 + off_x, $8 + off_y)
 }
 
@@ -115,9 +114,9 @@ function run_is(job) {
     split("", passes)
 }
 
-# The end of what ran, by a reply. Only a run of the program and a break are worth a note.
+# The end of what ran, by a reply, or by none for a reset. The 0 of a movement that was sent as a line is not worth a note.
 function end_run(by) {
-    if (running == "run" || by == "F") add_note(running " of line " run_line " ended with " by, by)
+    if (running == "run" || by != "0") add_note(running " of line " run_line " ended " (by == "" ? "by a reset" : "with " by), by)
     running = ""
     last_place = next_place = -1
 }
@@ -128,23 +127,22 @@ function still_running() {
     else add_note(running " of line " run_line " is not over", "")
 }
 
-# A reply to a byte. An F says stop or break; the state behind it tells which.
+# A reply to a byte. An F says stop or break; the state behind it tells which. What a 5 and a G say depends on what was at work.
 function reply(text) {
     if (text == "F") held = 1
-    else if (length(text) == 1 && text != "0") add_note("line " line ": " text, text == "G" ? "G" job_now : text)
+    else if (length(text) == 1 && text != "0") add_note("line " line ": " text, text == "G" || text == "5" ? text job_now : text)
 }
 
 # A line S: what is at work, and where the positions and the origin lie on the table.
 function state(    job) {
     job = $23
-    standing = $25
+    standing = $25 + 0
     if (held && standing) add_note("line " line ": F", "stop")
     if (job != "Idle" && job != "Storing") run_is(job)
     else if (running && held) end_run("F")
-    else if (running) end_run("a reset")
+    else if (running) end_run("")
     held = 0
     job_now = job
-    if (job == "Wait") next_place = -1
     if ($3 == 7) has_z = 1
     off_x = x - $5
     off_y = y - $6

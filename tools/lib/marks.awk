@@ -2,8 +2,9 @@
 # other. Behind plot.awk, in whose measure it draws.
 
 # Arrows show the direction in the middle of a line that is long enough, and now and then along short ones. There is at most one in a
-# square of 24 units, and 200 in all; a way back over the same line has its arrow at a third.
+# square, larger if there is much to draw, and 200 in all; a way back over the same line has its arrow at a third.
 function draw_arrows(    i, c) {
+    arrow_square = n_made > 300 ? 6000 : 2400
     for (i = 1; i <= n_made; i++) {
         if (substr(made[i], 1, 3) != "cut" && substr(made[i], 1, 3) != "go ") continue
         corners_of(i)
@@ -13,37 +14,58 @@ function draw_arrows(    i, c) {
     for (c = 1; c <= 5; c++) if (arrows[c] != "") print "<path class=\"arrows\" d=\"" arrows[c] "\" fill=\"#" colours[c] "\"/>"
 }
 
-function arrow_on(x1, y1, x2, y2, c,    long) {
+function arrow_on(x1, y1, x2, y2, c,    long, way) {
     long = length_of(x1, y1, x2, y2)
-    if (long >= 2600) {
-        along = 0
-        if (!arrow_at(x1, y1, x2, y2, 2, c, long) && long >= 5000) arrow_at(x1, y1, x2, y2, 3, c, long)
+    if (long < 2600) {
+        arrow_along(x1, y1, x2, y2, c, long)
         return
     }
+    along = 0
+    way = x1 " " y1 " " x2 " " y2
+    if (way in has_way) return
+    has_way[way] = 1
+    if (n_at > 2) arrow_on_step(c)
+    else if (!arrow_at(x1, y1, x2, y2, 2, c) && long >= 5000) arrow_at(x1, y1, x2, y2, 3, c)
+}
+
+# Where steps are drawn, the arrow lies on the piece in the middle, or on one beside it.
+function arrow_on_step(c,    k) {
+    k = int(n_at / 2)
+    if (arrow_on_piece(k, c) || arrow_on_piece(k - 1, c)) return
+    arrow_on_piece(k + 1, c)
+}
+
+function arrow_on_piece(k, c) {
+    if (k < 1 || k >= n_at) return 0
+    return arrow_at(across(at_x[k]), down(at_y[k]), across(at_x[k + 1]), down(at_y[k + 1]), 2, c)
+}
+
+# Short ways that follow each other: an arrow each 100 units, in the direction of the last 50.
+function arrow_along(x1, y1, x2, y2, c, long) {
     if (along == 0 || x1 != along_x || y1 != along_y) {
-        along = 0
+        along = tail = 0
         tail_x = x1
         tail_y = y1
-        tail = 0
     }
     along_x = x2
     along_y = y2
     along += long
-    if (along - tail < 1200) return
-    if (along >= 9000 && arrow_at(tail_x, tail_y, x2, y2, 1, c, length_of(tail_x, tail_y, x2, y2))) along = 0.001
+    if (along - tail < 5000) return
+    if (along >= 10000 && arrow_at(tail_x, tail_y, x2, y2, 1, c)) along = 0.001
     tail = along
     tail_x = x2
     tail_y = y2
 }
 
 # An arrowhead at a fraction of a way, if its square has none.
-function arrow_at(x1, y1, x2, y2, parts, c, long,    px, py, ux, uy, square) {
+function arrow_at(x1, y1, x2, y2, parts, c,    long, px, py, ux, uy, square) {
+    long = length_of(x1, y1, x2, y2)
     if (long < 1) return 0
     ux = (x2 - x1) / long
     uy = (y2 - y1) / long
     px = x1 + (x2 - x1) / parts + 100 * ux
     py = y1 + (y2 - y1) / parts + 100 * uy
-    square = int(px / 2400) " " int(py / 2400)
+    square = int(px / arrow_square) " " int(py / arrow_square)
     if (square in has_arrow) return 0
     has_arrow[square] = 1
     n_arrows++
@@ -54,7 +76,7 @@ function arrow_at(x1, y1, x2, y2, parts, c, long,    px, py, ux, uy, square) {
 }
 
 # Holes: a circle for each place, its shade that of the deepest one there.
-function draw_holes(    i, f, n, place, size, k) {
+function draw_holes(    i, f, n, place, k, s) {
     for (i = 1; i <= n_made; i++) {
         if (substr(made[i], 1, 4) != "hole") continue
         split(made[i], f, " ")
@@ -67,8 +89,9 @@ function draw_holes(    i, f, n, place, size, k) {
     print "<g class=\"holes\" stroke=\"#000000\" stroke-width=\"" int(hole_size * 0.28 + 0.5) "\">"
     for (k = 1; k <= n; k++) {
         split(hole_place[k], f, " ")
-        used_shade[shade(hole_depth[hole_place[k]])] = 1
-        print circle(f[1], f[2], hole_size, greys[shade(hole_depth[hole_place[k]])])
+        s = shade(hole_depth[hole_place[k]])
+        used_shade[s] = 1
+        print circle(f[1], f[2], hole_size, grey(s))
         take(f[1] - hole_size, f[2] - hole_size, f[1] + hole_size, f[2] + hole_size)
     }
     print "</g>"
@@ -100,12 +123,14 @@ function draw_marks(    k, f) {
     for (k = 1; k <= n_homes; k++) {
         split(home[k], f, " ")
         mark_origin(across(f[1]), down(f[2]))
-        if (k <= 100) take(across(f[1]) - 900, down(f[2]) - 900, across(f[1]) + 900, down(f[2]) + 900)
+        take(across(f[1]) - 1300, down(f[2]), across(f[1]) + 1300, down(f[2]))
+        take(across(f[1]), down(f[2]) - 1300, across(f[1]), down(f[2]) + 1300)
     }
     mark_start(across(0), down(0))
-    take(across(0) - 700, down(0) - 900, across(0) + 700, down(0) + 400)
+    take(across(0) - 300, down(0) - 900, across(0) + 300, down(0))
+    take(across(0) - 800, down(0), across(0) + 800, down(0) + 500)
     mark_end(across(x), down(y))
-    take(across(x) - 900, down(y) - 900, across(x) + 900, down(y) + 900)
+    take(across(x) - 1000, down(y) - 1000, across(x) + 1000, down(y) + 1000)
     if (is_left) mark_left(across(x), down(y))
 }
 
@@ -120,14 +145,38 @@ function is_free(x1, y1, x2, y2,    i, j) {
     return 1
 }
 
-# Figures near a place, on the first of eight sides that is free; nothing if none is.
-function figures(text, x, y, style,    side, w, left_x, top_y) {
+# Small figures keep clear of all lines too: of a groove as wide as it is, of another line as thin. Of very many lines the first are
+# enough.
+function take_lines(    i, k, half) {
+    to_take = 6000
+    for (i = 1; i <= n_made && to_take > 0; i++) {
+        if (substr(made[i], 1, 3) != "cut" && substr(made[i], 1, 3) != "go ") continue
+        corners_of(i)
+        half = what == "cut" ? 550 : 0
+        for (k = 1; k < n_at; k++) take_line(across(at_x[k]), down(at_y[k]), across(at_x[k + 1]), down(at_y[k + 1]), half)
+    }
+}
+
+function take_line(x1, y1, x2, y2, half,    n, k, px, py) {
+    if ((x1, y1, x2, y2) in has_taken) return
+    has_taken[x1, y1, x2, y2] = 1
+    n = int(length_of(x1, y1, x2, y2) / 400) + 1
+    to_take -= half ? n * 3 : n
+    for (k = 0; k <= n; k++) {
+        px = x1 + (x2 - x1) * k / n
+        py = y1 + (y2 - y1) * k / n
+        take(px - half, py - half, px + half, py + half)
+    }
+}
+
+# Figures near a place, on the first of eight sides that is free, close by or a little farther; nothing if none is.
+function figures(text, x, y, style,    side, far, w, left_x, top_y) {
     w = length(text) * 650
-    for (side = 1; side <= 8; side++) {
-        left_x = x + (side == 1 || side == 3 ? 700 : side == 2 || side == 4 ? -700 - w : side < 7 ? -w / 2 : side == 7 ? 1300 : -1300 - w)
-        top_y = y + (side < 3 ? -1500 : side < 5 ? 500 : side == 5 ? -2200 : side == 6 ? 1100 : -500)
-        if (!is_free(left_x, top_y, left_x + w, top_y + 1000)) continue
-        take(left_x, top_y, left_x + w, top_y + 1000)
+    for (far = 0; far <= 900; far += 900) for (side = 1; side <= 8; side++) {
+        left_x = x + (side == 1 || side == 3 ? 700 + far : side == 2 || side == 4 ? -700 - w - far : side < 7 ? -w / 2 : side == 7 ? 1300 + far : -1300 - w - far)
+        top_y = y + (side < 3 ? -1500 - far : side < 5 ? 500 + far : side == 5 ? -2200 - far : side == 6 ? 1100 + far : -500)
+        if (!is_free(left_x - 200, top_y, left_x + w + 200, top_y + 1000)) continue
+        take(left_x - 200, top_y, left_x + w + 200, top_y + 1000)
         print "<text x=\"" in_units(left_x) "\" y=\"" in_units(top_y + 950) "\" " style ">" text "</text>"
         return 1
     }
@@ -136,11 +185,15 @@ function figures(text, x, y, style,    side, w, left_x, top_y) {
 
 function in_units(n) { return sprintf("%d.%02d", int(n / 100), int(n) % 100) }
 
-# The places of the records at the starts of their movements.
-function draw_places(    k, f) {
+# The places of the records at the starts of their movements. Where there are very many, each is shown once.
+function draw_places(    k, f, by) {
     for (k = 1; k <= n_begun; k++) {
+        by = begun_by[begun[k]]
+        if (n_begun > 120 && by in has_place) continue
         split(begun[k], f, " ")
-        if (figures(begun_by[begun[k]], across(f[1]), down(f[2]), "class=\"place\" font-size=\"11\" fill=\"#555555\"")) has_places = 1
+        if (!figures(by, across(f[1]), down(f[2]), "class=\"place\" font-size=\"11\" fill=\"#555555\"")) continue
+        has_places = 1
+        has_place[by] = 1
     }
 }
 

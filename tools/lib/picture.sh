@@ -23,7 +23,7 @@ follow() { # STREAM FILE...: runs these awk files behind those that follow the s
     fi
     # The files are named without their folder, whose name may have spaces.
     # shellcheck disable=SC2086
-    (cd "$lib" && LC_ALL=C TITLE=$title exec awk "$@" -v "numbers=$numbers" -v "csv=$csv" $files) <"$stream"
+    (cd "$lib" && LC_ALL=C TITLE=$title awk "$@" -v "numbers=$numbers" -v "csv=$csv" $files) <"$stream"
 }
 
 picture_of() { # STREAM: prints the picture

@@ -13,6 +13,7 @@ END {
     print "<g transform=\"scale(0.01)\" fill=\"none\">"
     draw_plot()
     print "</g>"
+    take_lines()
     if (numbers) draw_numbers()
     draw_places()
     legend()
@@ -30,6 +31,7 @@ function draw_plot() {
         draw_travel()
         draw_lines("cut", 240)
     }
+    draw_dots()
     draw_arrows()
     draw_holes()
     draw_marks()
@@ -42,8 +44,9 @@ function begin(    title) {
     print "<title>" (title == "" ? "The plate seen from above" : escaped(title)) "</title>"
     print "<rect width=\"960\" height=\"" height "\" fill=\"#FFFFFF\"/>"
     print "<rect x=\"20\" y=\"50\" width=\"640\" height=\"490\" fill=\"none\" stroke=\"#BBBBBB\"/>"
-    write(20, 34, title == "" ? "The plate seen from above" : escaped(shortened(title, 60)), "font-size=\"20\"")
-    if (title != "") write(940, 34, "The plate seen from above", "text-anchor=\"end\" fill=\"#555555\"")
+    write(20, 34, title == "" ? "The plate seen from above" : escaped(shortened(title, limit ? 40 : 55)), "font-size=\"20\"")
+    if (limit) write(940, 34, "not over after 100,000 clock calls", "text-anchor=\"end\" font-size=\"18\" font-weight=\"bold\" fill=\"#B00020\"")
+    else if (title != "") write(940, 34, "The plate seen from above", "text-anchor=\"end\" fill=\"#555555\"")
     if (!moved) write(340, 245, "no movement", "text-anchor=\"middle\"")
 }
 
@@ -95,23 +98,24 @@ function escaped(text) {
 # The legend: only what the plot has, one entry below the other.
 function legend(    c, s) {
     at_y_now = 66
-    if (is_flat) entry_line("movement", "go", 180, "")
+    if (is_flat && moved) entry_line("movement", "go", 180, "")
     else {
         if (has_kind("go")) entry_line("tool up", "go", 130, " stroke-dasharray=\"500 400\"")
         if (n_of["cut"]) entry_line("cutting", "cut", 240, "")
         if (n_of["hole"]) entry_mark("drilled hole", "hole")
         if (is_left) entry_mark("tool left down at " said(z, "z"), "left")
     }
+    if (has_dots) entry_mark("one step", "dot")
     entry_mark("start", "start")
     entry_mark("end", "end")
     entry_mark("origin", "origin")
-    if (has_places) entry_figure("3", "place of the record that begins here", "fill=\"#555555\"")
+    if (has_places) entry_figure("3", "record that begins here", "fill=\"#555555\"")
     if (numbers && n_rows) entry_figure("3", "row of the table below", "font-weight=\"bold\" fill=\"#B00020\"")
     if (moved) legend_speeds()
     if (n_of["cut"] + n_of["hole"]) legend_depths()
-    print "<path d=\"M860 628h44l-7 -4m7 4l-7 4M860 628v-44l-4 7m4 -7l4 7\" stroke=\"#000000\" fill=\"none\"/>"
-    write(910, 632, "x")
-    write(857, 578, "y")
+    print "<path d=\"M36 628h30l-7 -4m7 4l-7 4M36 628v-30l-4 7m4 -7l4 7\" stroke=\"#000000\" fill=\"none\"/>"
+    write(71, 632, "x")
+    write(20, 605, "y")
 }
 
 function has_kind(kind,    i) {
@@ -121,7 +125,7 @@ function has_kind(kind,    i) {
 
 function entry(text) {
     write(745, at_y_now + 4, text)
-    at_y_now += 23
+    at_y_now += 25
 }
 
 function entry_line(text, kind, width, dashes) {
@@ -136,6 +140,7 @@ function entry_line(text, kind, width, dashes) {
 function entry_mark(text, kind) {
     print "<g transform=\"scale(0.01)\" fill=\"none\">"
     if (kind == "hole") print "<g stroke=\"#000000\" stroke-width=\"154\">" circle(71000, at_y_now * 100, 550, greys[2]) "</g>"
+    else if (kind == "dot") print "<path d=\"M71000 " at_y_now * 100 "h0\" stroke=\"#333333\" stroke-width=\"440\" stroke-linecap=\"round\"/>"
     else if (kind == "left") mark_left(71000, at_y_now * 100)
     else if (kind == "start") mark_start(71000, at_y_now * 100)
     else if (kind == "end") mark_end(71000, at_y_now * 100)
@@ -165,16 +170,16 @@ function legend_speeds(    c, names) {
 }
 
 # The shades in use with the depths that they stand for.
-function legend_depths(    s, deep, from, to) {
-    deep = surface - deepest
+function legend_depths(    s, from, to) {
     at_y_now += 8
     write(690, at_y_now + 4, "depth below the surface, " unit)
     at_y_now += 20
     for (s = 1; s <= n_shades; s++) {
         if (!used_shade[s]) continue
-        from = int((s - 1) * deep / n_shades) + 1
-        to = int(s * deep / n_shades)
-        print "<path d=\"M694 " at_y_now "h32\" stroke=\"#" greys[s] "\" stroke-width=\"11\" stroke-linecap=\"round\"/>"
+        from = int(up_to[s - 1]) + 1
+        to = int(up_to[s])
+        if (each_depth) from = to
+        print "<path d=\"M694 " at_y_now "h32\" stroke=\"#" grey(s) "\" stroke-width=\"11\" stroke-linecap=\"round\"/>"
         write(745, at_y_now + 4, said(from, "z") (from == to ? "" : " to " said(to, "z")))
         at_y_now += 18
     }
@@ -184,9 +189,9 @@ function legend_depths(    s, deep, from, to) {
 function list_notes(    k, fits, text) {
     if (n_notes + n_sent == 0) return
     at_y_now += 8
-    fits = int((548 - at_y_now) / 17)
+    fits = int((638 - at_y_now) / 17)
     if (n_sent) {
-        write_note("sent by the program: " escaped(clean(shortened(sent_text, 16))) (n_sent > 16 && length(sent_text) <= 16 ? "..." : ""))
+        write_note("sent by the program: " escaped(shortened(sent_text, 12)))
         fits--
     }
     for (k = 1; k <= n_notes; k++) {
@@ -204,16 +209,18 @@ function write_note(text) {
     at_y_now += 17
 }
 
+# What a reply means, in the words of tools/lib/told.awk where they are short enough.
 function meaning(why) {
-    if (why == "1") return ", a number out of range"
-    if (why == "3") return ", axes not allowed"
-    if (why == "4") return ", no axes set"
-    if (why == "5") return ", no line of the board"
-    if (why == "6") return ", no room in the store"
+    if (why == "1") return ", a number is out of range"
+    if (why == "3") return ", these axes are not allowed"
+    if (why == "4") return ", no axes are set"
+    if (why == "5Storing") return ", this is no record"
+    if (why ~ /^5/) return ", this is no line of the board"
+    if (why == "6") return ", no room for this record"
     if (why == "7") return ", too few or too many numbers"
-    if (why == "8") return ", no program stored"
+    if (why == "8") return ", no program is stored"
     if (why == "9") return ", out of range"
-    if (why == "D") return ", a speed out of range"
+    if (why == "D") return ", a speed is out of range"
     if (why == "W") return ", something stands stopped"
     if (why == "GStoring") return ", the check at the end"
     if (why == "GIdle") return ", not the program's axes"
@@ -262,23 +269,25 @@ function decimal(digit, power,    text) {
     return "0." text
 }
 
-# The words below the plot: sizes, heights, the surface, the steps of a mm, and the limit if it was reached.
-function sizes(    text) {
-    write(215, 562, "size in x: " said_with_unit(right - left, "x") ", in y: " said_with_unit(high - low, "y"))
-    if (!is_flat) {
-        if (deepest < surface) text = "deepest: " said_with_unit(surface - deepest, "z") " below the surface; "
-        write(215, 582, text "height at the end: " said_with_unit(z, "z") (is_left ? ", tool left down" : ""))
-    }
-    text = ""
-    if (surface) text = "surface " said_with_unit(surface < 0 ? -surface : surface, "z") (surface < 0 ? " below" : " above") " the start"
-    if (in_mm) text = text (text == "" ? "" : "; ") "steps per mm: " (per_x == per_y && per_y == per_z ? per_x : per_x ", " per_y ", " per_z)
-    if (text != "") write(215, 602, text)
-    if (limit) write(215, 627, "not over after 100,000 clock calls", "font-size=\"18\" font-weight=\"bold\" fill=\"#B00020\"")
+# The words below the plot, one line each: sizes, the deepest place, the height at the end, the surface, and the steps of a mm.
+function sizes() {
+    words_y = 562
+    word("size in x: " said_with_unit(right - left, "x") ", in y: " said_with_unit(high - low, "y"))
+    if (deepest < surface && !is_flat) word("deepest: " said_with_unit(surface - deepest, "z") " below the surface")
+    if (!is_flat) word("end height: " said_with_unit(z, "z") (is_left ? ", tool left down" : ""))
+    if (surface) word("surface " said_with_unit(surface < 0 ? -surface : surface, "z") (surface < 0 ? " below" : " above") " the start")
+    if (in_mm) word("steps per mm: " (per_x == per_y && per_y == per_z ? per_x : per_x ", " per_y ", " per_z))
 }
 
-# The rows of the table below the picture.
+function word(text) {
+    write(200, words_y, text)
+    words_y += 17
+}
+
+# The rows of the table below the picture, in letters so small that they fit: a letter is about six tenths of its size wide.
 function list_rows(    r, y, style) {
-    style = "font-family=\"monospace\" font-size=\"11\" xml:space=\"preserve\""
+    fill_heads()
+    style = "font-family=\"monospace\" font-size=\"" in_units(least(1100, int(151000 / length(cells_text())))) "\" xml:space=\"preserve\""
     y = 668
     if (!shown_rows) {
         write(20, y, "the table of measures has no row")

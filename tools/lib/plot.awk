@@ -18,7 +18,7 @@ function fit(    scale) {
     wide_x = scale / per["x"]
     wide_y = scale / per["y"]
     draws_steps = most(wide_x, wide_y) >= 4
-    n_shades = least(5, surface - deepest)
+    find_shades()
 }
 
 function least(a, b) { return a < b ? a : b }
@@ -26,21 +26,58 @@ function most(a, b) { return a > b ? a : b }
 function rounded(v) { return int(v * 100 + 0.5) }
 function across(v) { return rounded(mid_x + (v - (left + right) / 2) * wide_x) }
 function down(v) { return rounded(mid_y - (v - (low + high) / 2) * wide_y) }
-function length_of(x1, y1, x2, y2) { return sqrt((x2 - x1) * (x2 - x1) + (y2 - y1) * (y2 - y1)) }
+
+# The length of a line. The root is found by halving, since an awk may have been built without sqrt: the first guess is a tenth off at
+# most, and each turn doubles the digits that are right.
+function length_of(x1, y1, x2, y2,    a, b, square, root, turn) {
+    a = x1 < x2 ? x2 - x1 : x1 - x2
+    b = y1 < y2 ? y2 - y1 : y1 - y2
+    if (a == 0 || b == 0) return a + b
+    square = a * a + b * b
+    root = a > b ? a + 0.4 * b : b + 0.4 * a
+    for (turn = 1; turn <= 4; turn++) root = (root + square / root) / 2
+    return root
+}
 
 function colour(speed) { return speed < 200 ? 1 : speed < 500 ? 2 : speed < 1000 ? 3 : speed < 2500 ? 4 : 5 }
 
-# The shade of a depth: an equal part of the deepest each, the last one the darkest.
-function shade(depth,    n) {
-    n = int(depth * n_shades / (surface - deepest))
-    return n * (surface - deepest) < depth * n_shades ? n + 1 : n
+# The shades: one for each depth if there are at most five and no cut slopes in z, else five equal parts of the deepest. up_to[1..n_shades]
+# are the depths that they reach.
+function find_shades(    i, f, k, deep) {
+    deep = surface - deepest
+    for (i = 1; i <= n_made; i++) {
+        if (substr(made[i], 1, 3) == "go ") continue
+        split(made[i], f, " ")
+        if (f[1] == "cut" && f[4] != f[7]) break
+        if (!add_depth(surface - f[7])) break
+    }
+    each_depth = i > n_made
+    if (each_depth) return
+    n_shades = least(5, deep)
+    for (k = 1; k <= n_shades; k++) up_to[k] = deep * k / n_shades
 }
+
+# One depth more among those that have a shade, in their order; 0 if there are five already.
+function add_depth(depth,    k) {
+    for (k = 1; k <= n_shades; k++) if (up_to[k] == depth) return 1
+    if (n_shades == 5) return 0
+    for (k = ++n_shades; k > 1 && up_to[k - 1] > depth; k--) up_to[k] = up_to[k - 1]
+    up_to[k] = depth
+    return 1
+}
+
+# The shade of a depth, and its grey: few shades are spread over the five greys.
+function shade(depth,    s) {
+    for (s = 1; s < n_shades && up_to[s] < depth; s++) continue
+    return s
+}
+function grey(s) { return greys[int((s - 0.5) * 5 / n_shades) + 1] }
 
 # The corners of a thing that is drawn: of its pulses if steps are drawn as they are, else its two ends. at_x, at_y, at_z [1..n_at].
 function corners_of(i,    f, n, k) {
     n = split(made[i], f, " ")
     what = f[1]
-    speed = f[8]
+    speed = f[8] + 0
     n_at = 0
     corner_at(f[2], f[3], f[4])
     if (draws_steps) for (k = 12; k < n; k += 3) corner_at(f[k], f[k + 1], f[k + 2])
@@ -48,9 +85,9 @@ function corners_of(i,    f, n, k) {
 }
 
 function corner_at(x, y, z) {
-    at_x[++n_at] = x
-    at_y[n_at] = y
-    at_z[n_at] = z
+    at_x[++n_at] = x + 0
+    at_y[n_at] = y + 0
+    at_z[n_at] = z + 0
 }
 
 function path_end(attributes) { print "\" " attributes "/>" }
@@ -66,7 +103,7 @@ function draw_grooves(    i, k, s) {
         if (!n_bands[s]) continue
         print "<path d=\""
         for (k = 1; k <= n_bands[s]; k++) print band[s, k]
-        path_end("stroke=\"#" greys[s] "\" stroke-width=\"1100\" stroke-linecap=\"round\" stroke-linejoin=\"round\"")
+        path_end("stroke=\"#" grey(s) "\" stroke-width=\"1100\" stroke-linecap=\"round\" stroke-linejoin=\"round\"")
     }
 }
 
@@ -74,12 +111,12 @@ function draw_grooves(    i, k, s) {
 function groove(k,    a, b, from, to, s, last, step) {
     a = surface - at_z[k]
     b = surface - at_z[k + 1]
-    s = shade(most(a, 0.001))
-    last = shade(most(b, 0.001))
+    s = shade(a)
+    last = shade(b)
     from = 0
     step = last > s ? 1 : -1
     while (s != last) {
-        to = ((step > 0 ? s : s - 1) * (surface - deepest) / n_shades - a) / (b - a)
+        to = (up_to[step > 0 ? s : s - 1] - a) / (b - a)
         add_band(s, k, from, to)
         from = to
         s += step
@@ -129,43 +166,27 @@ function add_line(c, x1, y1, x2, y2,    way) {
 # Travel with the tool up: dashed. Ways that follow each other are one line, so that the dashes go on over short ones.
 function draw_travel(    i, k) {
     for (i = 1; i <= n_made; i++) {
-        if (substr(made[i], 1, 3) == "cut") pen_up()
         if (substr(made[i], 1, 3) != "go ") continue
         corners_of(i)
         used_colour[colour(speed)] = 1
-        if (n_at > 2) travel_steps()
-        else travel_straight(at_x[1], at_y[1], at_x[2], at_y[2])
+        for (k = 1; k < n_at; k++) travel_straight(at_x[k], at_y[k], at_x[k + 1], at_y[k + 1])
     }
     pen_up()
 }
 
-# A sloping way drawn step by step, unless the same steps have been drawn, there or back.
-function travel_steps(    k, there, back) {
-    for (k = 1; k <= n_at; k++) {
-        there = there " " at_x[k] " " at_y[k]
-        back = " " at_x[k] " " at_y[k] back
-    }
-    if (there in has_steps || back in has_steps) {
-        pen_up()
-        return
-    }
-    has_steps[there] = 1
-    for (k = 1; k < n_at; k++) travel(at_x[k], at_y[k], at_x[k + 1], at_y[k + 1])
-}
-
 # A straight way: only what no earlier travel on the same straight line has covered, so that dashes never fill each other's gaps. The parts
 # covered are kept for each straight line as pairs of numbers; beyond 400 numbers they are no more looked at.
-function travel_straight(x1, y1, x2, y2,    dx, dy, g, key, from, to, part, n, k, by, kept) {
+function travel_straight(x1, y1, x2, y2,    dx, dy, g, key, from, to, part, n, k) {
     dx = x2 - x1
     dy = y2 - y1
+    if (dx == 0 && dy == 0) return
     g = common(dx < 0 ? -dx : dx, dy < 0 ? -dy : dy)
     if (dx < 0 || (dx == 0 && dy < 0)) g = -g
     dx /= g
     dy /= g
-    key = dx " " dy " " (dx * y1 - dy * x1)
-    by = dx != 0 ? dx : dy
-    from = (dx != 0 ? x1 : y1) / by
-    to = (dx != 0 ? x2 : y2) / by
+    key = dx " " dy " " sprintf("%.0f", dx * y1 - dy * x1 + 0)
+    from = dx != 0 ? x1 : y1
+    to = dx != 0 ? x2 : y2
     n = split(covered[key], part, " ")
     if (n > 400) {
         travel(x1, y1, x2, y2)
@@ -174,7 +195,7 @@ function travel_straight(x1, y1, x2, y2,    dx, dy, g, key, from, to, part, n, k
     n_free = 1
     free_from[1] = least(from, to)
     free_to[1] = most(from, to)
-    for (k = 1; k < n; k += 2) take_away(part[k], part[k + 1])
+    for (k = 1; k < n; k += 2) take_away(part[k] + 0, part[k + 1] + 0)
     covered[key] = joined(part, n, least(from, to), most(from, to))
     draw_free(x1, y1, dx, dy, from, to)
 }
@@ -213,17 +234,15 @@ function joined(part, n, a, b,    k, text) {
     return text a " " b
 }
 
-# The free parts of a way, in the way's own direction.
+# The free parts of a way, in the way's own direction. They are given by x, or by y where x stands still.
 function draw_free(x1, y1, dx, dy, from, to,    k, a, b) {
     for (k = 1; k <= n_free; k++) {
         if (free_to[k] <= free_from[k]) continue
         a = from < to ? free_from[k] : free_to[k]
         b = from < to ? free_to[k] : free_from[k]
-        if (a != from) pen_up()
-        travel(x1 + (a - from) * dx, y1 + (a - from) * dy, x1 + (b - from) * dx, y1 + (b - from) * dy)
-        if (b != to) pen_up()
+        if (dx == 0) travel(x1, a, x1, b)
+        else travel(a, y1 + (a - from) * dy / dx, b, y1 + (b - from) * dy / dx)
     }
-    if (n_free == 1 && free_to[1] <= free_from[1]) pen_up()
 }
 
 # The pen goes from one place to another; it is set down anew where it does not stand, and for another colour.
@@ -252,4 +271,30 @@ function pen_up(    dash) {
     pen_down = 0
     dash = least(900, most(180, pen_length / 3))
     path_end("stroke=\"#" colours[pen_colour] "\" stroke-width=\"130\" stroke-dasharray=\"" int(dash * 5 / 9) " " int(dash * 4 / 9) "\"")
+}
+
+# Where a step is wide enough, a dot for each place that a pulse led to.
+function draw_dots(    i, k) {
+    if (least(wide_x, wide_y) < 12) return
+    for (i = 1; i <= n_made; i++) {
+        if (substr(made[i], 1, 3) != "cut" && substr(made[i], 1, 3) != "go ") continue
+        corners_of(i)
+        for (k = 1; k < n_at; k++) dots_between(k)
+    }
+    for (i = 1; i <= 5; i++) if (dots[i] != "") {
+        has_dots = 1
+        print "<path class=\"steps\" d=\"" dots[i]
+        path_end("stroke=\"#" colours[i] "\" stroke-width=\"440\" stroke-linecap=\"round\"")
+    }
+}
+
+# The pulses between two corners are all alike, so the steps are as many as the longer axis has.
+function dots_between(k,    n, j, place) {
+    n = most(most(at_x[k + 1] - at_x[k], at_x[k] - at_x[k + 1]), most(at_y[k + 1] - at_y[k], at_y[k] - at_y[k + 1]))
+    for (j = 1; j <= n; j++) {
+        place = across(at_x[k] + (at_x[k + 1] - at_x[k]) * j / n) " " down(at_y[k] + (at_y[k + 1] - at_y[k]) * j / n)
+        if (place in has_dot) continue
+        has_dot[place] = 1
+        dots[colour(speed)] = dots[colour(speed)] "M" place "h0"
+    }
 }

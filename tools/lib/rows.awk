@@ -17,19 +17,17 @@ function find_rows(    i, what) {
 function row_name(what) { return what == "go" ? "line" : what == "left" ? "left down" : what }
 
 # The depth of a thing below the surface, at its deepest.
-function depth_of(z1, z2) { return surface - (z1 < z2 ? z1 : z2) }
+function depth_of(z1, z2) { return surface - (z1 + 0 < z2 + 0 ? z1 : z2) }
 
 # The cells of a row. Without z there are no heights; for lines of numbers (csv) the columns are the same, and a depth that is none is empty.
-function fill_cells(r, csv,    f) {
+function fill_cells(r, csv,    f, i) {
     split(made[row[r]], f, " ")
     n_cells = 0
     put(r)
     put(row_name(f[1]))
     put_steps(f, csv)
     if (in_mm) put_mm(f, csv)
-    put(f[9] == "-" && csv ? "" : f[9])
-    put(f[10] == "-" && csv ? "" : f[10])
-    put(f[11])
+    for (i = 9; i <= 11; i++) put(f[i] == "-" && csv ? "" : f[i])
 }
 
 function put(text) { cell[++n_cells] = text }
@@ -105,6 +103,7 @@ function units_text(    c, text, of_steps, at) {
         at = c == 3 ? "steps" : c == 3 + of_steps ? "mm" : ""
         text = text sprintf("%" (wide[c] + (begins_group(c) ? 4 : 2)) "s", at)
     }
+    sub(/ +$/, "", text)
     return text
 }
 

@@ -1,0 +1,36 @@
+# Part of run: the same bytes under every awk that is found.
+
+under() { # AWK...: a folder for the PATH in which awk is this one
+    mkdir -p "$dir/$1"
+    printf '#!/bin/sh\nexec %s "$@"\n' "$*" >"$dir/$1/awk"
+    chmod +x "$dir/$1/awk"
+}
+
+by_awk() { # FILE PATH: the picture and the table of an input, under the awk of a path
+    PATH=$2 "$root/tools/plate" 80,80.5,400 --surface -1 --numbers --title x <"$1"
+    PATH=$2 "$root/tools/plate" 80,80.5,400 --measure <"$1"
+    PATH=$2 "$root/tools/plate" <"$1"
+}
+
+slopes() { # slopes up and down that cross each other, with grooves and holes
+    awk 'BEGIN {
+        printf "@07\r"
+        for (i = 1; i < 120; i++) printf "@0A%d,600,%d,%d,%d,300,%d,300\r", i * 37 % 23 - 11, i * 53 % 31 - 15, 100 + i * 40, i * 7 % 5 - 2, i * 5 % 7 - 3
+    }'
+}
+slopes >"$dir/slopes"
+grep -v '^#' "$root/exercises/ramp-3d.txt" | tr '\n' '\r' >"$dir/ramp"
+for awk in mawk gawk 'busybox awk' original-awk; do
+    command -v "${awk%% *}" >/dev/null || continue
+    # shellcheck disable=SC2086
+    under $awk
+    for file in slopes ramp; do
+        by_awk "$dir/$file" "$PATH" >"$dir/wanted"
+        by_awk "$dir/$file" "$dir/${awk%% *}:$PATH" >"$dir/got"
+        if cmp -s "$dir/wanted" "$dir/got"; then
+            same=$((same + 1))
+        else
+            differs "$file under $awk" "$(cmp "$dir/wanted" "$dir/got" 2>&1)"
+        fi
+    done
+done

@@ -1,0 +1,117 @@
+# Part of run: the table of measures. The rows were written by hand from the programs' texts.
+
+measured() { # NAME WANTED: the table just printed, its spaces made one
+    went_well "$1" || return
+    tr -s ' ' <"$dir/got" | sed 's/^ //; s/ $//' >"$dir/rows"
+    printf '%s\n' "$2" >"$dir/wanted"
+    if cmp -s "$dir/wanted" "$dir/rows"; then
+        same=$((same + 1))
+    else
+        differs "$1" "other rows"
+        diff "$dir/wanted" "$dir/rows" | sed -n '1,6p' | sed 's/^/    /'
+    fi
+}
+
+steps='number,what,from_x,from_y,from_z,to_x,to_y,to_z,depth,record,pass,line'
+mm='from_x_mm,from_y_mm,from_z_mm,to_x_mm,to_y_mm,to_z_mm,depth_mm'
+
+# Five holes, 5 apart and 4 deep, by five passes of record 0.
+row() { lines @07 @0i '0 5,800,0,800,-4,300,4,300' '3 4,-1' 9 @0S; }
+row | draw --csv
+measured "a row of holes, CSV" "$steps
+1,hole,5,0,0,5,0,-4,4,0,1,6
+2,hole,10,0,0,10,0,-4,4,0,2,6
+3,hole,15,0,0,15,0,-4,4,0,3,6
+4,hole,20,0,0,20,0,-4,4,0,4,6
+5,hole,25,0,0,25,0,-4,4,0,5,6"
+row | draw --measure
+measured "a row of holes" "no. what from x y z to x y z depth record pass line
+1 hole 5 0 0 5 0 -4 4 0 1 6
+2 hole 10 0 0 10 0 -4 4 0 2 6
+3 hole 15 0 0 15 0 -4 4 0 3 6
+4 hole 20 0 0 20 0 -4 4 0 4 6
+5 hole 25 0 0 25 0 -4 4 0 5 6
+5 holes, 0 cuts; end at x 25, y 0, height 0 steps"
+is "columns are aligned" 1 "$(sed '$d' "$dir/got" | awk '{ print length($0) }' | sort -u | wc -l)"
+
+# Two grooves of 6 in y, 3 deep, by record 1; 80 steps per mm in x and y and 400 in z. 3 / 400 is 0.0075, and a half goes away from nought.
+rack() { lines @07 @0i '0 0,600,0,600,-3,200,0,200' '0 0,600,6,400,0,200,0,200' '0 0,600,0,600,3,900,0,200' '0 4,900,-6,900,0,200,0,200' '3 1,-4' 9 @0S; }
+rack | draw 80,80,400 --csv
+measured "grooves in mm, CSV" "number,what,from_x,from_y,from_z,to_x,to_y,to_z,depth,$mm,record,pass,line
+1,cut,0,0,-3,0,6,-3,3,0.000,0.000,-0.008,0.000,0.075,-0.008,0.008,1,1,9
+2,cut,4,0,-3,4,6,-3,3,0.050,0.000,-0.008,0.050,0.075,-0.008,0.008,1,2,9"
+rack | draw --measure 80,80,400
+measured "grooves in mm" "steps mm
+no. what from x y z to x y z depth from x y z to x y z depth record pass line
+1 cut 0 0 -3 0 6 -3 3 0.000 0.000 -0.008 0.000 0.075 -0.008 0.008 1 1 9
+2 cut 4 0 -3 4 6 -3 3 0.050 0.000 -0.008 0.050 0.075 -0.008 0.008 1 2 9
+0 holes, 2 cuts; end at x 8, y 0, height 0 steps (x 0.100, y 0.000, height 0.000 mm)"
+
+# The pattern of two records: lines without heights. With one record back, as the old board did it, only the second is repeated.
+pattern() { lines @03 @0i '0 3,600,0,600' '0 0,600,2,500' "3 2,$1" 9 @0S; }
+pattern -2 | draw --measure
+measured "two records" "no. what from x y to x y record pass line
+1 line 0 0 3 0 0 1 7
+2 line 3 0 3 2 1 1 7
+3 line 3 2 6 2 0 2 7
+4 line 6 2 6 4 1 2 7
+5 line 6 4 9 4 0 3 7
+6 line 9 4 9 6 1 3 7
+6 lines; end at x 9, y 6 steps"
+pattern -1 | draw --csv 2.5
+measured "two records, one repeated" "number,what,from_x,from_y,from_z,to_x,to_y,to_z,depth,$mm,record,pass,line
+1,line,0,0,0,3,0,0,,0.000,0.000,0.000,1.200,0.000,0.000,,0,1,7
+2,line,3,0,0,3,2,0,,1.200,0.000,0.000,1.200,0.800,0.000,,1,1,7
+3,line,3,2,0,3,4,0,,1.200,0.800,0.000,1.200,1.600,0.000,,1,2,7
+4,line,3,4,0,3,6,0,,1.200,1.600,0.000,1.200,2.400,0.000,,1,3,7"
+
+# Lines sent by themselves: a hole deeper than the groove that begins there; the groove; a second hole at its end, left as it is.
+lines @07 @0A0,600,0,600,-6,300,3,300 @0A10,600,0,600,-2,300,0,300 | draw --csv
+measured "a hole at a groove" "$steps
+1,hole,0,0,0,0,0,-6,6,,,2
+2,cut,0,0,-3,10,0,-3,3,,,3
+3,left down,10,0,-3,10,0,-5,5,,,3"
+lines @07 @0A0,600,0,600,-4,300,2,300 @0A0,600,0,600,-3,300,5,300 @0A0,600,0,600,-1,300,1,300 | draw --csv
+measured "a hole by two lines, then another at the same place" "$steps
+1,hole,0,0,0,0,0,-5,5,,,3
+2,hole,0,0,0,0,0,-1,1,,,4"
+lines @07 @0A3,600,0,600,-20,300,5,300 @0A3,600,0,600,-9,300,9,300 | draw --measure --surface -20
+measured "a surface below" "no. what from x y z to x y z depth record pass line
+1 hole 6 0 -20 6 0 -24 4 - - 3
+1 hole, 0 cuts; end at x 6, y 0, height -15 steps"
+
+# In 3D a cut begins where it comes below the surface: from 2 above, 4 down over 8 in x crosses it in the middle.
+lines @07 @0A0,600,0,600,2,300,0,300 @0z1 @0A4,700,0,700,-4,300,0,300 @0A4,700,0,700,4,300,0,300 | draw --csv
+measured "a ramp through the surface" "$steps
+1,cut,2,0,0,4,0,-2,2,,,4
+2,cut,4,0,-2,6,0,0,2,,,5"
+
+# A pass counts from the start, a second start counts anew, and a movement without a step is a pass as well; a stop changes nothing.
+lines @03 @0i 'm 0,600,0,600' '0 3,600,0,600' '3 1,-2' 9 @0S @0S | draw --csv
+measured "passes" "$steps
+1,line,0,0,0,3,0,0,,1,1,7
+2,line,3,0,0,0,0,0,,0,2,7
+3,line,0,0,0,3,0,0,,1,2,7
+4,line,3,0,0,0,0,0,,0,1,8
+5,line,0,0,0,3,0,0,,1,1,8
+6,line,3,0,0,0,0,0,,0,2,8
+7,line,0,0,0,3,0,0,,1,2,8"
+printf '%s\n' @07 @0i '0 5,800,0,800,-4,300,4,300' '3 1,-1' 9 start 'clock 3' stop @0P 'go on' start 'clock 2' break start >"$dir/words"
+stream_of "$dir/words"
+scale= surface=
+measures_of "$dir/stream" csv >"$dir/got" 2>"$dir/said"
+echo $? >"$dir/status"
+measured "a stop, and a break" "$steps
+1,hole,5,0,0,5,0,-4,4,0,1,6
+2,hole,10,0,0,10,0,-4,4,0,2,6
+3,hole,17,0,0,17,0,-4,4,0,1,14
+4,hole,22,0,0,22,0,-4,4,0,2,14"
+
+lines @07 | draw --measure
+measured "nothing" "no. what from x y z to x y z depth record pass line
+0 holes, 0 cuts; end at x 0, y 0, height 0 steps"
+
+# Without end: a pass is 13 pulses and a jump, so 100,000 calls are 7,142 passes and 12 calls more, which leave the tool in the plate.
+lines @07 @0i '0 5,800,0,800,-4,300,4,300' '3 0,-1' 9 @0S | draw --measure
+is "a table without end" "not over after 100,000 clock calls" "$(tail -n 1 "$dir/got")"
+is "rows of a table without end" "7142 1" "$(grep -c ' hole ' "$dir/got") $(grep -c ' left down ' "$dir/got")"

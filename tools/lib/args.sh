@@ -1,7 +1,7 @@
 # Arguments that tools/plate and ./exercise share; to be read with the command "." by a script that has set `name` for its messages.
 
 complain() { # TEXT...: a message on standard error
-    echo "$name: $*" >&2
+    printf '%s: %s\n' "$name" "$*" >&2
 }
 
 # One number of steps per mm: digits, and perhaps a point and digits; from 0.001 to 1,000,000.

@@ -47,6 +47,13 @@ no. what from x y z to x y z depth from x y z to x y z depth record pass line
 2 cut 4 0 -3 4 6 -3 3 0.050 0.000 -0.008 0.050 0.075 -0.008 0.008 1 2 9
 0 holes, 2 cuts; end at x 8, y 0, height 0 steps (x 0.100, y 0.000, height 0.000 mm)"
 
+# A wait is answered twice: Y leads over record 1 to the loop and back to the wait, N to record 1, which is then in its first pass.
+waiting() { lines @01 @0i '2 89,2' '0 2,600' '3 1,-2' 9 @0S; printf YN; }
+waiting | draw --measure
+measured "behind a wait" "no. what from x y to x y record pass line
+1 line 0 0 2 0 1 1 7
+1 line; end at x 2, y 0 steps"
+
 # The pattern of two records: lines without heights. With one record back, as the old board did it, only the second is repeated.
 pattern() { lines @03 @0i '0 3,600,0,600' '0 0,600,2,500' "3 2,$1" 9 @0S; }
 pattern -2 | draw --measure

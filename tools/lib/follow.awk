@@ -8,8 +8,8 @@
 #     hole or left x y top x y bottom 0 record pass line; record and pass are - for a movement that was sent as a line;
 #   left right low high, the extent in x and y; deepest, the lowest z in the plate; has_z, whether z was ever set; moved, any pulse;
 #   home[1..n_homes], places that were the origin; begun[1..n_begun], places where records began to move, and begun_by[place];
-#   note[1..n_notes], what the board refused and how runs ended; sent_text, the characters that programs sent; limit, the last run
-#   was not over when the clock calls were.
+#   note[1..n_notes], what the board refused and how runs ended, and note_why[1..n_notes], what that means; sent_text, the characters that
+#   programs sent; limit, the last run was not over when the clock calls were. Behind replies.awk.
 
 BEGIN {
     surface += 0
@@ -47,7 +47,6 @@ $0 == pulse { count++; fresh = 1; next }
 /^B / { reply($2); next }
 /^S / { state(); limit = 0; next }
 $0 == "Q more" { limit = 1; next }
-/^\?/ { wrong = 1 }
 
 END { # awk runs the ENDs in the order of the files, so this one comes before those that draw and print
     pulses(count)
@@ -76,7 +75,7 @@ function tick() {
     }
     count = 0
     last_place = $3 == "Moving" ? $5 + 0 : -1
-    next_place = $5 + 0
+    next_place = $3 == "Wait" ? -1 : $5 + 0 # where a wait leads, its answer decides
     origin_at($7 + off_x, $8 + off_y)
 }
 
@@ -116,7 +115,7 @@ function run_is(job) {
 
 # The end of what ran, by a reply, or by none for a reset. The 0 of a movement that was sent as a line is not worth a note.
 function end_run(by) {
-    if (running == "run" || by != "0") add_note(running " of line " run_line " ended " (by == "" ? "by a reset" : "with " by), by)
+    if (running == "run" || by != "0") add_note(running " of line " run_line " ended " (by == "" ? "by a reset" : "with " by), by == "F" ? "a break" : by == "9" ? "out of range" : "")
     running = ""
     last_place = next_place = -1
 }
@@ -127,17 +126,17 @@ function still_running() {
     else add_note(running " of line " run_line " is not over", "")
 }
 
-# A reply to a byte. An F says stop or break; the state behind it tells which. What a 5 and a G say depends on what was at work.
+# A reply to a byte. An F says stop or break; the state behind it tells which.
 function reply(text) {
     if (text == "F") held = 1
-    else if (length(text) == 1 && text != "0") add_note("line " line ": " text, text == "G" || text == "5" ? text job_now : text)
+    else if (length(text) == 1 && text != "0") add_note("line " line ": " text, meaning(text, job_now == "Storing"))
 }
 
 # A line S: what is at work, and where the positions and the origin lie on the table.
 function state(    job) {
     job = $23
     standing = $25 + 0
-    if (held && standing) add_note("line " line ": F", "stop")
+    if (held && standing) add_note("line " line ": F", "stopped")
     if (job != "Idle" && job != "Storing") run_is(job)
     else if (running && held) end_run("F")
     else if (running) end_run("")

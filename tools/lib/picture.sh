@@ -12,7 +12,7 @@ follow() { # STREAM FILE...: runs these awk files behind those that follow the s
     stream=$1
     shift
     files=
-    for file in follow scale rows "$@"; do
+    for file in replies follow scale rows "$@"; do
         files="$files -f $file.awk"
     done
     set -- -v "surface=${surface:-0}"

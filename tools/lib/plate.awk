@@ -155,9 +155,7 @@ function entry_figure(figure, text, style) {
 }
 
 function legend_speeds(    c, names) {
-    split("30 to 199,200 to 499,500 to 999,1,000 to 2,499,2,500 to 10,000", names, ",")
-    names[4] = "1,000 to 2,499"
-    names[5] = "2,500 to 10,000"
+    split("30 to 199;200 to 499;500 to 999;1,000 to 2,499;2,500 to 10,000", names, ";")
     at_y_now += 8
     write(690, at_y_now + 4, "speed, steps per second")
     at_y_now += 20
@@ -199,7 +197,7 @@ function list_notes(    k, fits, text) {
             write_note("and " (n_notes - k + 1) " more")
             return
         }
-        text = note[k] meaning(note_why[k])
+        text = note[k] (note_why[k] == "" ? "" : ", " note_why[k])
         write_note(length(text) <= 42 ? text : note[k])
     }
 }
@@ -207,26 +205,6 @@ function list_notes(    k, fits, text) {
 function write_note(text) {
     write(690, at_y_now + 4, text, "class=\"note\" font-size=\"12\"")
     at_y_now += 17
-}
-
-# What a reply means, in the words of tools/lib/told.awk where they are short enough.
-function meaning(why) {
-    if (why == "1") return ", a number is out of range"
-    if (why == "3") return ", these axes are not allowed"
-    if (why == "4") return ", no axes are set"
-    if (why == "5Storing") return ", this is no record"
-    if (why ~ /^5/) return ", this is no line of the board"
-    if (why == "6") return ", no room for this record"
-    if (why == "7") return ", too few or too many numbers"
-    if (why == "8") return ", no program is stored"
-    if (why == "9") return ", out of range"
-    if (why == "D") return ", a speed is out of range"
-    if (why == "W") return ", something stands stopped"
-    if (why == "GStoring") return ", the check at the end"
-    if (why == "GIdle") return ", not the program's axes"
-    if (why == "F") return ", a break"
-    if (why == "stop") return ", stopped"
-    return ""
 }
 
 # The scale bar: 1, 2 or 5 times a power of ten steps or mm, at most 150 units long.

@@ -9,7 +9,6 @@ function find_rows(    i, what) {
         what = substr(made[i], 1, index(made[i], " ") - 1)
         if (what == "go" && !is_flat) continue
         row[++n_rows] = i
-        row_of[i] = n_rows
         n_of[what]++
     }
 }

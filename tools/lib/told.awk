@@ -1,17 +1,8 @@
-# What the board did, for a person, under each line of the file that it answers: awk -f told.awk LINES STREAM. LINES is what sent.awk wrote of
-# the file, STREAM what `calls` printed. -v scale="x y z": the steps of a mm on each axis, or empty; -v pulses=1 shows every pulse.
+# What the board did, for a person, under each line of the file that it answers: awk -f replies.awk -f told.awk LINES STREAM. LINES is what
+# sent.awk wrote of the file, STREAM what `calls` printed. -v scale="x y z": the steps of a mm on each axis, or empty; -v pulses=1 shows every pulse.
 BEGIN {
     split(scale, per, " ")
     split("x y z", axis, " ")
-    means["1"] = "a number is out of range"
-    means["3"] = "these axes are not allowed"
-    means["4"] = "no axes are set"
-    means["6"] = "no room for this record"
-    means["7"] = "too few or too many numbers"
-    means["8"] = "no program is stored"
-    means["9"] = "the movement would leave the range of positions"
-    means["D"] = "a speed is out of range"
-    means["W"] = "something stands stopped"
     job = "Idle"
 }
 
@@ -82,10 +73,10 @@ function reply(sent, words) {
 }
 
 function reason(sent) {
-    if (sent == "F") return text[current] ~ /^(break|byte 255)/ ? "ended" : "stopped, and stands"
-    if (sent == "G") return storing ? "the program fails its check, and the store is empty now" : "the program was stored under other axes"
-    if (sent != "5") return means[sent]
-    return (storing ? "this is no record" : "this is no line of the board") (text[current] ~ /[ \t]$/ ? ": a space stands at its end" : "")
+    if (sent == "F") return text[current] ~ /^(break|byte 0*255)/ ? "ended" : "stopped, and stands"
+    if (sent == "G" && storing) return meaning(sent, storing) ", and the store is empty now"
+    if (sent == "5" && text[current] ~ /[ \t]$/) return meaning(sent, storing) ": a space stands at its end"
+    return meaning(sent, storing)
 }
 
 function hex(digits, i, n) {
@@ -133,7 +124,7 @@ function told(now, next_place, origin, was) {
         step()
     } else answered(was, next_place, origin)
     home = origin
-    upcoming = next_place
+    upcoming = now == "Wait" ? -1 : next_place # where a wait leads, its answer decides
     if (now == "Idle") idle()
 }
 
@@ -243,10 +234,7 @@ function state() {
     standing = $25
     records = $19
     if (text[current] ~ /^clock/ && !headed) say("nothing to do")
-    if (job == "Wait") {
-        say("it waits for a character")
-        upcoming = -1 # the answer decides
-    }
+    if (job == "Wait") say("it waits for a character")
     if (running() && text[current] ~ /^clock/) say("it is still running")
     if (job == "Idle" && !standing) idle()
     unfinished = 0

@@ -87,7 +87,7 @@ fn show_over(over: bool) -> bool {
     io::write_all(STDOUT_FILENO, b"Q more\n")
 }
 
-// One call of a run. A run that is over takes no more.
+// One call of a run, and whether the run is over with it.
 fn step(play: Play, space: &[u8]) -> Play {
     let board = play.board;
     let n = within(play.store, space);

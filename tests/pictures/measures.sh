@@ -54,6 +54,16 @@ measured "behind a wait" "no. what from x y to x y record pass line
 1 line 0 0 2 0 1 1 7
 1 line; end at x 2, y 0 steps"
 
+# Behind the answer record 1 has nothing to do in its first pass, for the table is there already; its way back is its second.
+still() { lines @01 @0A2,600 @0i '2 89,1' 'm 2,600' '0 3,600' '3 1,-3' 9 @0S; printf YY; }
+still | draw --measure
+measured "a pass without a step" "no. what from x y to x y record pass line
+1 line 0 0 2 0 - - 2
+2 line 2 0 5 0 2 1 9
+3 line 5 0 2 0 1 2 9
+4 line 2 0 5 0 2 2 9
+4 lines; end at x 5, y 0 steps"
+
 # The pattern of two records: lines without heights. With one record back, as the old board did it, only the second is repeated.
 pattern() { lines @03 @0i '0 3,600,0,600' '0 0,600,2,500' "3 2,$1" 9 @0S; }
 pattern -2 | draw --measure

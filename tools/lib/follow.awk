@@ -19,7 +19,6 @@ BEGIN {
     keep_notes = 60
     keep_sent = 40
     record = pass = "-"
-    next_place = -1
     origin_at(0, 0)
 }
 
@@ -60,46 +59,42 @@ END { # awk runs the ENDs in the order of the files, so this one comes before th
 
 function sign(c) { return c == "+" ? 1 : c == "-" ? -1 : 0 }
 
-# A line T: behind a pulse, that pulse is the first of its phase; behind another answer it says what is now at work.
+# A line T: behind a pulse, that pulse is the first of its phase, and of a record if the places before and after the call differ; behind
+# another answer it says what is now at work.
 function tick() {
     if (fresh) {
         pulses(count - 1)
         close_way()
         run_is($3)
-        if ($3 == "Moving") begin_record($5 - 1)
-        else record = pass = "-"
+        if ($3 == "Direct") record = pass = "-"
+        else if ($5 != $7) begin_record($5 + 0)
         pulses(1)
     } else {
         run_is($3)
-        answered($3)
+        answered($3, $5 + 0)
     }
     count = 0
-    last_place = $3 == "Moving" ? $5 + 0 : -1
-    next_place = $3 == "Wait" ? -1 : $5 + 0 # where a wait leads, its answer decides
-    origin_at($7 + off_x, $8 + off_y)
+    origin_at($9 + off_x, $10 + off_y)
 }
 
-# What an answer that is no pulse was. A record without a step counts as a pass of it as well.
-function answered(job) {
-    if (answer == "Done" && next_place >= 0) passes[next_place]++
+# What an answer that is no pulse was, and the record's place that it came to. A movement without a step is a pass of its record as well.
+function answered(job, from) {
+    if (answer == "Done") passes[from]++
     if (answer != "Send") return
     if (job == "Idle") end_run(sprintf("%c", byte + 0))
     else sent(sprintf("%c", byte + 0))
 }
 
-# The first phase of a record's movement begins a pass; its other phases come without anything between.
+# The first phase of a record's movement begins a pass.
 function begin_record(place,    at) {
     record = place
-    if (last_place != place + 1) {
-        passes[place]++
-        at = x " " y
-        if (!(at in begun_by)) {
-            begun[++n_begun] = at
-            begun_by[at] = place
-        } else if (index("," begun_by[at] ",", "," place ",") == 0 && length(begun_by[at]) < 24)
-            begun_by[at] = begun_by[at] "," place
-    }
-    pass = passes[place]
+    pass = ++passes[place]
+    at = x " " y
+    if (!(at in begun_by)) {
+        begun[++n_begun] = at
+        begun_by[at] = place
+    } else if (index("," begun_by[at] ",", "," place ",") == 0 && length(begun_by[at]) < 24)
+        begun_by[at] = begun_by[at] "," place
 }
 
 # A job is seen at work; where none was, this line of the file began it.
@@ -108,8 +103,6 @@ function run_is(job) {
     close_way()
     running = job == "Direct" ? "movement" : "run"
     run_line = line
-    last_place = -1
-    next_place = 0
     split("", passes)
 }
 
@@ -117,7 +110,6 @@ function run_is(job) {
 function end_run(by) {
     if (running == "run" || by != "0") add_note(running " of line " run_line " ended " (by == "" ? "by a reset" : "with " by), by == "F" ? "a break" : by == "9" ? "out of range" : "")
     running = ""
-    last_place = next_place = -1
 }
 
 function still_running() {

@@ -19,7 +19,7 @@ $1 == "N" { mark($2) }
 $1 == "B" && $2 != "-" { reply(substr($0, 3)) }
 $1 == "C" && $2 == "Pulse" { held = $3; rate = $4 }
 $1 == "C" && $2 != "Pulse" { answer = $2; value = $3 }
-$1 == "T" { told($3, $5, $7 " " $8 " " $9) }
+$1 == "T" { told($3, $5, $7, $9 " " $10 " " $11) }
 $1 == "Q" { unfinished = $2 == "more" }
 $1 == "L" { say("  " ($2 ~ /^(G|102|103|106)$/ ? "refused " : "") $2) }
 $1 == "S" { state() }
@@ -114,34 +114,33 @@ function step(i, sign) {
     held = ""
 }
 
-# The job, the next record's place and the origin after a call. Behind a pulse they say that it begins a phase.
-function told(now, next_place, origin, was) {
+# The job after a call, the next record's place before and after it, and the origin. Behind a pulse they say that it begins a phase, and if the
+# places differ, that it begins a record.
+function told(now, from, next_place, origin, was) {
     was = job
     job = now
     if (held != "") {
-        if (open && next_place == open_place) phase()
-        else begin(next_place)
+        if (open && from == next_place) phase()
+        else begin(from)
         step()
-    } else answered(was, next_place, origin)
+    } else answered(was, from, next_place, origin)
     home = origin
-    upcoming = now == "Wait" ? -1 : next_place # where a wait leads, its answer decides
     if (now == "Idle") idle()
 }
 
 # Nothing runs: the passes of the next run are counted anew.
 function idle() {
     settle()
-    open = upcoming = 0
+    open = 0
     split("", passes)
 }
 
-function begin(next_place) {
+function begin(from) {
     close_movement()
     show_pause()
     open = 1
     named = 0
-    open_place = next_place
-    what = job == "Direct" ? "direct" : next_place - 1
+    what = job == "Direct" ? "direct" : from
     pass = ++passes[what]
 }
 
@@ -201,8 +200,8 @@ function under(words) {
     print "        " words
 }
 
-# An answer without a pulse, the job before it, and the next record's place after it.
-function answered(was, next_place, origin) {
+# An answer without a pulse, and the job before it. A delay's first pause has its record's place behind `from`, the others the next one.
+function answered(was, from, next_place, origin) {
     close_movement()
     if (answer == "Pause") {
         show_kept()
@@ -211,11 +210,11 @@ function answered(was, next_place, origin) {
         pauses++
     } else if (answer == "Send") {
         value = sprintf("%c", value + 0)
-        say(job == "Idle" ? value "  " ending(was) : "record " (next_place - 1) " sends " value)
+        say(job == "Idle" ? value "  " ending(was) : "record " from " sends " value)
     } else if (answer == "Done") {
-        if (upcoming >= 0) passes[upcoming]++ # a movement without a step is a pass of its record too
+        passes[from]++ # a movement without a step is a pass of its record too
         show_pause()
-        if (origin != home) say("record " (next_place - 1) ": the origin is moved here")
+        if (origin != home) say("record " from ": the origin is moved here")
     }
 }
 

@@ -44,19 +44,20 @@ fn is_first(job: Job) -> bool {
     }
 }
 
-// What the board is at after a call: its job, the next place and the origin.
-fn show_place(board: Board) -> bool {
+// What the board is at after a call: its job, the next record's place before the call and after it, and the origin.
+fn show_place(from: u16, board: Board) -> bool {
     let e = board.engine;
     let run = e.run;
     io::write_all(STDOUT_FILENO, b"T");
     let job = run.job;
     show_job(job);
+    show_named(b" from ", from as u32);
     show_named(b" place ", run.place as u32);
     show_point(b" origin", e.origin);
     io::write_all(STDOUT_FILENO, b"\n")
 }
 
-fn show_answered(answer: Answer, board: Board) -> bool {
+fn show_answered(answer: Answer, from: u16, board: Board) -> bool {
     let e = board.engine;
     let run = e.run;
     let job = run.job;
@@ -66,18 +67,18 @@ fn show_answered(answer: Answer, board: Board) -> bool {
     if pulse & !first {
         return true;
     }
-    show_place(board)
+    show_place(from, board)
 }
 
 // A call of a run: its refusal, or its answer with what the board is at. The nothing at the end is not printed.
-fn show_run(refusal: u16, answer: Answer, board: Board) -> bool {
+fn show_run(refusal: u16, answer: Answer, from: u16, board: Board) -> bool {
     if refusal != 0 {
         return show_ticked(refusal, answer);
     }
     if is_nothing(answer) {
         return true;
     }
-    show_answered(answer, board)
+    show_answered(answer, from, board)
 }
 
 fn show_over(over: bool) -> bool {
@@ -90,12 +91,14 @@ fn show_over(over: bool) -> bool {
 // One call of a run, and whether the run is over with it.
 fn step(play: Play, space: &[u8]) -> Play {
     let board = play.board;
+    let engine = board.engine;
+    let before = engine.run;
     let n = within(play.store, space);
     let ticked = board.clock(&space[0..n]);
     let answer = ticked.answer;
     let next = ticked.board;
     let over = is_nothing(answer);
-    show_run(ticked.refusal, answer, next);
+    show_run(ticked.refusal, answer, before.place, next);
     let mut done = called(play, next);
     done.over = over;
     done

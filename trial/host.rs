@@ -93,11 +93,12 @@ fn push_field(out: &mut Vec<u8>, name: &str, values: &[i64]) {
     }
 }
 
-/// The line T: where a run has come to.
-pub fn push_place(out: &mut Vec<u8>, board: &Board) {
+/// The line T: the place before a call, and where the run has come to by it.
+pub fn push_place(out: &mut Vec<u8>, from: u32, board: &Board) {
     out.extend_from_slice(b"T");
     push_field(out, "job", &[]);
     push_field(out, job_name(&board.job), &[]);
+    push_field(out, "from", &[from as i64]);
     push_field(out, "place", &[board.place as i64]);
     push_field(out, "origin", &board.origin.map(seen));
     out.push(b'\n');

@@ -136,6 +136,7 @@ impl Calls {
 
     /// One call of a Q, with the line T where one belongs. Says whether it was quiet.
     fn tell_call(&mut self) -> bool {
+        let from = self.board.place;
         let answer = self.clock_call();
         if answer != Ok(Answer::Nothing) {
             push_answer(&mut self.out, answer);
@@ -143,7 +144,7 @@ impl Calls {
         let quiet = quiet(&answer);
         let pulse = matches!(answer, Ok(Answer::Pulse(_)));
         if !quiet && (!pulse || host::first_of_a_phase(&self.board)) {
-            host::push_place(&mut self.out, &self.board);
+            host::push_place(&mut self.out, from, &self.board);
         }
         quiet
     }

@@ -47,8 +47,9 @@ def nothing(n=1):
     return clock(*["Nothing"] * n)
 
 
-def told(job, place, origin=(0, 0, 0)):
-    return "T job %s place %d origin %d %d %d" % ((job, place) + origin)
+def told(job, before, place, origin=(0, 0, 0)):
+    """The line T: `before` is the place before the call, the rest is as it is after it."""
+    return "T job %s from %d place %d origin %d %d %d" % ((job, before, place) + origin)
 
 
 def run(n, *answers, end="over"):

@@ -7,6 +7,7 @@ import group_damage
 import group_listing
 import group_programs
 import group_refusals
+import group_reports
 import group_runs
 import group_standing
 import group_stops

@@ -2,7 +2,7 @@
 # objdump -d prints. For each it prints the bytes, its own frame included and its caller's not, and the calls that lead there.
 # A frame is what the compiler says (.su); for a function in assembly, what it pushes. A call adds the frame of the one that calls; a
 # branch to another function is made when the own frame is given back. A function that calls itself is one named in `deep`, with how
-# many of it can be open at once. What could hide a call is refused: a call through a register, a stack that grows as it runs.
+# many of it can be open at once. What could hide a call or a frame is refused: a call through a register, a stack that grows as it runs.
 
 function refuse(why) {
     print "stack: " why >"/dev/stderr"
@@ -10,13 +10,11 @@ function refuse(why) {
     exit 1
 }
 
-function most(a, b) { return a > b ? a : b }
-
 # FILE:FUNCTION or FILE:LINE:COLUMN:FUNCTION, the bytes, and how they are known
 FILENAME ~ /\.su$/ {
     name = $1
     if (!sub(/^.*:[0-9]+:[0-9]+:/, "", name)) sub(/^[^:]*:/, "", name)
-    if ($3 != "static") refuse(name " takes stack as it runs")
+    if ($3 != "static") unclear[name] = "takes stack as it runs"
     frame[name] = $2
     told[name] = 1
     next
@@ -44,7 +42,7 @@ function pushes(op, with, n) {
         return n + 0
     }
     if (op ~ /^sub/ && with ~ /^sp, /) {
-        if (with !~ /#[0-9]+/) refuse(name " takes stack that cannot be read")
+        if (with !~ /#[0-9]+/) unclear[name] = "takes stack that cannot be read"
         n = with
         sub(/^.*#/, "", n)
         return n + 0
@@ -57,7 +55,7 @@ function unread(op, with) {
     if (op ~ /^blx/) return 1
     if (op ~ /^bx/) return with !~ /^lr/
     if (op !~ /^(mov|ldr|add)/ || with !~ /^pc/) return 0
-    return with !~ /^pc, (lr|\[sp\], #4)/
+    return with !~ /^pc, (lr|\[sp\], #[0-9])/
 }
 
 {
@@ -66,7 +64,7 @@ function unread(op, with) {
     op = field[3]
     with = field[4]
     if (!(name in told)) frame[name] += pushes(op, with)
-    if (unread(op, with)) refuse(name " may call what cannot be read: " op " " with)
+    if (unread(op, with)) unclear[name] = "may call what cannot be read: " op " " with
     if (op !~ /^b/ || with !~ /<.*>/) next
     to = with
     gsub(/^.*<|\+0x.*$|>.*$/, "", to)
@@ -77,6 +75,7 @@ function unread(op, with) {
 function depth(f, n, list, i, below, inner) {
     if (f in found) return found[f]
     if (!(f in known)) refuse("there is no function " f)
+    if (f in unclear) refuse(f " " unclear[f])
     if (open_[f]) refuse(f " calls itself by others")
     open_[f] = 1
     next_[f] = ""

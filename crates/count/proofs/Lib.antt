@@ -1,4 +1,3 @@
-pub mod Table
 pub mod Signed
 pub mod Only
 pub mod Examples

@@ -11,32 +11,15 @@ const HALF: u32 = 8388608;
 
 const FULL: u32 = 16777216;
 
-// The hexadecimal capitals.
-const DIGITS: [u8; 16] = [
-    b'0',
-    b'1',
-    b'2',
-    b'3',
-    b'4',
-    b'5',
-    b'6',
-    b'7',
-    b'8',
-    b'9',
-    b'A',
-    b'B',
-    b'C',
-    b'D',
-    b'E',
-    b'F',
-];
-
 // The last hexadecimal digit of a number.
 fn hex_digit(n: u32) -> u8
     ensures { λ r. ⌜ r ≡ hexDigit (n % 16) ⌝ }
 {
-    let i = (n % 16) as usize;
-    DIGITS[i]
+    let d = (n % 16) as u8;
+    if d < 10 {
+        return b'0' + d;
+    }
+    b'A' + (d - 10)
 }
 
 // The 24 bits, two's complement, of a count's number.

@@ -76,9 +76,9 @@ function depth(f, n, list, i, below, inner) {
     if (f in found) return found[f]
     if (!(f in known)) refuse("there is no function " f)
     if (f in unclear) refuse(f " " unclear[f])
-    if (open_[f]) refuse(f " calls itself by others")
-    open_[f] = 1
-    next_[f] = ""
+    if (busy[f]) refuse(f " calls itself by others")
+    busy[f] = 1
+    via[f] = ""
     n = split(calls[f], list, " ")
     for (i = 1; i <= n; i++) {
         if (list[i] == f) {
@@ -88,7 +88,7 @@ function depth(f, n, list, i, below, inner) {
         inner = depth(list[i])
         if (inner > below) {
             below = inner
-            next_[f] = list[i]
+            via[f] = list[i]
         }
     }
     below += frame[f] * (f in times ? times[f] : 1)
@@ -97,10 +97,10 @@ function depth(f, n, list, i, below, inner) {
         inner = depth(list[i])
         if (inner > below) {
             below = inner
-            next_[f] = list[i]
+            via[f] = list[i]
         }
     }
-    open_[f] = 0
+    busy[f] = 0
     found[f] = below
     return below
 }
@@ -115,7 +115,7 @@ END {
     n = split(of, asked, " ")
     for (i = 1; i <= n; i++) {
         printf "%d %s", depth(asked[i]), asked[i]
-        for (f = next_[asked[i]]; f != ""; f = next_[f]) printf " > %s", f
+        for (f = via[asked[i]]; f != ""; f = via[f]) printf " > %s", f
         print ""
     }
 }

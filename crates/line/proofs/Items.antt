@@ -16,7 +16,7 @@ use Rattle.count.specs.Words.{pad}
 use Rattle.line.specs.declared.numbers.Item.{Item}
 use Rattle.line.specs.declared.numbers.Item.the-variants.{Last, More, Wrong}
 use Rattle.line.specs.declared.numbers.Items.{Items}
-use Rattle.line.specs.Numbers.{Size, size, no-size, digitsBehind, digitsOf, Number, is, no-number, plus, minus, numberOf, onto, parted, Numbers, are, wrong, and-then, itemsOf, numbersOf}
+use Rattle.line.specs.Numbers.{Size, size, no-size, digitsBehind, digitsOf, Number, is, no-number, plus, minus, numberOf, itemOf, onto, parted, Numbers, are, wrong, and-then, itemsOf, firstOf, numbersOf}
 use Rattle.line.specs.work.Reading.{reading, itemFrom, items}
 
 -- ---- 1 to 8 digits, digit by digit: d of them were read, of the size v
@@ -65,9 +65,15 @@ abbrev on : Number → (ℤ → Items) → Items
 on (is z) f = f z
 on no-number f = items wrong
 
+-- behind commas
+abbrev behindFrom : ℕ → List ℕ → List (List ℕ) → Items
+behindFrom n w [] = record { right = true; count = n; words = w }
+behindFrom n w (f ∷ fs) = on (itemOf f) (λ z. behindFrom (n + 1) (set w n (word z)) fs)
+
+-- a number first
 abbrev pub itemsFrom : ℕ → List ℕ → List (List ℕ) → Items
 itemsFrom n w [] = record { right = true; count = n; words = w }
-itemsFrom n w (f ∷ fs) = on (numberOf f) (λ z. itemsFrom (n + 1) (set w n (word z)) fs)
+itemsFrom n w (f ∷ fs) = on (numberOf f) (λ z. behindFrom (n + 1) (set w n (word z)) fs)
 
 abbrev after : List ℕ → Numbers → Items
 after done (are l) = record { right = true; count = length done + length l; words = pad 8 (done ++ map word l) }
@@ -84,19 +90,23 @@ after-none (are l) = let k : 0 + length l ≡ length l = omega arith in rw k
 after-none wrong = refl
 
 from-by : (x : Number) (done : List ℕ) (fs : List (List ℕ))
-    → ((d : List ℕ) → itemsFrom (length d) (pad 8 d) fs ≡ after d (itemsOf fs))
-    → on x (λ z. itemsFrom (length done + 1) (set (pad 8 done) (length done) (word z)) fs) ≡ after done (and-then x (itemsOf fs))
+    → ((d : List ℕ) → behindFrom (length d) (pad 8 d) fs ≡ after d (itemsOf fs))
+    → on x (λ z. behindFrom (length done + 1) (set (pad 8 done) (length done) (word z)) fs) ≡ after done (and-then x (itemsOf fs))
 from-by (is z) done fs ih = rw (pad-put, ← after-one, ← ih (done ++ word z ∷ []), length-append)
 from-by no-number done fs ih = refl
 
-from : (fs : List (List ℕ)) (done : List ℕ) → itemsFrom (length done) (pad 8 done) fs ≡ after done (itemsOf fs)
+from : (fs : List (List ℕ)) (done : List ℕ) → behindFrom (length done) (pad 8 done) fs ≡ after done (itemsOf fs)
 unfolding itemsOf
 from [] done = let k : length done + 0 ≡ length done = omega arith in rw (append-nil, k)
-from (f ∷ fs) done = from-by (numberOf f) done fs (from fs)
+from (f ∷ fs) done = from-by (itemOf f) done fs (from fs)
+
+start-by : (fs : List (List ℕ)) → items (firstOf fs) ≡ itemsFrom 0 (pad 8 []) fs
+start-by [] = refl
+start-by (f ∷ fs) = sym (from-by (numberOf f) [] fs (from fs) ∙ after-none (and-then (numberOf f) (itemsOf fs)))
 
 pub from-start : (t : List ℕ) → items (numbersOf t) ≡ itemsFrom 0 (pad 8 []) (parted t)
 unfolding numbersOf
-from-start t = sym (from (parted t) [] ∙ after-none (itemsOf (parted t)))
+from-start t = start-by (parted t)
 
 -- ---- one number: what the code reads at the front of a text t, from byte i of s on
 
@@ -134,22 +144,22 @@ module _ (s : List ℕ) (n : ℕ) (w : List ℕ) where
   abbrev pub follow : Item → Items
   follow Wrong = items wrong
   follow (Last x) = record { right = true; count = n + 1; words = set w n x }
-  follow (More x j) = itemsFrom (n + 1) (set w n x) (parted (drop j s))
+  follow (More x j) = behindFrom (n + 1) (set w n x) (parted (drop j s))
 
   module _ (m : Bool) where
     -- the texts fs, the first of which goes on behind d digits of the size v
     abbrev begun : ℕ → ℕ → List (List ℕ) → Items
     begun d v [] = items wrong
-    begun d v (f ∷ fs) = on (signed m (more d v f)) (λ z. itemsFrom (n + 1) (set w n (word z)) fs)
+    begun d v (f ∷ fs) = on (signed m (more d v f)) (λ z. behindFrom (n + 1) (set w n (word z)) fs)
 
-    end-by : (t : Bool) (v : ℕ) (fs : List (List ℕ)) (y : Item) → follow y ≡ itemsFrom (n + 1) (set w n (word (withSign m v))) fs
-        → on (signed m (pick t no-size (size v))) (λ z. itemsFrom (n + 1) (set w n (word z)) fs) ≡ follow (pick t Wrong y)
+    end-by : (t : Bool) (v : ℕ) (fs : List (List ℕ)) (y : Item) → follow y ≡ behindFrom (n + 1) (set w n (word (withSign m v))) fs
+        → on (signed m (pick t no-size (size v))) (λ z. behindFrom (n + 1) (set w n (word z)) fs) ≡ follow (pick t Wrong y)
     end-by true v fs y h = rw (signed-none m)
     end-by false v fs y h = rw (signed-size m v) (sym h)
 
     digit-by : (a b c : Bool) (x : Size) (y : Item) (fs : List (List ℕ))
-        → on (signed m x) (λ z. itemsFrom (n + 1) (set w n (word z)) fs) ≡ follow y
-        → on (signed m (pick a no-size (pick b no-size (pick c x no-size)))) (λ z. itemsFrom (n + 1) (set w n (word z)) fs)
+        → on (signed m x) (λ z. behindFrom (n + 1) (set w n (word z)) fs) ≡ follow y
+        → on (signed m (pick a no-size (pick b no-size (pick c x no-size)))) (λ z. behindFrom (n + 1) (set w n (word z)) fs)
         ≡ follow (pick a Wrong (pick b Wrong (pick c y Wrong)))
     digit-by true b c x y fs h = rw (signed-none m)
     digit-by false true c x y fs h = rw (signed-none m)
@@ -203,6 +213,10 @@ module _ (s : List ℕ) (n : ℕ) (w : List ℕ) where
 
   pub turn : (at : ℕ) {x : Item} → x ≡ itemFrom at (drop at s) → itemsFrom n w (parted (drop at s)) ≡ follow x
   turn at h = rw h (item (drop at s) at refl)
+
+-- what stands behind a comma begins with a number
+pub onward : (n : ℕ) (w t : List ℕ) → behindFrom n w (parted t) ≡ itemsFrom n w (parted t)
+onward n w t = let p = parted-some t in rw (p .2)
 
 -- ---- where the next number begins
 

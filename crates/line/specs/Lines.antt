@@ -15,12 +15,12 @@ use Rattle.line.specs.declared.Direct.{Direct}
 use Rattle.line.specs.declared.Code.{Code}
 use Rattle.line.specs.declared.Code.the-variants as code
 use Rattle.line.specs.declared.Stored.{Stored}
-use Rattle.line.specs.Numbers.{Numbers, are, wrong, numbersOf}
+use Rattle.line.specs.Numbers.{Numbers, are, wrong, pastSpace, numbersOf}
 
 -- what stands behind a letter or a code: nothing, or at most one space and then numbers
 unfoldable pub behind : List ℕ → Numbers
 behind [] = are []
-behind (b ∷ s) = pick (eqb b (ch " ")) (numbersOf s) (numbersOf (b ∷ s))
+behind (b ∷ s) = numbersOf (pastSpace (b ∷ s))
 
 -- ---- a line outside storing: `@0`, a letter, then its numbers; setting axes has no letter and no space
 

@@ -39,7 +39,12 @@ unfoldable pub numberOf : List ℕ → Number
 numberOf [] = no-number
 numberOf (b ∷ s) = pick (eqb b (ch "-")) (minus (digitsOf s)) (plus (digitsOf (b ∷ s)))
 
--- an item of a line's numbers: what stands between two commas is a number and nothing else
+-- past one space, if one stands in front
+abbrev pub pastSpace : List ℕ → List ℕ
+pastSpace [] = []
+pastSpace (b ∷ s) = pick (eqb b (ch " ")) s (b ∷ s)
+
+-- what stands behind a comma is a number and nothing else
 abbrev pub itemOf : List ℕ → Number
 itemOf s = numberOf s
 
@@ -62,10 +67,15 @@ and-then (is z) (are l) = are (z ∷ l)
 and-then (is z) wrong = wrong
 and-then no-number n = wrong
 
+-- the texts behind the commas
 unfoldable pub itemsOf : List (List ℕ) → Numbers
 itemsOf [] = are []
 itemsOf (f ∷ fs) = and-then (itemOf f) (itemsOf fs)
 
--- one number or more, parted by commas
+-- one number or more, parted by commas: a number, and what stands behind the commas
+abbrev pub firstOf : List (List ℕ) → Numbers
+firstOf [] = are []
+firstOf (f ∷ fs) = and-then (numberOf f) (itemsOf fs)
+
 unfoldable pub numbersOf : List ℕ → Numbers
-numbersOf s = itemsOf (parted s)
+numbersOf s = firstOf (parted s)

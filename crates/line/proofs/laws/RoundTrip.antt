@@ -13,7 +13,7 @@ use Rattle.count.specs.Text.{decimal, digits, shown}
 use Rattle.count.proofs.laws.Digits.{decimal-more, decimal-long}
 use Rattle.line.specs.declared.Code.{Code}
 use Rattle.line.specs.declared.Code.the-variants as code
-use Rattle.line.specs.Numbers.{Size, size, no-size, digitsBehind, digitsOf, is, no-number, plus, minus, numberOf, parted, Numbers, are, itemsOf, numbersOf}
+use Rattle.line.specs.Numbers.{Size, size, no-size, digitsBehind, digitsOf, is, no-number, plus, minus, numberOf, pastSpace, itemOf, parted, Numbers, are, itemsOf, numbersOf}
 use Rattle.line.specs.Lines.{behind, codeOf, stored, storedOf}
 
 -- ---- digits that are read as a size
@@ -92,6 +92,26 @@ unfolding shown numberOf
 number-back (pos n) h = digits-plus (digits n) n (digits-back n h) (behind-back n h)
 number-back (negsuc n) h = rw (digits-back (suc n) h)
 
+-- a number does not begin with a space
+no-space : (b : ℕ) (s : List ℕ) (z : ℤ) → numberOf (b ∷ s) ≡ is z → b ≡ 32 → ⊥
+unfolding numberOf digitsOf digitsBehind
+no-space b s z h e =
+    let n : numberOf (32 ∷ s) ≡ no-number = none (eqb (suc (length s)) 0) (ltb 8 (suc (length s))) in
+    let q : numberOf (32 ∷ s) ≡ is z = rw e at h in
+    let w : _≡_ {A = ℕ} 0 1 = cc in
+    omega arith
+  where
+    none : (a c : Bool) → plus (pick a no-size (pick c no-size no-size)) ≡ no-number
+    none true c = refl
+    none false true = refl
+    none false false = refl
+
+-- so past one space it is as it was
+past-number : (f t : List ℕ) (z : ℤ) → numberOf f ≡ is z → pastSpace (f ++ t) ≡ f ++ t
+unfolding numberOf
+past-number [] t z h = let w : _≡_ {A = ℕ} 0 1 = cc in absurd (omega arith)
+past-number (b ∷ f) t z h = rw (ne-eqb b 32 (no-space b f z h))
+
 -- ---- numbers with commas
 
 -- the decimal texts of numbers, a comma between each two
@@ -130,33 +150,28 @@ unfolding shown parted
 shown-more (pos n) t h = parted-more (digits n) t 0 n (behind-back n h)
 shown-more (negsuc n) t h = rw (parted-more (digits (suc n)) t 0 (suc n) (behind-back (suc n) h))
 
+-- behind a comma
+item-back : (z : ℤ) → natAbs z < 100000000 → itemOf (shown z) ≡ is z
+item-back z h = number-back z h
+
+items-back : (z : ℤ) (l : List ℤ) → Short (z ∷ l) → itemsOf (parted (joined (z ∷ l))) ≡ are (z ∷ l)
+unfolding itemsOf joined
+items-back z [] h = rw (shown-last z (h .0), item-back z (h .0))
+items-back z (y ∷ l) h = rw (shown-more z (joined (y ∷ l)) (h .0), item-back z (h .0), items-back y l (h .1))
+
 -- one number or more, each of at most eight digits, are read back
 pub numbers-back : (z : ℤ) (l : List ℤ) → Short (z ∷ l) → numbersOf (joined (z ∷ l)) ≡ are (z ∷ l)
 unfolding numbersOf itemsOf joined
 numbers-back z [] h = rw (shown-last z (h .0), number-back z (h .0))
-numbers-back z (y ∷ l) h = rw (shown-more z (joined (y ∷ l)) (h .0), number-back z (h .0), numbers-back y l (h .1))
+numbers-back z (y ∷ l) h = rw (shown-more z (joined (y ∷ l)) (h .0), number-back z (h .0), items-back y l (h .1))
 
 -- ---- behind a letter or a code
 
--- a number does not begin with a space
-no-space : (b : ℕ) (s : List ℕ) (z : ℤ) → numberOf (b ∷ s) ≡ is z → b ≡ 32 → ⊥
-unfolding numberOf digitsOf digitsBehind
-no-space b s z h e =
-    let n : numberOf (32 ∷ s) ≡ no-number = none (eqb (suc (length s)) 0) (ltb 8 (suc (length s))) in
-    let q : numberOf (32 ∷ s) ≡ is z = rw e at h in
-    let w : _≡_ {A = ℕ} 0 1 = cc in
-    omega arith
-  where
-    none : (a c : Bool) → plus (pick a no-size (pick c no-size no-size)) ≡ no-number
-    none true c = refl
-    none false true = refl
-    none false false = refl
-
--- a text in front of which there is no space
+-- numbers directly behind a letter or a code
 unspaced : (f t : List ℕ) (z : ℤ) → numberOf f ≡ is z → behind (f ++ t) ≡ numbersOf (f ++ t)
 unfolding behind numberOf
 unspaced [] t z h = let w : _≡_ {A = ℕ} 0 1 = cc in absurd (omega arith)
-unspaced (b ∷ f) t z h = rw (ne-eqb b 32 (no-space b f z h))
+unspaced (b ∷ f) t z h = ap numbersOf (past-number (b ∷ f) t z h)
 
 behind-none : behind [] ≡ are []
 unfolding behind

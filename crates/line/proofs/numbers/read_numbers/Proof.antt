@@ -5,7 +5,7 @@ use native.Mathlib.Omega.{arith}
 use lib.ListN.{length, drop, length-set}
 use Rattle.line.specs.Numbers.{numbersOf, parted}
 use Rattle.line.specs.work.Reading.{items}
-use Rattle.line.proofs.Items.{itemsFrom, from-start, turn, ahead}
+use Rattle.line.proofs.Items.{itemsFrom, from-start, turn, onward, ahead}
 use borrow.Author.Needs.{needs}
 use Rattle.line.proofs.numbers.read_numbers.Statement.{statement}
 use Rattle.line.proofs.numbers.read_numbers.Tie as tie
@@ -83,7 +83,7 @@ loop-again c =
       omega arith,
       rw (c .keep2 .ensures, length-set) (l .loop .inv .2),
       rw (c .keep2 .ensures)
-          (l .loop .inv .3 ∙ turn (s .args .s .now) (l .loop .n) (l .loop .words) (l .loop .at) (m .read-number .ensures) ∙ rw (f .item2 .given .1)),
+          (l .loop .inv .3 ∙ turn (s .args .s .now) (l .loop .n) (l .loop .words) (l .loop .at) (m .read-number .ensures) ∙ rw (f .item2 .given .1) (onward _ _ _)),
     )
 
 pub read-numbers-spec : {M : Type 1} → statement M

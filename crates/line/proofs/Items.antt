@@ -16,8 +16,9 @@ use Rattle.count.specs.Words.{pad}
 use Rattle.line.specs.declared.numbers.Item.{Item}
 use Rattle.line.specs.declared.numbers.Item.the-variants.{Last, More, Wrong}
 use Rattle.line.specs.declared.numbers.Items.{Items}
-use Rattle.line.specs.Numbers.{Size, size, no-size, digitsBehind, digitsOf, Number, is, no-number, plus, minus, numberOf, itemOf, onto, parted, Numbers, are, wrong, and-then, itemsOf, firstOf, numbersOf}
-use Rattle.line.specs.work.Reading.{reading, itemFrom, items}
+use Rattle.line.specs.Numbers.{Size, size, no-size, digitsBehind, digitsOf, Number, is, no-number, plus, minus, numberOf, pastSpace, itemOf, onto, parted, Numbers, are, wrong, and-then, itemsOf, firstOf, numbersOf}
+use Rattle.line.specs.work.Reading.{reading, itemFrom, spaced, items}
+use Rattle.line.proofs.Spaces.{tail, past-spaced}
 
 -- ---- 1 to 8 digits, digit by digit: d of them were read, of the size v
 
@@ -116,7 +117,7 @@ parted-by : (t : Bool) (b : ℕ) (s : List ℕ) → (f : List ℕ) × (fs : List
 parted-by true b s h = ([], parted s, refl)
 parted-by false b s h = (b ∷ h .0, h .1, rw (h .2))
 
-parted-some : (s : List ℕ) → (f : List ℕ) × (fs : List (List ℕ)) × (parted s ≡ f ∷ fs)
+pub parted-some : (s : List ℕ) → (f : List ℕ) × (fs : List (List ℕ)) × (parted s ≡ f ∷ fs)
 unfolding parted
 parted-some [] = ([], [], refl)
 parted-some (b ∷ s) = parted-by (eqb b 44) b s (parted-some s)
@@ -132,12 +133,6 @@ signed-size false v = refl
 signed-none : (m : Bool) → signed m no-size ≡ no-number
 signed-none true = refl
 signed-none false = refl
-
-tail : (i : ℕ) (s : List ℕ) {b : ℕ} {t : List ℕ} → b ∷ t ≡ drop i s → t ≡ drop (suc i) s
-tail zero [] e = let z : _≡_ {A = ℕ} 0 1 = cc in absurd (omega arith)
-tail (suc i) [] e = let z : _≡_ {A = ℕ} 0 1 = cc in absurd (omega arith)
-tail zero (x ∷ s) e = cc
-tail (suc i) (x ∷ s) e = tail i s e
 
 module _ (s : List ℕ) (n : ℕ) (w : List ℕ) where
   -- what is left to read behind an item
@@ -214,9 +209,24 @@ module _ (s : List ℕ) (n : ℕ) (w : List ℕ) where
   pub turn : (at : ℕ) {x : Item} → x ≡ itemFrom at (drop at s) → itemsFrom n w (parted (drop at s)) ≡ follow x
   turn at h = rw h (item (drop at s) at refl)
 
--- what stands behind a comma begins with a number
-pub onward : (n : ℕ) (w t : List ℕ) → behindFrom n w (parted t) ≡ itemsFrom n w (parted t)
-onward n w t = let p = parted-some t in rw (p .2)
+-- past one space, if one stands behind the comma, a number comes first
+onward-by : (c d : Bool) (n b : ℕ) (w t : List ℕ) → eqb b 44 ≡ c → eqb b 32 ≡ d
+    → behindFrom n w (pick c ([] ∷ parted t) (onto b (parted t))) ≡ itemsFrom n w (parted (pick d t (b ∷ t)))
+unfolding parted
+onward-by true d n b w t e f =
+    let h = eqb-true b 44 e in
+    let k : d ≡ false = sym f ∙ rw h in
+    rw (k, e)
+onward-by false true n b w t e f = let p = parted-some t in rw (p .2, f)
+onward-by false false n b w t e f = let p = parted-some t in rw (e, p .2, f)
+
+onward : (n : ℕ) (w t : List ℕ) → behindFrom n w (parted t) ≡ itemsFrom n w (parted (pastSpace t))
+unfolding parted
+onward n w [] = refl
+onward n w (b ∷ t) = onward-by (eqb b 44) (eqb b 32) n b w t refl refl
+
+pub past-comma : (n : ℕ) (w s : List ℕ) (j : ℕ) → behindFrom n w (parted (drop j s)) ≡ itemsFrom n w (parted (drop (spaced j (drop j s)) s))
+past-comma n w s j = onward n w (drop j s) ∙ ap (λ (t : List ℕ). itemsFrom n w (parted t)) (past-spaced s j)
 
 -- ---- where the next number begins
 

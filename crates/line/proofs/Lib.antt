@@ -1,4 +1,5 @@
 pub mod Digits
+pub mod Spaces
 pub mod Shapes
 pub mod Items
 pub mod Only

@@ -17,35 +17,14 @@ use Rattle.line.specs.declared.Letter.the-variants as letter
 use Rattle.line.specs.Numbers.{Numbers, are, wrong, pastSpace, numbersOf}
 use Rattle.line.specs.Lines.{behind, letterOf, direct, byLetter, afterAddress, directOf, codeOf, stored, byCode, storedOf}
 use Rattle.line.specs.work.Reading.{spaced, items, lettered, withLetter, withCode}
+use Rattle.line.proofs.Spaces.{past-spaced}
 
 -- ---- at most one space and then numbers
 
-module _ (s : List ℕ) (at : ℕ) (h : at < length s) where
-  past-by : (t : Bool) → pick t (drop (at + 1) s) (drop at s) ≡ drop (pick t (at + 1) at) s
-  past-by true = refl
-  past-by false = refl
-
-  -- the text past one space is the text from where the code goes on
-  pub past-spaced : pastSpace (drop at s) ≡ drop (spaced at (drop at s)) s
-  unfolding spaced
-  past-spaced =
-      ap pastSpace (next s at h)
-      ∙ ap (λ (l : List ℕ). pick (eqb (getD s at 0) 32) (drop (at + 1) s) l) (sym (next s at h))
-      ∙ past-by (eqb (getD s at 0) 32)
-      ∙ ap (λ (l : List ℕ). drop (spaced at l) s) (sym (next s at h))
-
-  pub behind-spaced : behind (drop at s) ≡ numbersOf (drop (spaced at (drop at s)) s)
-  unfolding behind
-  behind-spaced =
-      ap behind (next s at h) ∙ ap (λ (l : List ℕ). numbersOf (pastSpace l)) (sym (next s at h)) ∙ ap numbersOf past-spaced
-
-  spaced-by : (t : Bool) → pick t (at + 1) at ≤ length s
-  spaced-by true = omega arith
-  spaced-by false = omega arith
-
-  pub spaced-in : spaced at (drop at s) ≤ length s
-  unfolding spaced
-  spaced-in = rw (next s at h) (spaced-by (eqb (getD s at 0) 32))
+pub behind-spaced : (s : List ℕ) (at : ℕ) → at < length s → behind (drop at s) ≡ numbersOf (drop (spaced at (drop at s)) s)
+unfolding behind
+behind-spaced s at h =
+    ap behind (next s at h) ∙ ap (λ (l : List ℕ). numbersOf (pastSpace l)) (sym (next s at h)) ∙ ap numbersOf (past-spaced s at)
 
 -- ---- a letter or a code with the numbers that were read
 

@@ -1,4 +1,5 @@
--- The numbers of a line (01, "Lines", paragraph 1): numbers parted by commas; a number is an optional minus and 1 to 8 digits.
+-- The numbers of a line (01, "Lines", paragraph 1; 02 §8): numbers parted by commas, at most one space after each comma; a number is an
+-- optional minus and 1 to 8 digits.
 use Prim.Native.Nat.{ℕ, _+_, _-_, _*_}
 use mathlib.Core.List.{List, [], _∷_}
 use lib.ListN.{length}
@@ -44,9 +45,9 @@ abbrev pub pastSpace : List ℕ → List ℕ
 pastSpace [] = []
 pastSpace (b ∷ s) = pick (eqb b (ch " ")) s (b ∷ s)
 
--- what stands behind a comma is a number and nothing else
+-- what stands behind a comma: at most one space, then a number and nothing else (02 §8)
 abbrev pub itemOf : List ℕ → Number
-itemOf s = numberOf s
+itemOf s = numberOf (pastSpace s)
 
 -- the texts between the commas
 abbrev pub onto : ℕ → List (List ℕ) → List (List ℕ)

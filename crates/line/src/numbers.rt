@@ -1,4 +1,4 @@
-// Numbers parted by commas, read in one pass over their bytes.
+// Numbers parted by commas, at most one space after each comma, read in one pass over their bytes.
 ghost use mathlib.Core.Path.{_≡_};
 ghost use Prim.Native.Nat.{_≤_};
 ghost use lib.ListN.{length, set, drop};
@@ -6,7 +6,7 @@ ghost use Rattle.line.specs.Numbers.{numbersOf, wrong};
 ghost use Rattle.line.specs.Lines.{behind};
 ghost use Rattle.line.specs.work.Reading.{reading, itemFrom, spaced, items};
 
-// A number's word: the last of its line, or one with a comma behind it and the byte where the next number begins.
+// A number's word: the last of its line, or one with a comma behind it and the byte behind that comma.
 pub(crate) enum Item {
     Last(u32),
     More(u32, usize),
@@ -120,13 +120,14 @@ pub(crate) fn read_numbers(s: &[u8], start: usize) -> Items
                 let kept = keep(words, n, w);
                 words = kept;
                 n = n + 1;
-                at = next;
+                let from = past_space(s, next);
+                at = from;
             }
         }
     }
 }
 
-// Where the numbers begin: past one space, if one stands at byte `at`.
+// Where a number begins: past one space, if one stands at byte `at`.
 fn past_space(s: &[u8], at: usize) -> usize
     ensures { λ r. ⌜ r ≡ spaced at (drop at (now (s .entry))) ⌝ }
 {

@@ -151,8 +151,13 @@ shown-more (pos n) t h = parted-more (digits n) t 0 n (behind-back n h)
 shown-more (negsuc n) t h = rw (parted-more (digits (suc n)) t 0 (suc n) (behind-back (suc n) h))
 
 -- behind a comma
+past-shown : (z : ℤ) → natAbs z < 100000000 → pastSpace (shown z) ≡ shown z
+past-shown z h =
+    let e : shown z ++ [] ≡ shown z = append-nil (shown z) in
+    ap pastSpace (sym e) ∙ past-number (shown z) [] z (number-back z h) ∙ e
+
 item-back : (z : ℤ) → natAbs z < 100000000 → itemOf (shown z) ≡ is z
-item-back z h = number-back z h
+item-back z h = ap numberOf (past-shown z h) ∙ number-back z h
 
 items-back : (z : ℤ) (l : List ℤ) → Short (z ∷ l) → itemsOf (parted (joined (z ∷ l))) ≡ are (z ∷ l)
 unfolding itemsOf joined

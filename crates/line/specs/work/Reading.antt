@@ -32,7 +32,7 @@ unfoldable pub itemFrom : ℕ → List ℕ → Item
 itemFrom i [] = reading false i 0 0 []
 itemFrom i (b ∷ s) = pick (eqb b 45) (reading true (i + 1) 0 0 s) (reading false i 0 0 (b ∷ s))
 
--- where the numbers begin in the text from byte i on: past one space, if one stands there
+-- where a number begins in the text from byte i on: past one space, if one stands there
 unfoldable pub spaced : ℕ → List ℕ → ℕ
 spaced i [] = i
 spaced i (b ∷ s) = pick (eqb b 32) (i + 1) i

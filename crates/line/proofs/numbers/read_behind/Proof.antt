@@ -5,7 +5,8 @@ use native.Mathlib.Omega.{arith}
 use lib.ListN.{length, drop-of-length-le}
 use Rattle.line.specs.Lines.{behind}
 use Rattle.line.specs.work.Reading.{items}
-use Rattle.line.proofs.Shapes.{behind-spaced, spaced-in}
+use Rattle.line.proofs.Shapes.{behind-spaced}
+use Rattle.line.proofs.Spaces.{spaced-on}
 use borrow.Author.Needs.{needs}
 use Rattle.line.proofs.numbers.read_behind.Statement.{statement}
 use Rattle.line.proofs.numbers.read_behind.Tie as tie
@@ -26,8 +27,7 @@ returns c =
 read-numbers-requires : tie.Need-read-numbers-requires
 read-numbers-requires c κs =
     let s = c .before .before .before in
-    let h : s .args .at < length (s .args .s .now) = omega (arith, s .pre, c .if1 .left) in
-    rw (c .before .past-space .ensures) (spaced-in (s .args .s .now) (s .args .at) h)
+    rw (c .before .past-space .ensures) (spaced-on (s .args .s .now) (s .args .at) (s .pre) .1)
 
 returns-2 : tie.Need-returns-2
 returns-2 c =

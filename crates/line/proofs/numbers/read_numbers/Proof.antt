@@ -5,7 +5,8 @@ use native.Mathlib.Omega.{arith}
 use lib.ListN.{length, drop, length-set}
 use Rattle.line.specs.Numbers.{numbersOf, parted}
 use Rattle.line.specs.work.Reading.{items}
-use Rattle.line.proofs.Items.{itemsFrom, from-start, turn, onward, ahead}
+use Rattle.line.proofs.Spaces.{spaced-on}
+use Rattle.line.proofs.Items.{itemsFrom, from-start, turn, past-comma, ahead}
 use borrow.Author.Needs.{needs}
 use Rattle.line.proofs.numbers.read_numbers.Statement.{statement}
 use Rattle.line.proofs.numbers.read_numbers.Tie as tie
@@ -43,8 +44,8 @@ enum-known-item c = search needs
 keep-requires : tie.Need-keep-requires Inv-loop μ-loop
 keep-requires c κs = search needs
 
-add-t12 : tie.Need-add-t12 Inv-loop μ-loop
-add-t12 c = search needs
+add-t13 : tie.Need-add-t13 Inv-loop μ-loop
+add-t13 c = search needs
 
 returns-2 : tie.Need-returns-2 Inv-loop μ-loop
 returns-2 c =
@@ -64,26 +65,33 @@ keep-requires-2 c κs = search needs
 add-n : tie.Need-add-n Inv-loop μ-loop
 add-n c = search needs
 
+past-space-requires : tie.Need-past-space-requires Inv-loop μ-loop
+past-space-requires c κs = search needs
+
 loop-less : tie.Need-loop-less Inv-loop μ-loop
 loop-less c =
-    let f = c .before .before in
+    let f = c .before .before .before in
     let m = f .before .before in
     let l = m .before in
     let s = l .before .before in
-    omega (arith, ahead (s .args .s .now) (l .loop .at) (l .loop .inv .0) (m .read-number .ensures) (f .item2 .given .1))
+    let a = ahead (s .args .s .now) (l .loop .at) (l .loop .inv .0) (m .read-number .ensures) (f .item2 .given .1) in
+    let b = spaced-on (s .args .s .now) _ (a .1) in
+    rw (c .past-space .ensures) (omega arith)
 
 loop-again : tie.Need-loop-again Inv-loop μ-loop
 loop-again c =
-    let f = c .before .before in
+    let f = c .before .before .before in
     let m = f .before .before in
     let l = m .before in
     let s = l .before .before in
-    let a = ahead (s .args .s .now) (l .loop .at) (l .loop .inv .0) (m .read-number .ensures) (f .item2 .given .1) in (
-      a .1,
-      omega arith,
-      rw (c .keep2 .ensures, length-set) (l .loop .inv .2),
-      rw (c .keep2 .ensures)
-          (l .loop .inv .3 ∙ turn (s .args .s .now) (l .loop .n) (l .loop .words) (l .loop .at) (m .read-number .ensures) ∙ rw (f .item2 .given .1) (onward _ _ _)),
+    let t = s .args .s .now in
+    let a = ahead t (l .loop .at) (l .loop .inv .0) (m .read-number .ensures) (f .item2 .given .1) in
+    let b = spaced-on t _ (a .1) in (
+      rw (c .past-space .ensures) (b .1),
+      rw (c .past-space .ensures) (omega arith),
+      rw (c .before .keep2 .ensures, length-set) (l .loop .inv .2),
+      rw (c .before .keep2 .ensures, c .past-space .ensures)
+          (l .loop .inv .3 ∙ turn t (l .loop .n) (l .loop .words) (l .loop .at) (m .read-number .ensures) ∙ rw (f .item2 .given .1) (past-comma _ _ t _)),
     )
 
 pub read-numbers-spec : {M : Type 1} → statement M
@@ -99,10 +107,11 @@ read-numbers-spec =
     returns
     enum-known-item
     keep-requires
-    add-t12
+    add-t13
     returns-2
     enum-known-item-2
     keep-requires-2
     add-n
+    past-space-requires
     loop-less
     loop-again)

@@ -5,10 +5,12 @@ pub mod FakesCore
 pub mod FakesCount
 pub mod FakesFollows
 pub mod FakesRoute
+pub mod FakesSpaces
 pub mod FakesStop
 pub mod FakesSum
 pub mod FakesTyped
 pub mod Follows
+pub mod Gathering
 pub mod Guard
 pub mod KeepsAlways
 pub mod KeepsAxes
@@ -21,6 +23,7 @@ pub mod KeepsOn
 pub mod KeepsPulses
 pub mod KeepsReturn
 pub mod KeepsSending
+pub mod KeepsSpaces
 pub mod KeepsStart
 pub mod KeepsSum
 pub mod KeepsTrip

@@ -1,8 +1,9 @@
--- THE DEMANDS: what is promised of the board, as one record over any machine (00, demands 1, 2 and 3). `ours-demanded` in
--- proofs/laws/Demanded.antt is the theorem that ours has it.
+-- THE DEMANDS: what is promised of the board, as one record over any machine (00, demands 1, 2 and 3), and what the requests add (02).
+-- `ours-demanded` and `ours-requested` in proofs/laws/Demanded.antt are the theorems that ours has them.
 use Rattle.promise.specs.Machine.{Machine}
 use Rattle.promise.specs.Demands.{RefusedLine, AcceptedLine, SilentReturn, RefusedCall, Quiet, SumOfPulses, Counted, NoDeadEnd, RoundTrip, EndAccepts, EndToEnd}
 use Rattle.promise.specs.Follows.{Follows}
+use Rattle.promise.specs.Spaces.{SpacesChangeNothing}
 use Rattle.promise.specs.Route.{Routes, StartRoutes}
 use Rattle.promise.specs.Three.{DemandThree}
 
@@ -32,3 +33,8 @@ pub record Demanded (m : Machine) : Type 0 where
   pub demand-1 : DemandOne m
   pub demand-2 : DemandTwo m
   pub demand-3 : DemandThree m
+
+-- the requests, by their numbers in 02
+pub record Requested (m : Machine) : Type 0 where
+  -- §8: lines that differ only in the spaces after their commas
+  pub spaces : SpacesChangeNothing m

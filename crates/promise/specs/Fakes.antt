@@ -13,6 +13,7 @@ use Rattle.count.specs.Paper.{Paper, says}
 use Rattle.motion.specs.declared.Counters.{Counters}
 use Rattle.motion.specs.Next.{pulseOf}
 use Rattle.record.specs.Places.{fetchOf}
+use Rattle.line.specs.Spaces.{unspaced}
 use Rattle.engine.specs.declared.Answer.the-variants as answer
 use Rattle.engine.specs.declared.Job.{Job}
 use Rattle.engine.specs.declared.Job.the-variants as job
@@ -20,7 +21,7 @@ use Rattle.engine.specs.State.{withAt, withRun, running}
 use Rattle.engine.specs.Tick.{ticked, runsOf}
 use Rattle.board.specs.declared.Board.{Board}
 use Rattle.board.specs.declared.Ticked.{Ticked}
-use Rattle.board.specs.State.{board, lineDone}
+use Rattle.board.specs.State.{board, textOf, lineDone}
 use Rattle.board.specs.Receive.{hearing, stopCode}
 use Rattle.board.specs.Calls.{Outcome, refused, answered, clocked, wentOn, receiving, clocking, fresh}
 use Rattle.course.specs.Walk.{noStore}
@@ -186,3 +187,12 @@ lossy b o = (o .result .board, record { len = o .result .len; refusal = o .resul
 
 abbrev pub losesBytes : Machine
 losesBytes = hearsSo (λ v ports l b. lossy b (receiving v ports b (l .reply) (l .store)))
+
+-- ---- spaces after commas (02 §8)
+
+-- the board before: a line with such a space is answered 5
+abbrev pub hasSpaces : Board → Bool
+hasSpaces b = not (eqb (length (unspaced (textOf (b .line)))) (b .line .len))
+
+abbrev pub strict : Machine
+strict = hearsSo (λ v ports l b. pick (eqb v (ch "\r") && hasSpaces b) (lineDone b, saysAlone (ch "5") l) (ours .hear v ports l b))

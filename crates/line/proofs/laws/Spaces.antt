@@ -6,13 +6,15 @@ use mathlib.Core.Bool.{Bool, true, false, _&&_}
 use native.Mathlib.Omega.{arith}
 use borrow.Author.Tests.{ne-eqb, eqb-true}
 use lib.Dec.{eqb}
+use lib.IntN.{pos, negsuc}
 use lib.ListN.{getD}
+use Rattle.count.specs.Chars.{ch, codes}
 use Rattle.count.specs.Pick.{pick}
 use Rattle.line.specs.declared.Code.{Code}
 use Rattle.line.specs.declared.Code.the-variants as code
 use Rattle.line.specs.declared.Direct.{Direct}
 use Rattle.line.specs.declared.Letter.the-variants as letter
-use Rattle.line.specs.Numbers.{numberOf, pastSpace, onto, parted, Numbers, are, wrong, and-then, itemsOf, firstOf, numbersOf}
+use Rattle.line.specs.Numbers.{digitsBehind, digitsOf, numberOf, pastSpace, onto, parted, Numbers, are, wrong, and-then, itemsOf, firstOf, numbersOf}
 use Rattle.line.specs.Lines.{behind, letterOf, direct, byLetter, afterAddress, directOf, codeOf, stored, byCode, storedOf}
 use Rattle.line.specs.Spaces.{unspaced, SameButSpaces}
 use Rattle.line.specs.work.Reading.{lettered}
@@ -231,3 +233,15 @@ stored-alike [] [] e = refl
 stored-alike [] (b ∷ t) e = none-alike b t e
 stored-alike (a ∷ s) [] e = none-alike a s (sym e)
 stored-alike (a ∷ s) (b ∷ t) e = let h = first-alike a b s t e in code-by (codeOf a) a b s t refl e ∙ ap (λ (c : ℕ). byCode (codeOf c) t) h
+
+-- ---- the request's own line; two numbers for the axes; and what stays a wrong shape: a space before a comma, two spaces, a space with
+-- nothing or a comma behind it
+
+abbrev no-record : List ℕ → Type 0
+no-record t = storedOf t ≡ stored code.Wrong wrong
+
+pub examples :
+    (storedOf (codes "3 25, -1") ≡ stored (code.Record (ch "3")) (are (pos 25 ∷ negsuc 0 ∷ []))) × (directOf (codes "@01, 3") ≡ direct letter.Axes (are (pos 1 ∷ pos 3 ∷ [])))
+    × no-record (codes "3 25 ,-1") × no-record (codes "3 25,  -1") × no-record (codes "3 25, ") × no-record (codes "3 25, ,-1") × no-record (codes "3 25, -1 ")
+unfolding storedOf codeOf behind directOf afterAddress letterOf numbersOf parted itemsOf numberOf digitsOf digitsBehind
+examples = (refl, refl, refl, refl, refl, refl, refl)

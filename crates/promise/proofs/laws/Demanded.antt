@@ -1,6 +1,6 @@
--- THE THEOREM: our machine has all three demands. Assumes nothing.
+-- THE THEOREMS: our machine has all three demands, and what the requests add. Assumes nothing.
 use Rattle.promise.specs.Machine.{ours}
-use Rattle.promise.specs.Demanded.{DemandOne, DemandTwo, Demanded}
+use Rattle.promise.specs.Demanded.{DemandOne, DemandTwo, Demanded, Requested}
 use Rattle.promise.proofs.laws.Follows.{ours-follows}
 use Rattle.promise.proofs.laws.KeepsAlways.{keeps-no-dead-end}
 use Rattle.promise.proofs.laws.KeepsCalls.{keeps-refused-call, keeps-quiet, keeps-counted}
@@ -8,6 +8,7 @@ use Rattle.promise.proofs.laws.KeepsReturn.{keeps-refused-line, keeps-a
 use Rattle.promise.proofs.laws.KeepsEvents.{keeps-sum-of-pulses}
 use Rattle.promise.proofs.laws.KeepsEnd.{keeps-end-accepts, stored-then-listed}
 use Rattle.promise.proofs.laws.KeepsTrip.{keeps-round-trip}
+use Rattle.promise.proofs.laws.KeepsSpaces.{keeps-spaces}
 use Rattle.promise.proofs.laws.RouteStart.{ours-start-routes}
 use Rattle.promise.proofs.laws.RouteSteps.{ours-routes}
 use Rattle.promise.proofs.laws.ThreeLaws.{ours-demand-3}
@@ -32,3 +33,6 @@ ours-demand-2 = record {
 
 pub ours-demanded : Demanded ours
 ours-demanded = record { demand-1 = ours-demand-1; demand-2 = ours-demand-2; demand-3 = ours-demand-3 }
+
+pub ours-requested : Requested ours
+ours-requested = record { spaces = keeps-spaces }

@@ -16,7 +16,7 @@ use Rattle.promise.specs.Machine.{Lent, ours, Event, byte, clock, next, 
 use Rattle.promise.specs.Demands.{RightLent, refusalOf, NoDeadEnd}
 use Rattle.promise.proofs.laws.KeepsCalls.{kept}
 use Rattle.promise.proofs.laws.KeepsReturn.{out-board}
-use Rattle.promise.proofs.laws.KeepsSending.{hear-so}
+use Rattle.promise.proofs.laws.Gathering.{hear-so}
 
 -- ---- a sound board refuses no call with buffers of the right lengths
 

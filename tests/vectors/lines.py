@@ -1,5 +1,5 @@
 #!/usr/bin/env python3
-"""Lines and what each of them says, worked out from the sentences of 01, "Lines", and not from the code.
+"""Lines and what each of them says, worked out from the sentences of 01, "Lines", and of 02 §8, and not from the code.
 
 Writes crates/line_shapes/stdin and crates/line_shapes/stdout. Each line of stdin is `D ` (a line outside storing) or `S ` (a line
 while storing) and the line's bytes as hexadecimal pairs; each line of stdout is the letter's or code's number (53, the reply 5,
@@ -9,9 +9,9 @@ import os
 import re
 import sys
 
-# "A number is an optional minus and 1 to 8 digits", "numbers parted by commas"
+# "A number is an optional minus and 1 to 8 digits", "numbers parted by commas"; 02: a space behind a comma, at most one
 NUMBER = rb"-?[0-9]{1,8}"
-NUMBERS = NUMBER + rb"(?:," + NUMBER + rb")*"
+NUMBERS = NUMBER + rb"(?:,\x20?" + NUMBER + rb")*"
 # "a letter, at most one space, then numbers"; no last space
 BEHIND = rb"(?:\x20?(" + NUMBERS + rb"))?"
 # "A line is `@0`, a letter, ..; setting axes has no letter and no space"; "A, M and S may be small letters"
@@ -22,7 +22,7 @@ CODE = re.compile(rb"([0mnz3512])" + BEHIND)
 
 
 def said(kind, numbers):
-    values = [int(n) for n in numbers.split(b",")] if numbers else []
+    values = [int(n.removeprefix(b" ")) for n in numbers.split(b",")] if numbers else []
     return kind, values
 
 
@@ -56,6 +56,13 @@ DIRECT = [
     (b"@0k-99999999", "k", [-99999999]), (b"@0A99999999", "A", [99999999]), (b"@0A00000000", "A", [0]),
     (b"@0A-00000001", "A", [-1]), (b"@0A1,2,3,4,5,6,7,8", "A", [1, 2, 3, 4, 5, 6, 7, 8]),
     (b"@0A1,2,3,4,5,6,7,8,9", "A", [1, 2, 3, 4, 5, 6, 7, 8, 9]),
+    (b"@0A3, 600", "A", [3, 600]), (b"@0A 3, 600, 1, 900", "A", [3, 600, 1, 900]), (b"@0a3,600, 1,900", "A", [3, 600, 1, 900]),
+    (b"@0A -3, 600,-1, 900, 5,30, -5, 10000", "A", [-3, 600, -1, 900, 5, 30, -5, 10000]), (b"@0m 0, -0", "M", [0, 0]),
+    (b"@0M8388607, 00000600", "M", [8388607, 600]), (b"@0A3, -99999999", "A", [3, -99999999]), (b"@0B0, 255", "B", [0, 255]),
+    (b"@0B 0, 0", "B", [0, 0]), (b"@01, 3", "0", [1, 3]), (b"@0-1, -3, 7", "0", [-1, -3, 7]), (b"@0P5, 5", "P", [5, 5]),
+    (b"@0n1, 2", "n", [1, 2]), (b"@0N 1, 2", "N", [1, 2]), (b"@0z1, 1", "z", [1, 1]), (b"@0b0, 0", "b", [0, 0]),
+    (b"@0i0, 0", "i", [0, 0]), (b"@0k0, 0", "k", [0, 0]), (b"@0s0, 0", "S", [0, 0]),
+    (b"@0A1,2,3,4,5,6,7,8, 9", "A", [1, 2, 3, 4, 5, 6, 7, 8, 9]), (b"@0A1, 2, 3, 4, 5, 6, 7, 8", "A", [1, 2, 3, 4, 5, 6, 7, 8]),
 ]
 STORED = [
     (b"9", "9", []), (b"0", "0", []), (b"m", "m", []), (b"n", "n", []), (b"z", "z", []), (b"3", "3", []), (b"5", "5", []),
@@ -66,22 +73,38 @@ STORED = [
     (b"565535", "5", [65535]), (b"5 0", "5", [0]), (b"133", "1", [33]), (b"1 126", "1", [126]), (b"265,2", "2", [65, 2]),
     (b"2 33,-32768", "2", [33, -32768]), (b"09", "0", [9]), (b"00", "0", [0]), (b"99999999", None, None), (b"399999999", "3", [99999999]),
     (b"00000000000", None, None), (b"000000000", "0", [0]), (b"0-00000000", "0", [0]), (b"z-1", "z", [-1]), (b"55555,5", "5", [5555, 5]),
+    (b"3 25, -1", "3", [25, -1]), (b"325, -1", "3", [25, -1]), (b"30, 5", "3", [0, 5]), (b"2 33, -32768", "2", [33, -32768]),
+    (b"265, 2", "2", [65, 2]), (b"03, 600", "0", [3, 600]), (b"0 3, 600,1, 900", "0", [3, 600, 1, 900]), (b"n1, 2", "n", [1, 2]),
+    (b"0 -3, 600, -1, 900, 5, 30, -5, 10000", "0", [-3, 600, -1, 900, 5, 30, -5, 10000]), (b"m0, -0", "m", [0, 0]),
+    (b"m 8388607, 00000030", "m", [8388607, 30]), (b"z0, 0", "z", [0, 0]), (b"5 1, 1", "5", [1, 1]), (b"133, 1", "1", [33, 1]),
+    (b"0 1,2,3,4,5,6,7,8, 9", "0", [1, 2, 3, 4, 5, 6, 7, 8, 9]),
 ]
 # By hand: lines whose shape is wrong.
 NO_DIRECT = [
     b"", b"@", b"@0", b"0", b"A", b"@A3,600", b"@1A3,600", b"0@A3,600", b" @0A3,600", b"@ 0A3,600", b"@0 7", b"@0 A3,600", b"@07 ",
-    b"@07,", b"@0,7", b"@0A ", b"@0P ", b"@0S ", b"@0A  3,600", b"@0A3 ,600", b"@0A3, 600", b"@0A3,600 ", b"@0A3,,600", b"@0A,3",
+    b"@07,", b"@0,7", b"@0A ", b"@0P ", b"@0S ", b"@0A  3,600", b"@0A3 ,600", b"@0A3,600 ", b"@0A3,,600", b"@0A,3",
     b"@0A3,", b"@0A,", b"@0A--3", b"@0A-", b"@0A3-", b"@0A+3", b"@0A3.5", b"@0A3;600", b"@0A123456789", b"@0A-123456789",
     b"@0000000007", b"@0-", b"@0--1", b"@01 3", b"@0p", b"@0I", b"@0K", b"@0Z1", b"@0c", b"@0R7", b"@0t", b"@0x3", b"@0AA", b"@0PP",
     b"@0A\t3", b"@0P\n", b"\n@0P", b"@0P\r", b"@0\x00", b"@0P\x00", b"\x00@0P", b"@0\xc1", b"@0A\xb3", b"@0A3\xac600", b"@\xb0A3",
     b"\xc0" + b"0P", b"@0A3,600\xa0", b"@0A\xa03", b"@0A3,6:0", b"@0A3,6/0", b"@0A3,0x10", b"@0A3,1e3", b"9", b"0 3,600", b"@@0P",
-    b"@0A1,2,3,4,5,6,7,8,9,", b"@0A1,2,3,4,5,6,7,8,123456789", b"@0A1,2,3,4,5,6,7,8, 9", b"@0A 1 2", b"@0A -", b"@0A - 3",
+    b"@0A1,2,3,4,5,6,7,8,9,", b"@0A1,2,3,4,5,6,7,8,123456789", b"@0A 1 2", b"@0A -", b"@0A - 3",
+    b"@0A3,  600", b"@0A3 , 600", b"@0A 3 ,600", b"@0A3, 600 ", b"@0A3, 600, ", b"@0A3, ", b"@0A3,  ", b"@0A3, ,600", b"@0A3,, 600",
+    b"@0A3,600 ,1,900", b"@0A3,600,1,  900", b"@0A, 3", b"@0A , 3", b"@0A 3,\t600", b"@0A3, \t600", b"@0A3,\t 600",
+    b"@0A3,\xa0600", b"@0A3, \xa0600", b"@0A3,\n600", b"@0A3,\x00600", b"@0A3,- 600", b"@0A3, - 600", b"@0A3, -", b"@0A3, --6",
+    b"@0A3, +600", b"@0A3, 6 00", b"@0A3, 123456789", b"@0A3, -123456789", b"@0A3, x", b"@0P, ", b"@0P,", b"@01 ,3", b"@01 , 3",
+    b"@01,  3", b"@01, ", b"@01, 3 ", b"@01, ,3", b"@01,\t3", b"@01,\xa03", b"@01,- 3", b"@0 1, 3", b"@0, 7", b"@0B0 ,255", b"@0B0,  255",
+    b"@0A1, 2, 3, 4, 5, 6, 7, 8, ", b"@0A1,2,3,4,5,6,7,8,  9", b"@0A1,2,3,4,5,6,7,8 ,9", b"@0A1,2,3,4,5,6,7,8, 9 ", b"3 25, -1",
 ]
 NO_STORED = [
     b"", b" ", b"9 ", b"91", b"9,", b"9 1", b"99", b"9-1", b"9\n", b"M3,600", b"N1", b"A3,600", b"a3,600", b"Z1", b"@0P", b"@09", b"@0z1",
     b"@07", b"S", b"s", b"i", b"k", b"P", b"b0", b"B0,1", b"4", b"41", b"6", b"71", b"8", b"z ", b"n ", b"0 ", b" z1", b"z  1", b"z1 ",
-    b"3 25 ,-1", b"3 25, -1", b"3,25,-1", b"325,-1,", b"325,,-1", b"3-", b"3--1", b"3 +1,1", b"5123456789", b"5 -123456789", b"0,",
+    b"3 25 ,-1", b"3,25,-1", b"325,-1,", b"325,,-1", b"3-", b"3--1", b"3 +1,1", b"5123456789", b"5 -123456789", b"0,",
     b"0\t1", b"\n", b"z1\n", b"\nz1", b"z1\r", b"\x00", b"z\x00", b"\xb0", b"z\xb1", b"m3;600", b"m3.600", b"-1", b",", b"0 -", b"0 ,1",
+    b"3 25,  -1", b"325,  -1", b"3 25 , -1", b"325 ,-1", b"3 25, -1 ", b"3 25, ", b"3 25, ,-1", b"3 25,, -1", b"3 25, -1, ", b"3, 25",
+    b"3 , 25", b"3  25, -1", b"3 25,\t-1", b"3 25, \t-1", b"3 25,\xa0-1", b"3 25, \xa0-1", b"3 25,\n-1", b"3 25,\x00-1", b"3 25,- 1",
+    b"3 25, - 1", b"3 25, -", b"3 25, --1", b"3 25, +1", b"3 2 5, -1", b"3 25, 123456789", b"3 25, -123456789", b"9, ", b"9, 1", b"9 , 1",
+    b"2 33 ,1", b"233,  1", b"0 3, 600, 1, 900 ", b"0 3, 600, 1 ,900", b"0 3, 600,  1, 900", b"m3,  600", b"m3 ,600", b"0, 1", b"@01, 3",
+    b"0 1,2,3,4,5,6,7,8,  9", b"0 1,2,3,4,5,6,7,8 ,9", b"0 1,2,3,4,5,6,7,8, ", b" 3 25, -1",
 ]
 
 
@@ -105,11 +128,27 @@ def damaged(lines, many, seed):
     return out
 
 
+def with_spaces(line):
+    """The line with one space, two, a tab and a no-break space at each of its places."""
+    return [line[:at] + put + line[at:] for at in range(len(line) + 1) for put in (b" ", b"  ", b"\t", b"\xa0")]
+
+
+def alike(line):
+    """The line with a space behind some of its commas or none: all of them say what it says."""
+    out = [b""]
+    for byte in line:
+        out = [o + bytes([byte]) + put for o in out for put in ((b"", b" ") if byte == ord(",") else (b"",))]
+    return out
+
+
 def long_lines(head):
     numbers = [b"%d" % (n * n * 1009 % 100000000 - 50000000) for n in range(200)]
     return [
         head + b",".join(numbers), head + b" " + b",".join(numbers[:39]), head + b",".join([b"1"] * 40), head + b",".join(numbers) + b",",
         head + b",".join(numbers[:100] + [b""] + numbers[100:]), head + b"1" * 80, head + b" " * 80,
+        head + b" " + b", ".join(numbers[:100]), head + b", ".join(numbers[:39]), head + b", ".join([b"1"] * 40),
+        head + b", ".join(numbers[:40]) + b", ", head + b", ".join(numbers[:40]) + b" ", head + b", ".join(numbers[:30] + [b""] + numbers[30:40]),
+        head + b", ".join(numbers[:30]) + b",  " + b", ".join(numbers[30:40]), head + b"1," + b" " * 80 + b"1", head + b"1" + b", " * 40,
     ]
 
 
@@ -124,9 +163,15 @@ def lists():
         assert stored(line) == (53, []), line
     ours = [line for line, _, _ in DIRECT]
     theirs = [line for line, _, _ in STORED]
-    for line in ours + NO_DIRECT + damaged(ours, 150, 1) + long_lines(b"@0A") + [b"@0" + bytes([b]) for b in range(256)]:
+    for line in alike(b"@0A-3,600,1,-9"):
+        assert direct(line) == (ord("A"), [-3, 600, 1, -9]), line
+    for line in alike(b"0 5,30,-7,10"):
+        assert stored(line) == (ord("0"), [5, 30, -7, 10]), line
+    placed = with_spaces(b"@0A 3,-6,12") + with_spaces(b"@01,3") + alike(b"@0A-3,600,1,-9")
+    for line in ours + NO_DIRECT + damaged(ours, 150, 1) + long_lines(b"@0A") + [b"@0" + bytes([b]) for b in range(256)] + placed:
         yield "D", line, direct(line)
-    for line in theirs + NO_STORED + damaged(theirs, 150, 2) + long_lines(b"0") + [bytes([b]) for b in range(256)]:
+    placed = with_spaces(b"3 25,-1") + with_spaces(b"m1,-2,30") + alike(b"0 5,30,-7,10")
+    for line in theirs + NO_STORED + damaged(theirs, 150, 2) + long_lines(b"0") + [bytes([b]) for b in range(256)] + placed:
         yield "S", line, stored(line)
 
 

@@ -26,4 +26,8 @@ while_standing("position", "P is heard: the position at the stop, 7 for a number
                line("@0P", report(1, 0, 0)), line("@0P1", "7"), line("@0P 1,2", "7"), lines("5", "@0P ", "@0p", "@0Pa"), line("@0P", report(1, 0, 0)))
 while_standing("port", "b is heard: 7 before 1", lines("000", "@0b0", "@0b 3"), lines("7", "@0b", "@0b0,1", "@0b9,9"), lines("1", "@0b4", "@0b-1"), lines("5", "@0b ", "@0b0,"))
 while_standing("start", "S with a number is 7 and a wrong shape 5: it stands on", lines("7", "@0S1", "@0s 0,0"), lines("5", "@0S ", "@0Sx", "@0S,"))
+while_standing("spaces", "spaces behind commas: W, and 7 for P, b and S; two spaces, one before a comma or as the last byte are 5; they count among the 80 bytes",
+               lines("W", "@0A1, 600, 1, 600", "@0a 1, 29,1, 600", "@0M 1, 10001,0, 600", "@01, 3", "@0B0, 1", "@0z1, 1", "@0A" + "1, 3456," * 9 + "1, 34"),
+               lines("7", "@0P1, 2", "@0b 0, 1", "@0s0, 0"),
+               lines("5", "@0A1,  600", "@0A1 ,600", "@0A1, 600 ", "@0B0, ", "@01, ,3", "@0P1,\t2", "@0A" + "1, 3456," * 9 + "1, 345"))
 while_standing("wrong_shapes", "5 before W", lines("5", "", "@", "@0", "@1A1,600", "x", "@0R1", "@0x", "\n@0P", "@0A1,600,1,600\n", " @0P", "@00A"))

@@ -50,6 +50,10 @@ case("dropped_while_running", "ordinary bytes while running are dropped, the ret
      line("@01", "0"), line("@0A3,600"), line("@0P"), line(""), line("@0k"), clock(*x(1)), byte(0), byte(252), stop,
      where(1, 0, 0), line("", "5"), line("@0S"), line("@0P"), clock(*x(2), ZERO), where(3, 0, 0))
 
+case("spaces_while_running", "spaces and commas while running are dropped as any byte; none of them heads the next line",
+     line("@01", "0"), line("@0A3, 600"), text("  , "), clock(*x(1)), line("@0A 1, 600"), text(" "), stop, where(1, 0, 0), line("@0P1, 2", "7"), line("@0S"), text(", "),
+     clock(*x(2), ZERO), where(3, 0, 0))
+
 case("half_dropped", "a line half of which came while it ran: the first half is lost, the rest is no line",
      line("@01", "0"), line("@0A2,600"), text("@0"), stop, line("P", "5"), where(0, 0, 0), line("@0S"), text("@0"),
      clock(*x(2), ZERO), line("P", "5"), where(2, 0, 0))

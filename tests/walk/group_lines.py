@@ -14,13 +14,17 @@ case("axes_values", "1, 3 and 7 are allowed; all else is 3", good + bad, said + 
 
 case("axes_count", "two numbers are 7, before 3", lines("@01,3", "@02,2", "@07,"), R("7", "7", "5"))
 
+case("axes_spaces", "a space behind the comma changes nothing: two numbers are 7, before 3; every other space is 5, and so is a comma at the end",
+     lines("@01, 3", "@02, 2", "@01, 3, 7", "@01 ,3", "@01,  3", "@01, 3 ", "@01, ", "@0 1, 3", "@0, 7", "@07"),
+     R("7", "7", "7", "5", "5", "5", "5", "5", "5", "0"))
+
 case("axes_zeros", "a number is 1 to 8 digits, so 07 and 00000007 are 7; nine digits are 5",
      lines("@007", "@000000007", "@0000000007", "@0A0,30,0,30,0,30,0,30"), R("0", "0", "5", "0"))
 
 given, said = all_reply(
     "5", "", "@", "@0", "@1P", "@2", "P", "0P", " @0P", "@0 P", "@0P ", "@07 ", "@0 7", "@0z  1", "@0z 1 ", "@0z ,1", "@0z1,",
-    "@0z,1", "@0z1,,1", "@0z-", "@0z--1", "@0z+1", "@0z1-", "@0z1 1", "@0z1, 1", "@0z1x", "@0zx", "@0z\t1", "@@0P", "@0P\n")
-case("shape", "`@0`, a letter, at most one space, numbers parted by commas, nothing else",
+    "@0z,1", "@0z1,,1", "@0z-", "@0z--1", "@0z+1", "@0z1-", "@0z1 1", "@0z1,  1", "@0z1 ,1", "@0z1, ", "@0z1x", "@0zx", "@0z\t1", "@@0P", "@0P\n")
+case("shape", "`@0`, a letter, at most one space, numbers parted by commas with at most one space behind each, nothing else",
      lines("@07") + given, ["R 0"] + said)
 
 given, said = all_reply(
@@ -41,6 +45,33 @@ case("bytes_high_and_zero", "bytes 0 and 128 to 252 gather and spoil the line",
 case("spaces", "one space after the letter, before a number",
      lines("@01", "@0z 1", "@0A 1,600", "@0n 1", "@0b 0", "@0B 0,1", "@0M -0,30"),
      R("0", "0") + P([1, 0, 0], 600) + R("0", "0", "000", "0", "0"), "1 0 0")
+
+texts = ["@01", "@0A 2, 600", "@0M1, 700", "@0B0, 255", "@0B 0, 0", "@03", "@0A1, 600,-1, 900", "@0m 0, 30, 0,30", "@07",
+         "@0a 1, 600, 0, 700, -1, 800, 1, 900", "@0M0, 100,0,200,0, 300, 0,400"]
+said = (R("0") + P([2, 0, 0], 600) + R("0") + P([-1, 0, 0], 700) + R("0", "0", "0", "0") + P([1, -1, 0], 600) + R("0") + P([-1, 1, 0], 30) +
+        R("0", "0") + P([1, 0, 0], 600) + P([0, 0, -1], 800) + P([0, 0, 1], 900) + R("0") + P([-1, 0, 0], 100) + R("0"))
+case("spaces_behind_commas", "one space behind each comma, or behind some: A, M and B do as without them, which come after",
+     lines(*texts, *[t.replace(", ", ",") for t in texts]), said + said)
+
+case("spaces_before_axes", "without axes: 5 for the shape, then 4, then 7, with spaces as without",
+     lines("@0A1, ", "@0A1 , 600", "@0A1, 600", "@0M1, 600, 1", "@0n1, 1", "@0N1, 1", "@0z1, 1", "@0i1, 1", "@0S1, 1", "@0b0, 0", "@0B0, 0, 0",
+           "@0k0, 0", "@0P0, 0", "@0B0, 1"),
+     R("5", "5", "4", "4", "4", "4", "4", "4", "4", "7", "7", "7", "7", "0"))
+
+case("spaces_and_refusals", "7, then 3, then 1, then D, then 9, with spaces as without; x is at 1 for the 9",
+     lines("@03", "@0A1, 600", "@0A9000000, 5, 1", "@0M0, 30, 0, 30, 0", "@0n9, 9", "@0N1, 2", "@0z2, 2", "@0b9, 9", "@0B9", "@0S0, 0", "@0i0, 0",
+           "@0n 8", "@0A9000000, 5, 1, 600", "@0A1, 5, 9000000, 600", "@0M0, 30, -8388609, 30", "@0B1, 0", "@0B0, 256", "@0B0, -1",
+           "@0A1, 5, 1, 600", "@0A1, 600, 1, 10001", "@0M0, 600, 0, -600", "@0A1, 600, 0, 600", "@0A8388607, 29, 0, 30", "@0A8388607, 30, 0, 30", "@0S"),
+     R("0", "7", "7", "7", "7", "7", "7", "7", "7", "7", "7", "3", "1", "1", "1", "1", "1", "1", "D", "D", "D") + P([1, 0, 0], 600) +
+     R("0", "D", "9", "8"), "1 0 0")
+
+given, said = all_reply(
+    "5", "@0A1,  600", "@0A1 ,600", "@0A1 , 600", "@0A 1 ,600", "@0A1, 600 ", "@0A1,600 ", "@0A1, ", "@0A1,  ", "@0A1, 600,", "@0A1, 600, ",
+    "@0A1, ,600", "@0A1,, 600", "@0A, 600", "@0A , 600", "@0A,", "@0A1,\t600", "@0A1, \t600", "@0A1,\t 600", "@0A1,\xa0600", "@0A1, \xa0600",
+    "@0A1,\n600", "@0A1,\x00600", "@0A1,- 600", "@0A1, - 600", "@0A1, -", "@0A1, --1", "@0A1, +600", "@0A1, 6 00", "@0A1 600", "@0 A1, 600",
+    "@ 0A1, 600", " @0A1, 600", "@0A  1, 600", "@0A1, 000000600", "@0M1,  600", "@0M1 ,600", "@0B0 ,1", "@0B0,  1", "@0B0, 1 ", "@0P, ", "@0S, ")
+case("spaces_wrong", "two spaces, one before a comma, the last byte, behind a minus or in a number, with nothing or a comma behind; other bytes: 5",
+     lines("@01") + given + lines("@0P"), ["R 0"] + said + R(ZERO))
 
 case("numbers", "an optional minus and 1 to 8 digits; out of range is 1, nine digits are 5",
      lines("@01", "@0A00000001,00000600", "@0A-00000001,600", "@0A-0,600", "@0A000000001,600", "@0A1,000000600",
@@ -105,6 +136,14 @@ case("line_of_79_accepted", "the longest line that is accepted: a space, eight d
      lines("@07", "@0A -00000001,00000600,-00000000,00000700,-00000000,00000800,-00000000,00000900",
            "@0A -00000001,00000600,-00000000,00000700,-00000000,00000800,-00000000,000000900"),
      R("0") + P([-1, 0, 0], 600) + R("0", "5"), "-1 0 0")
+
+long = "@0A -00000001,00000600,-00000000,00000700,-00000000,00000800,-00000000,00000900"
+first, last, both = long.replace(",", ", ", 1), ", ".join(long.rsplit(",", 1)), ", ".join(long.replace(",", ", ", 1).rsplit(",", 1))
+seven = "@0P" + "1, " * 25 + "11"
+assert [len(t) for t in (long, first, last, both, seven)] == [79, 80, 80, 81, 80]
+case("line_of_80_by_spaces", "spaces count among the 80 bytes: the line of 79 with a space behind one comma is accepted, behind two it is 5; 80 and 81 for a 7",
+     lines("@07", long, first, last, both, seven, seven + "1", "@0P"),
+     R("0") + P([-1, 0, 0], 600) + R("0") + P([-1, 0, 0], 600) + R("0") + P([-1, 0, 0], 600) + R("0", "5", "7", "5", "0FFFFFD000000000000"), "-3 0 0")
 
 case("control_codes_in_a_line", "stop and break do nothing when idle and are no part of the line; reset clears the line",
      b"@0\xfdP\r@\xff0P\r@0\xfeP\r@0P\r", R(ZERO, ZERO, "5", ZERO))

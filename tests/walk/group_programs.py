@@ -1,5 +1,5 @@
 """Storing and running programs."""
-from case import P, R, all_reply, case, lines, store
+from case import P, R, all_reply, case, lines, refused_at_9, store
 
 ONE = lines("@01")
 SEVEN = lines("@07")
@@ -14,8 +14,8 @@ def ran(name, why, records, printed, axes="1", end="0 0 0", then=b""):
 
 given, said = all_reply(
     "5", "", "@0P", "@07", "@0S", "M1,30", "N1", "A1,30", "S", "k", "i", "P", "91", "9 ", "9 1", "9,", "-9", "6", "7 1", "4", "8", "z ",
-    "z  1", "z1 ", "z1,", "z,1", "0 ", "0 1, 30", " 0 1,30", "\n9", "9\n", "3 0,123456789")
-case("storing_shapes", "while storing a line is code, at most one space, numbers; the codes are 0 m n z 3 5 1 2 9",
+    "z  1", "z1 ", "z1,", "z,1", "0 ", "0 1,  30", "0 1 ,30", "0 1, ", " 0 1,30", "\n9", "9\n", "3 0,123456789")
+case("storing_shapes", "while storing a line is code, at most one space, numbers with at most one space behind each comma; the codes are 0 m n z 3 5 1 2 9",
      ONE + lines("@0i") + given + lines("9"), R("0", "0") + said + ["R 0"])
 
 given, said = all_reply("7", "0", "0 1", "0 1,30,1,30", "m", "m1", "n", "n1,1", "z", "z0,0", "3", "3 1", "3 1,-1,0", "5", "5 1,1", "1",
@@ -43,12 +43,32 @@ case("storing_masks_and_speeds", "n beyond the axes is 3; a speed outside 30 to 
            "m0,30,0,30,0,30,1,30", "00,30,0,30,0,30,1,29", "n7", "n8", "9"),
      R("0", "0", "3", "3", "3", "3", "3", "D", "D", "D", "0", "0", "0", "1", "D", "0", "3", "0"))
 
+given, said = all_reply(
+    "5", "3 1,  -1", "31,  -1", "3 1 ,-1", "3 1 , -1", "3 1, -1 ", "3 1,-1 ", "3 1, ", "3 1, ,-1", "3 1,, -1", "3 1, -1,", "3 1, -1, ", "3, 1", "3 , 1",
+    "3  1, -1", "3 1,\t-1", "3 1, \t-1", "3 1,\xa0-1", "3 1,\n-1", "3 1,\x00-1", "3 1,- 1", "3 1, - 1", "3 1, -", "3 1, +1", "3 1 -1",
+    "3 1, -000000001", " 3 1, -1", "0 1,  30", "01 ,30", "m1,  30", "m1 ,30", "m 1, 30 ", "2 33,  1", "233 ,1", "9, ", "9, 1", "9 , 1", "@01, 3")
+case("storing_spaces_wrong", "the same spaces and bytes are 5 while storing; nothing is stored",
+     ONE + lines("@0i") + given + lines("9", "@0S"), R("0", "0") + said + R("0", "8"))
+
+case("storing_spaces_and_refusals", "7, then 3, then 1, then D, with spaces as without; nothing is stored",
+     lines("@03", "@0i", "0 1, 30", "0 9000000, 5, 1", "m0, 30, 0, 30, 0", "n9, 9", "z2, 2", "3 99999, 0, 0", "5 1, 1", "133, 1", "2 32, 1, 1", "n 4",
+           "3 1, 0", "3 32768, -1", "3 0, 32768", "2 32, 0", "2 33, -32769", "0 8388608, 29, 0, 30", "m0, 29, -8388609, 30", "0 1, 29, 0, 30",
+           "m1, 30, 0, 10001", "9", "@0S"),
+     R("0", "0", "7", "7", "7", "7", "7", "7", "7", "7", "7", "3", "1", "1", "1", "1", "1", "1", "1", "D", "D", "0", "8"))
+
 case("refused_record_is_not_stored", "storing goes on after a refusal",
      ONE + lines("@0i", "133", "132", "x", "n7", "134", "9", "@0S"),
      R("0", "0", "0", "1", "5", "3", "0", "0", "!", '"', "0"))
 
 case("storing_line_too_long", "81 bytes are 5 while storing as well",
      ONE + lines("@0i", "z" + "0" * 80, "9" * 81, "133", "9", "@0S"), R("0", "0", "5", "5", "0", "0", "!", "0"))
+
+long = "0 -00000001,00000600,-00000000,00000700,-00000000,00000800,-00000000,00000900"
+spaced = [long.replace(",", ", ", n) for n in range(8)]
+assert [len(t) for t in spaced] == [77, 78, 79, 80, 81, 82, 83, 84]
+case("storing_line_of_80_by_spaces", "spaces count among the 80 bytes while storing too: three make 80, which is stored; the fourth makes it 5",
+     SEVEN + lines("@0i", *spaced, "9", "@0S"),
+     R("0", "0", "0", "0", "0", "0", "5", "5", "5", "5", "0") + P([-4, 0, 0], 600) + R("0"), "-4 0 0")
 
 ran("simple", "records run from place 0; the end sends 0", ["0 2,600", "0-1,700"],
     P([2, 0, 0], 600) + P([-1, 0, 0], 700) + ["R 0"], end="1 0 0")
@@ -116,6 +136,12 @@ ran("wait_takes_a_return", "a carriage return answers a wait like any byte", ["2
 
 ran("wait_takes_a_line_feed", "a line feed after the start answers the wait", ["233,2", "134"], R('"', "0", "0000000000000000000"),
     then=b"\n" + lines("@0P"))
+
+ran("wait_takes_a_space", "a space answers a wait like any other byte, and is no part of the next line",
+    ["2 33, 2", "134", "135"], R('"', "#", "0", "0000000000000000000"), then=b" " + lines("@0P"))
+
+ran("wait_takes_a_comma", "so does a comma, which may be the character; the space behind it heads the next line, which is 5",
+    ["2 44, 2", "134", "135"], R("#", "0", "5", "0000000000000000000"), then=b", " + lines("@0P", "@0P"))
 
 ran("wait_to_the_end", "the end place as a wait's target", ["233,2", "134"], R("0"), then=b"!")
 
@@ -203,3 +229,26 @@ case("bytes_16384_exactly", "453 movements (16,308), 8 records of 8 bytes and on
 ran("storing_spaces_and_zeros", "one space after the code, leading zeros and -0 are fine",
     ["0 00000001,0600", "m -0,700", "1 00000033", "5 -0", "2 33,-00", "z 0"],
     P([1, 0, 0], 600) + P([-1, 0, 0], 700) + R("!", "0"), then=b".")
+
+records = ["0 2, 600", "3 2, -1", "m5, 700", "2 33, 2", "134", "3 0, 2", "135"]
+spaced, said = store(*records)
+plain, _ = store(*[r.replace(", ", ",") for r in records])
+did = P([6, 0, 0], 600) + P([-1, 0, 0], 700) + R("0")
+case("storing_spaces_behind_commas", "0, m, 3 and 2 with a space behind the comma: the run is that of the same program without, which comes after",
+     ONE + spaced + S + b"!" + ONE + plain + S + b"!", ["R 0"] + said + did + ["R 0"] + said + did, "5 0 0")
+
+records = ["0 1, 600, -1, 900, -2, 800, 2, 700", "3 1, -1", "01,600, -1, 900,-2, 800,0,700", "m 0, 100,0, 200, 0,300,0, 400"]
+spaced, said = store(*records)
+plain, _ = store(*[r.replace(", ", ",") for r in records])
+did = P([1, -1, 0], 600) + P([0, 0, -2], 800) + P([0, 0, 2], 700)
+did = did + did + P([1, -1, 0], 600) + P([0, 0, -2], 800) + P([-3, 3, 0], 100) + P([0, 0, 2], 300) + R("0")
+case("storing_spaces_three_axes", "eight numbers, with a space behind all commas or some, and without",
+     SEVEN + spaced + S + plain + S, ["R 0"] + said + did + said + did)
+
+given, said = refused_at_9("133", "3 0, 2")
+case("storing_spaces_and_the_check", "the check at 9 counts the offset behind a space: target 3 of two records is G, target 2 passes",
+     ONE + given + lines("@0i", "133", "3 0, 1", "9", "@0S"), ["R 0"] + said + R("0", "0", "0", "0", "!", "0"))
+
+spaced = "0 0, 30, 0, 30, 0, 30, 0, 30"
+case("storing_spaces_take_no_bytes", "453 movements with spaces (16,308 bytes), 8 records of 8 bytes and one of 12 fill the store to the last byte",
+     SEVEN + lines("@0i", *[spaced] * 453, *["z 0"] * 8, spaced, "3 0, 1", "3 0, 1", "9", "@0S"), R("0", "0", *["0"] * 461, "6", "0", "6", "0", "0"))

@@ -8,8 +8,8 @@ import re
 import sys
 
 LOW, HIGH, LIMIT = -8388608, 8388607, 100000
-DIRECT = re.compile(rb"@0(?:([AaMmSsnNzPbBik])( ?-?\d{1,8}(?:,-?\d{1,8})*)?|(-?\d{1,8}(?:,-?\d{1,8})*))\Z")
-STORED = re.compile(rb"(?:(9)|([0mnz3512])( ?-?\d{1,8}(?:,-?\d{1,8})*)?)\Z")
+DIRECT = re.compile(rb"@0(?:([AaMmSsnNzPbBik])( ?-?\d{1,8}(?:, ?-?\d{1,8})*)?|(-?\d{1,8}(?:, ?-?\d{1,8})*))\Z")
+STORED = re.compile(rb"(?:(9)|([0mnz3512])( ?-?\d{1,8}(?:, ?-?\d{1,8})*)?)\Z")
 PAIRS = {1: 1, 3: 2, 7: 4}
 
 

@@ -34,6 +34,18 @@ measured "a row of holes" "no. what from x y z to x y z depth record pass line
 5 holes, 0 cuts; end at x 25, y 0, height 0 steps"
 is "columns are aligned" 1 "$(sed '$d' "$dir/got" | awk '{ print length($0) }' | sort -u | wc -l)"
 
+# The same lines with a space behind each comma, and again without: the same rows, and the same picture.
+spaced() { lines @07 @0i '0 5, 800, 0, 800, -4, 300, 4, 300' '3 1, -1' 9 @0S; }
+spaced | draw --csv
+measured "spaces behind commas, CSV" "$steps
+1,hole,5,0,0,5,0,-4,4,0,1,6
+2,hole,10,0,0,10,0,-4,4,0,2,6"
+spaced | sed 's/, /,/g' | draw --numbers
+cp "$dir/got" "$dir/plain"
+spaced | draw --numbers
+is "the picture with spaces behind commas" 1 "$(grep -c 'size in x: 10 steps' "$dir/got")"
+is "the picture without them" same "$(cmp -s "$dir/plain" "$dir/got" && echo same)"
+
 # Two grooves of 6 in y, 3 deep, by record 1; 80 steps per mm in x and y and 400 in z. 3 / 400 is 0.0075, and a half goes away from nought.
 rack() { lines @07 @0i '0 0,600,0,600,-3,200,0,200' '0 0,600,6,400,0,200,0,200' '0 0,600,0,600,3,900,0,200' '0 4,900,-6,900,0,200,0,200' '3 1,-4' 9 @0S; }
 rack | draw 80,80,400 --csv

@@ -50,17 +50,37 @@ fn after_letter(tail: &[u8]) -> Option<Numbers> {
     }
 }
 
-/// One or more numbers parted by commas: an optional minus and 1 to 8 digits each.
+/// One or more numbers parted by commas, with at most one space after each comma: an optional minus
+/// and 1 to 8 digits each.
 fn numbers(text: &[u8]) -> Option<Numbers> {
     let mut found = NONE;
-    for part in text.split(|&b| b == b',') {
-        let value = number(part)?;
+    let mut parts = text.split(|&b| b == b',').peekable();
+    while let Some(part) = parts.next() {
+        let part = if found.count > 0 { after_comma(part) } else { part };
+        let value = number(before_comma(part, parts.peek().is_some()))?;
         if found.count < 8 {
             found.values[found.count] = value;
         }
         found.count += 1;
     }
     Some(found)
+}
+
+/// What stands after a comma, without the space that may come first. A planted slip: two may.
+fn after_comma(part: &[u8]) -> &[u8] {
+    let rest = part.strip_prefix(b" ").unwrap_or(part);
+    match rest.strip_prefix(b" ") {
+        Some(less) if cfg!(slip_two_spaces) => less,
+        _ => rest,
+    }
+}
+
+/// What stands before a comma, if one follows, or last. A planted slip: a comma may have a space before it.
+fn before_comma(part: &[u8], comma: bool) -> &[u8] {
+    match part.strip_suffix(b" ") {
+        Some(less) if cfg!(slip_space_before) && comma => less,
+        _ => part,
+    }
 }
 
 fn number(text: &[u8]) -> Option<i32> {

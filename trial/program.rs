@@ -48,6 +48,22 @@ pub fn movement(rng: &mut Rng, axes: u8, absolute: bool, span: Span) -> String {
     text
 }
 
+/// In one of five lines with commas and no space after one: a space after each comma, or after some.
+pub fn spaced(rng: &mut Rng, line: String) -> String {
+    if !line.contains(',') || line.contains(", ") || !rng.once_in(5) {
+        return line;
+    }
+    let all = rng.once_in(2);
+    let mut text = String::new();
+    for c in line.chars() {
+        text.push(c);
+        if c == ',' && (all || rng.once_in(2)) {
+            text.push(' ');
+        }
+    }
+    text
+}
+
 /// Codes of one kind of record without a target.
 fn plain(rng: &mut Rng, taste: &Taste) -> String {
     let gap = if rng.once_in(3) { " " } else { "" };
@@ -67,7 +83,7 @@ pub fn sound(rng: &mut Rng, taste: &Taste) -> Vec<String> {
     let mut lines = Vec::new();
     let size = rng.between(1, 6);
     block(rng, taste, &mut lines, size, 0);
-    lines
+    lines.into_iter().map(|line| spaced(rng, line)).collect()
 }
 
 /// Appends about `size` items at one depth. A jump may land at a single record of its own block

@@ -30,6 +30,7 @@ fn a_listing_stores_the_same_bytes() {
         let mut again = Bench::with_axes(b.board.axes);
         again.line("@0i");
         for line in b.listing().unwrap().split_terminator('\r') {
+            assert!(!line.contains(' '), "{line}");
             assert_eq!(again.line(line), "0", "{line}");
         }
         assert_eq!((again.board, again.store), (b.board, b.store));

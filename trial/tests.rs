@@ -1,10 +1,12 @@
 //! Hand-worked cases from the paper's sentences, for the trial board alone.
 #![cfg(test)]
 
+mod damage;
 mod host;
 mod program;
 mod rng;
 mod script;
+mod spaces;
 mod test_check;
 mod test_host;
 mod test_lines;
@@ -14,6 +16,7 @@ mod test_random;
 mod test_run;
 mod test_script;
 mod test_sheet;
+mod test_spaces;
 mod test_stop;
 
 use trial::board::{Answer, Board};

@@ -8,6 +8,7 @@ mod gen_sheet;
 mod gen_walk;
 mod program;
 mod rng;
+mod spaces;
 
 use rng::Rng;
 use std::io::{self, Write};

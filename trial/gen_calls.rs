@@ -5,6 +5,7 @@ use crate::damage;
 use crate::gen_walk;
 use crate::program::{self, Span, Taste};
 use crate::rng::Rng;
+use crate::spaces;
 use std::io::Write;
 
 pub fn script(rng: &mut Rng, count: u64, out: &mut Vec<u8>) {
@@ -102,6 +103,7 @@ impl Script<'_> {
         let absolute = self.rng.once_in(3);
         let span = self.span();
         let numbers = program::movement(self.rng, axes, absolute, span);
+        let numbers = program::spaced(self.rng, numbers);
         self.line(&format!("@0{}{numbers}", if absolute { 'M' } else { 'A' }));
     }
 
@@ -115,6 +117,13 @@ impl Script<'_> {
         if self.rng.once_in(8) && !self.tame {
             let at = self.rng.below(lines.len() as u64) as usize;
             lines[at] = damage::hurt(self.rng, &lines[at]);
+        }
+        if self.rng.once_in(6) && !self.tame {
+            gen_walk::lengthen_one(self.rng, &mut lines);
+        }
+        if self.rng.once_in(12) && !self.tame {
+            let at = self.rng.below(lines.len() as u64) as usize;
+            lines[at] = spaces::misplaced(self.rng, &lines[at]);
         }
         let used = lines.iter().map(|l| 8 + 4 * l.bytes().filter(|&b| b == b',').count()).sum();
         self.stored = (used, lines.len(), axes);
@@ -177,7 +186,11 @@ impl Script<'_> {
 
     fn any_line(&mut self, axes: u8) {
         let text = gen_walk::direct(self.rng, axes);
-        let text = if self.rng.once_in(6) { damage::hurt(self.rng, &text) } else { text };
+        let text = match self.rng.below(12) {
+            0 | 1 => damage::hurt(self.rng, &text),
+            2 => spaces::misplaced(self.rng, &text),
+            _ => text,
+        };
         self.line(&text);
     }
 

@@ -3,6 +3,7 @@
 use crate::damage;
 use crate::program::{self, Span, Taste};
 use crate::rng::Rng;
+use crate::spaces;
 
 pub fn stream(rng: &mut Rng, count: u64, out: &mut Vec<u8>) {
     let mut axes = 0;
@@ -42,6 +43,7 @@ fn scene(rng: &mut Rng, axes: &mut u8, out: &mut Vec<u8>) {
 fn line(rng: &mut Rng, out: &mut Vec<u8>, text: &str) {
     let start = out.len();
     let text = if rng.once_in(20) { damage::hurt(rng, text) } else { text.to_string() };
+    let text = if text.contains(',') && rng.once_in(40) { spaces::misplaced(rng, &text) } else { text };
     out.extend(text.chars().map(|c| c as u8));
     out.push(13);
     if rng.once_in(60) {
@@ -55,9 +57,14 @@ fn line(rng: &mut Rng, out: &mut Vec<u8>, text: &str) {
 
 /// A line outside storing, mostly right.
 pub fn direct(rng: &mut Rng, axes: u8) -> String {
+    let text = unspaced(rng, axes);
+    program::spaced(rng, text)
+}
+
+fn unspaced(rng: &mut Rng, axes: u8) -> String {
     let gap = if rng.once_in(4) { " " } else { "" };
     let span = Span { reach: if rng.once_in(30) { 2_000 } else { 9 }, edges: 20_000 };
-    match rng.below(20) {
+    match rng.below(22) {
         0..=4 => format!("@0{}{gap}{}", rng.pick(&['A', 'a']), program::movement(rng, axes, false, span)),
         5..=7 => format!("@0{}{gap}{}", rng.pick(&['M', 'm']), program::movement(rng, axes, true, span)),
         8 => format!("@0n{gap}{}", rng.between(0, 8)),
@@ -69,6 +76,10 @@ pub fn direct(rng: &mut Rng, axes: u8) -> String {
         16 => format!("@0{}", rng.pick(&["S", "s", "S", "k"])),
         17 => format!("@0{}", rng.between(-1, 9)),
         18 => format!("@0{}{gap}{}", rng.pick(&["A", "M"]), program::movement(rng, 1, false, span)),
+        19 => {
+            let text = format!("@0{}{gap}{}", rng.pick(&["A", "M"]), program::movement(rng, 7, true, span));
+            lengthened(rng, &text)
+        }
         _ => odd(rng).to_string(),
     }
 }
@@ -85,6 +96,13 @@ fn odd(rng: &mut Rng) -> &'static str {
         "@0000000007",
         "@07 ",
         "@01,3",
+        "@01, 3",
+        "@0, 1",
+        "@0A, 1",
+        "@0A1, 30, 1",
+        "@0P 5, 5",
+        "@0B0, -",
+        "@0B0, -0",
         "@0-1",
         "@0A",
         "@0A ",
@@ -130,6 +148,9 @@ fn stored(rng: &mut Rng, axes: u8, out: &mut Vec<u8>) {
         let at = rng.below(lines.len() as u64) as usize;
         lines[at] = damage::hurt(rng, &lines[at]);
     }
+    if rng.once_in(4) {
+        lengthen_one(rng, &mut lines);
+    }
     line(rng, out, "@0i");
     for text in &lines {
         line(rng, out, text);
@@ -167,18 +188,45 @@ fn edge(rng: &mut Rng, axes: u8, out: &mut Vec<u8>) {
         lines.push(format!("@0A0,30,0,40,{lift},50"));
     }
     for text in lines {
+        let text = program::spaced(rng, text);
         out.extend_from_slice(text.as_bytes());
         out.push(13);
     }
 }
 
-/// Lines of about 80 bytes.
+/// Lines of about 80 bytes; those with spaces are right but for their length and count.
 fn long_line(rng: &mut Rng, out: &mut Vec<u8>) {
     let len = rng.pick(&[78, 79, 80, 81, 82, 100, 300]);
+    if rng.once_in(2) {
+        let mut text = format!("@0{}0", rng.pick(&["A", "P", "k", ""]));
+        while text.len() + 3 <= len {
+            text += ", 1";
+        }
+        text += &"1".repeat(len - text.len());
+        out.extend_from_slice(text.as_bytes());
+        out.push(13);
+        return;
+    }
     let head: &[u8] = rng.pick(&[b"@0A0", b"@0P0", b"@0k,"]);
     out.extend_from_slice(head);
     for i in head.len()..len {
         out.push(if i % 2 == 0 { b',' } else { b'1' });
     }
     out.push(13);
+}
+
+/// A line of eight numbers filled up to about 80 bytes. It has a letter or code, with `@0` before a letter.
+fn lengthened(rng: &mut Rng, line: &str) -> String {
+    let letter = if line.starts_with('@') { 3 } else { 1 };
+    let gap = line[letter..].starts_with(' ') as usize;
+    spaces::filled(line, letter + gap, rng.pick(&[79, 80, 80, 81, 81, 82]))
+}
+
+/// One line of eight numbers, if there is one, filled up to about 80 bytes.
+pub fn lengthen_one(rng: &mut Rng, lines: &mut [String]) {
+    let long: Vec<usize> = (0..lines.len()).filter(|&i| lines[i].matches(',').count() == 7).collect();
+    if !long.is_empty() {
+        let at = rng.pick(&long);
+        lines[at] = lengthened(rng, &lines[at]);
+    }
 }

@@ -78,11 +78,8 @@ fn case(rng: &mut Rng) -> Case {
     if rng.once_in(3) {
         let absolute = rng.once_in(3);
         let letter = if absolute { 'M' } else { 'A' };
-        return Case {
-            lines,
-            start: format!("@0{letter}{}", program::movement(rng, axes, absolute, span)),
-            answers,
-        };
+        let start = format!("@0{letter}{}", program::movement(rng, axes, absolute, span));
+        return Case { lines, start: program::spaced(rng, start), answers };
     }
     let taste = Taste { axes, span, waits: true, long: false };
     lines.push("@0i".to_string());
@@ -125,9 +122,9 @@ fn stand(guide: &mut Guide, rng: &mut Rng) {
             1 => guide.clocks(1),
             2 => guide.byte(rng.below(253) as u8),
             3 => (0..90).for_each(|_| guide.byte(b'1')),
-            4 => guide.line(rng.pick(&["@0P", "@0b0", "@0S1", "@0b9", "5", ""])),
-            5 => guide.line(rng.pick(&["@07", "@0k", "@0i", "@0N1", "@0n1", "@0z1", "@0z0", "@0B0,9"])),
-            6 => guide.line(rng.pick(&["@0A5,600", "@0M1,600,2,700", "@0A1,30,1,30,1,30,1,30", "9"])),
+            4 => guide.line(rng.pick(&["@0P", "@0b0", "@0S1", "@0b9", "5", "", "@0S1, 1", "@0P ,1"])),
+            5 => guide.line(rng.pick(&["@07", "@0k", "@0i", "@0N1", "@0n1", "@0z1", "@0z0", "@0B0, 9"])),
+            6 => guide.line(rng.pick(&["@0A5, 600", "@0M1,600,2, 700", "@0A1,30,1,30,1,30,1,30", "9"])),
             _ => guide.clocks(3),
         }
     }

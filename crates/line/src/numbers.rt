@@ -110,9 +110,10 @@ pub(crate) fn read_numbers(s: &[u8], start: usize) -> Items
             Item::Wrong => return no_items(false),
             Item::Last(w) => {
                 let kept = keep(words, n, w);
+                let many = n + 1;
                 return Items {
                     right: true,
-                    count: n + 1,
+                    count: many,
                     words: kept,
                 };
             }

@@ -44,8 +44,8 @@ enum-known-item c = search needs
 keep-requires : tie.Need-keep-requires Inv-loop μ-loop
 keep-requires c κs = search needs
 
-add-t13 : tie.Need-add-t13 Inv-loop μ-loop
-add-t13 c = search needs
+add-many : tie.Need-add-many Inv-loop μ-loop
+add-many c = search needs
 
 returns-2 : tie.Need-returns-2 Inv-loop μ-loop
 returns-2 c =
@@ -70,13 +70,13 @@ past-space-requires c κs = search needs
 
 loop-less : tie.Need-loop-less Inv-loop μ-loop
 loop-less c =
-    let f = c .before .before .before in
-    let m = f .before .before in
+    let g = c .before .before .before in
+    let m = g .before .before in
     let l = m .before in
     let s = l .before .before in
-    let a = ahead (s .args .s .now) (l .loop .at) (l .loop .inv .0) (m .read-number .ensures) (f .item2 .given .1) in
+    let a = ahead (s .args .s .now) (l .loop .at) (l .loop .inv .0) (m .read-number .ensures) (g .item2 .given .1) in
     let b = spaced-on (s .args .s .now) _ (a .1) in
-    rw (c .past-space .ensures) (omega arith)
+    rw (c .past-space .ensures) (omega (arith, a, b))
 
 loop-again : tie.Need-loop-again Inv-loop μ-loop
 loop-again c =
@@ -107,7 +107,7 @@ read-numbers-spec =
     returns
     enum-known-item
     keep-requires
-    add-t13
+    add-many
     returns-2
     enum-known-item-2
     keep-requires-2

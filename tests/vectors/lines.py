@@ -9,15 +9,15 @@ import os
 import re
 import sys
 
-# "A number is an optional minus and 1 to 8 digits", "numbers parted by commas"; 02: a space behind a comma, at most one
+# a number has one to eight digits, with or without a minus; a comma between two numbers (01), and behind the comma a space or none (02 §8)
 NUMBER = rb"-?[0-9]{1,8}"
 NUMBERS = NUMBER + rb"(?:,\x20?" + NUMBER + rb")*"
-# "a letter, at most one space, then numbers"; no last space
+# behind the letter or code: nothing, or a space or none and then numbers; so no space ends a line
 BEHIND = rb"(?:\x20?(" + NUMBERS + rb"))?"
-# "A line is `@0`, a letter, ..; setting axes has no letter and no space"; "A, M and S may be small letters"
+# outside storing `@0` and a letter, of which three may be small; the axes follow `@0` without a letter or a space
 LETTER = re.compile(rb"@0([AaMmSsnNzPbBik])" + BEHIND)
 AXES = re.compile(rb"@0(" + NUMBERS + rb")")
-# "While storing, lines have no `@0`: code, at most one space, numbers"; "`9` alone ends storing"
+# while storing a code takes the place of `@0` and the letter; `9` is the end line if it stands alone
 CODE = re.compile(rb"([0mnz3512])" + BEHIND)
 
 

@@ -22,7 +22,7 @@ unfoldable pub behind : List ℕ → Numbers
 behind [] = are []
 behind (b ∷ s) = numbersOf (pastSpace (b ∷ s))
 
--- ---- a line outside storing: `@0`, a letter, then its numbers; setting axes has no letter and no space
+-- ---- a line outside storing: `@0`, a letter, then its numbers; setting axes has no letter, and no space in front of its number
 
 -- the letters, and no other; A, M and S may be small
 unfoldable pub letterOf : ℕ → Letter

@@ -1,5 +1,5 @@
--- The numbers of a line (01, "Lines", paragraph 1; 02 §8): numbers parted by commas, at most one space after each comma; a number is an
--- optional minus and 1 to 8 digits.
+-- The numbers of a line (01, "Lines", paragraph 1; 02 §8): a comma between each two, and behind a comma a space or none. A number has 1 to 8
+-- digits, with a minus in front or none.
 use Prim.Native.Nat.{ℕ, _+_, _-_, _*_}
 use mathlib.Core.List.{List, [], _∷_}
 use lib.ListN.{length}
@@ -73,7 +73,7 @@ unfoldable pub itemsOf : List (List ℕ) → Numbers
 itemsOf [] = are []
 itemsOf (f ∷ fs) = and-then (itemOf f) (itemsOf fs)
 
--- one number or more, parted by commas: a number, and what stands behind the commas
+-- one number or more: a number, and what stands behind each comma
 abbrev pub firstOf : List (List ℕ) → Numbers
 firstOf [] = are []
 firstOf (f ∷ fs) = and-then (numberOf f) (itemsOf fs)

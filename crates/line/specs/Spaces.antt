@@ -7,12 +7,12 @@ use lib.Dec.{eqb}
 use Rattle.count.specs.Chars.{ch}
 use Rattle.count.specs.Pick.{pick}
 
--- a line in which, after each comma, one space is left out if one stands there
+-- a line without these spaces: after each comma one space is left out, if one stands there
 unfoldable pub unspaced : List ℕ → List ℕ
 unspaced [] = []
 unspaced (b ∷ []) = b ∷ []
 unspaced (b ∷ c ∷ s) = b ∷ pick (eqb b (ch ",") && eqb c (ch " ")) (unspaced s) (unspaced (c ∷ s))
 
--- two lines differ only in these spaces if they are the same without them
+-- two lines differ only in these spaces if without them they are the same
 abbrev pub SameButSpaces : List ℕ → List ℕ → Type 0
 SameButSpaces s t = unspaced s ≡ unspaced t

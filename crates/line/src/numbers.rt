@@ -1,4 +1,4 @@
-// Numbers parted by commas, at most one space after each comma, read in one pass over their bytes.
+// Numbers with commas between them, and behind a comma a space or none, read in one pass over their bytes.
 ghost use mathlib.Core.Path.{_≡_};
 ghost use Prim.Native.Nat.{_≤_};
 ghost use lib.ListN.{length, set, drop};

@@ -51,7 +51,8 @@ module _ (m : Machine) where
     pub one : x .replies ≡ silence t ++ reply ∷ []
     pub other : y .replies ≡ silence u ++ reply ∷ []
 
-  -- on every state with no line begun and every store, whatever is lent as reply buffers, with the same ports at both returns
+  -- on every state with no line begun and every store, sound or refused, with any reply buffers of 32 or more bytes and the same ports at
+  -- both returns
   abbrev pub SpacesChangeNothing : Type 0
   SpacesChangeNothing =
       (g h : Host) (t u : List ℕ) (s : m .State) (store : List ℕ)

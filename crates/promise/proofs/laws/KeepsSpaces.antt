@@ -1,5 +1,5 @@
 -- Ours has `SpacesChangeNothing` (02 §8). Assumes nothing.
-use Prim.Native.Nat.{ℕ, zero, suc, _+_, _≤_, _<_}
+use Prim.Native.Nat.{ℕ, suc, _+_, _≤_, _<_}
 use mathlib.Core.Path.{_≡_, refl, sym, ap, _∙_}
 use mathlib.Core.Bool.{Bool, true, false, not, _&&_, _||_}
 use mathlib.Core.List.{List, [], _∷_, _++_, append-assoc, append-nil}
@@ -7,7 +7,8 @@ use native.Mathlib.Omega.{arith}
 use native.Mathlib.Numerals.{add-one}
 use borrow.Author.Tests.{lt-ltb, eqb-true}
 use lib.Dec.{eqb}
-use lib.ListN.{length, take, set, length-set, length-append}
+use lib.ListN.{length, length-set, length-append}
+use lib.Seq.{take-suc-set}
 use Rattle.count.specs.Pick.{pick}
 use Rattle.count.proofs.laws.Truth.{and-left, and-right}
 use Rattle.line.specs.declared.Code.{Code}
@@ -92,12 +93,6 @@ module _ (host : Host) (b : Board) (store : List ℕ) (still : (i : ℕ) → tic
 
 -- ---- a line that is gathered
 
-take-set : (n : ℕ) (s : List ℕ) (v : ℕ) → n < length s → take (suc n) (set s n v) ≡ take n s ++ v ∷ []
-take-set zero [] v h = absurd (omega arith)
-take-set zero (x ∷ s) v h = refl
-take-set (suc n) [] v h = absurd (omega arith)
-take-set (suc n) (x ∷ s) v h = ap (λ (l : List ℕ). x ∷ l) (take-set n s v (omega arith))
-
 -- the bytes gathered so far, in 80 of them
 pub record Holds (x : Line) (p : List ℕ) : Type 0 where
   pub room : length (x .bytes) ≡ 80
@@ -115,7 +110,7 @@ holds-more v x p h k =
       room = length-set (x .bytes) (x .len) v ∙ k .room;
       len = rw (k .len) (sym e);
       fits = k .fits;
-      text = rw add-one (take-set (x .len) (x .bytes) v m ∙ ap (λ (l : List ℕ). l ++ v ∷ []) (k .text));
+      text = rw add-one (take-suc-set (x .bytes) (x .len) v m ∙ ap (λ (l : List ℕ). l ++ v ∷ []) (k .text));
     })
 
 holds-all : (t : List ℕ) (x : Line) (p : List ℕ) → length p + length t ≤ 80 → Holds x p → Holds (gatheredAll t x) (p ++ t)

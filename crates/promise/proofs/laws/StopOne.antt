@@ -1,16 +1,17 @@
 -- One step of a schedule on our machine, refused or not, as the lemma about two machines wants it.
-use Prim.Native.Nat.{ℕ, _<_}
+use Prim.Native.Nat.{ℕ, _<_, _≤_}
 use native.Mathlib.Omega.{arith}
 use mathlib.Core.Bool.{Bool, true, false, not, _&&_, _||_, true≢false}
 use mathlib.Core.List.{List, []}
 use mathlib.Core.Path.{_≡_, refl, sym, subst}
-use borrow.Author.Tests.{le-ltb, lt-ltb, leb-true, eqb-true, eqb-false, ne-eqb}
+use borrow.Author.Tests.{le-ltb, lt-ltb, leb-true, eqb-true, eqb-false}
 use lib.Dec.{leb, ltb, eqb}
 use lib.ListN.{length}
 use Rattle.count.proofs.laws.Truth.{and-right, and-false}
 use Rattle.board.specs.declared.Board.{Board}
-use Rattle.board.specs.Receive.{earOf, stopped, ordinary, hearing}
+use Rattle.board.specs.Receive.{stopped, hearing}
 use Rattle.promise.specs.Machine.{ours}
+use Rattle.promise.proofs.laws.Gathering.{hear-plain}
 use Rattle.promise.proofs.laws.Guard as G
 use Rattle.promise.specs.Stop.{Step, receive, call, own, other, Elsewhere, isOwn, rightly, Mild, inWait, rests, counts, takes, ahead}
 use Rattle.promise.proofs.laws.StopBoard.{twinBoard, Fit, left}
@@ -21,11 +22,6 @@ use Rattle.promise.proofs.laws.StopSteps.{byte, tick, At, twin, actOf, 
 heard-stop : (v : ℕ) (ports : List ℕ) (b : Board) (store : List ℕ) → eqb v 253 ≡ true → hearing v ports b store ≡ stopped b store
 unfolding hearing
 heard-stop v ports b store h = rw h
-
-heard-plain : (v : ℕ) (ports : List ℕ) (b : Board) (store : List ℕ) → v < 253 → hearing v ports b store ≡ ordinary (earOf b) v ports b store
-unfolding hearing
-heard-plain v ports b store h =
-    rw (ne-eqb v 253 (λ q. omega arith), ne-eqb v 254 (λ q. omega arith), ne-eqb v 255 (λ q. omega arith))
 
 below : (v : ℕ) → v < 254 → eqb v 253 ≡ false → v < 253
 below v h q = let n = eqb-false v 253 q in omega (arith, n)
@@ -41,7 +37,8 @@ byte-free v ports (b, store) m f = by (eqb v 253) refl
         (one-stop (b .engine) (b .line) store (b .standing) (left (hearing v [] (twinBoard b) store)) f)
     by false q =
         let h = below v m q in
-        rw (lt-ltb v 253 h, heard-plain v ports b store h, heard-plain v [] (twinBoard b) store h)
+        let l : v ≤ 252 = omega arith in
+        rw (lt-ltb v 253 h, hear-plain v ports b store l, hear-plain v [] (twinBoard b) store l)
         (one-ordinary (b .engine) (b .line) store v ports (b .standing) f)
 
 -- the steps that count: a byte that is taken, a clock call while the board runs, neither refused for what is lent

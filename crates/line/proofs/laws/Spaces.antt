@@ -79,11 +79,7 @@ numbers-plain s = first-plain (parted s) ∙ ap plainOf (sym (parted-unspaced s)
 pub numbers-alike : (s t : List ℕ) → SameButSpaces s t → numbersOf s ≡ numbersOf t
 numbers-alike s t e = numbers-plain s ∙ ap (λ (l : List ℕ). plainOf (parted l)) e ∙ sym (numbers-plain t)
 
--- ---- the definition says what it is meant to: a space put behind a comma, where none follows, and nothing else
-
-pick-alike : {A : Type 0} (c : Bool) (x y z : A) → (c ≡ true → x ≡ y) → pick c x z ≡ pick c y z
-pick-alike true x y z f = f refl
-pick-alike false x y z f = refl
+-- ---- what the definition is meant to hold: a space put behind a comma, where none stands, gives a line that differs only in these spaces
 
 put-by : (k d : Bool) {x y u v : List ℕ} → x ≡ y → u ≡ v → pick (k && d) x u ≡ pick (k && d) y v
 put-by true true e f = e
@@ -189,6 +185,10 @@ direct-second a [] = by (eqb a 64)
     by false = refl
 direct-second a (b ∷ s) = refl
 
+pick-alike : {A : Type 0} (c : Bool) (x y z : A) → (c ≡ true → x ≡ y) → pick c x z ≡ pick c y z
+pick-alike true x y z f = f refl
+pick-alike false x y z f = refl
+
 second-alike : (s t : List ℕ) → SameButSpaces s t → second s ≡ second t
 second-alike [] [] e = refl
 second-alike [] (b ∷ t) e = none-alike b t e
@@ -214,12 +214,15 @@ comma-none : codeOf 44 ≡ code.Wrong
 unfolding codeOf
 comma-none = refl
 
+no-code : (k : Code) (a : ℕ) → codeOf a ≡ k → (code.Wrong ≡ k → ⊥) → a ≡ 44 → ⊥
+no-code k a h n e = n (sym comma-none ∙ ap codeOf (sym e) ∙ h)
+
 code-by : (k : Code) (a b : ℕ) (s t : List ℕ) → codeOf a ≡ k → SameButSpaces (a ∷ s) (b ∷ t) → byCode k s ≡ byCode k t
 code-by code.Wrong a b s t h e = refl
 code-by (code.Record c) a b s t h e =
-    ap (stored (code.Record c)) (behind-alike s t (rest-alike a b s t (λ m. let q : code.Wrong ≡ code.Record c = sym comma-none ∙ ap codeOf (sym m) ∙ h in let z : _≡_ {A = ℕ} 0 1 = cc in omega arith) e))
+    ap (stored (code.Record c)) (behind-alike s t (rest-alike a b s t (no-code (code.Record c) a h (λ q. let z : _≡_ {A = ℕ} 0 1 = cc in omega arith)) e))
 code-by code.End a b s t h e =
-    by s t (rest-alike a b s t (λ m. let q : code.Wrong ≡ code.End = sym comma-none ∙ ap codeOf (sym m) ∙ h in let z : _≡_ {A = ℕ} 0 1 = cc in omega arith) e)
+    by s t (rest-alike a b s t (no-code code.End a h (λ q. let z : _≡_ {A = ℕ} 0 1 = cc in omega arith)) e)
   where
     by : (s t : List ℕ) → SameButSpaces s t → byCode code.End s ≡ byCode code.End t
     by [] [] e = refl
@@ -235,7 +238,7 @@ stored-alike (a ∷ s) [] e = none-alike a s (sym e)
 stored-alike (a ∷ s) (b ∷ t) e = let h = first-alike a b s t e in code-by (codeOf a) a b s t refl e ∙ ap (λ (c : ℕ). byCode (codeOf c) t) h
 
 -- ---- the request's own line; two numbers for the axes; and what stays a wrong shape: a space before a comma, two spaces, a space with
--- nothing or a comma behind it
+-- nothing or a comma behind it, a space at the end
 
 abbrev no-record : List ℕ → Type 0
 no-record t = storedOf t ≡ stored code.Wrong wrong

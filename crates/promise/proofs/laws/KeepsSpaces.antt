@@ -10,7 +10,7 @@ use lib.Dec.{eqb}
 use lib.ListN.{length, length-set, length-append}
 use lib.Seq.{take-suc-set}
 use Rattle.count.specs.Pick.{pick}
-use Rattle.count.proofs.laws.Truth.{and-left, and-right}
+use Rattle.count.proofs.laws.Truth.{and-left, and-right, never}
 use Rattle.line.specs.declared.Code.{Code}
 use Rattle.line.specs.declared.Code.the-variants as code
 use Rattle.line.specs.declared.Stored.{Stored}
@@ -20,7 +20,7 @@ use Rattle.line.proofs.laws.Spaces.{none-alike, first-alike, direct-alike, stor
 use Rattle.engine.specs.declared.Engine.{Engine}
 use Rattle.engine.specs.declared.Job.{Job}
 use Rattle.engine.specs.declared.Job.the-variants as job
-use Rattle.engine.specs.Kinds.{Ear, kind, rowOf}
+use Rattle.engine.specs.Kinds.{Ear}
 use Rattle.engine.specs.Kinds.Ear.{gathers, drops, waits}
 use Rattle.engine.specs.State.{withRun, withJob, running, heardBy, heard}
 use Rattle.board.specs.declared.Line.{Line}
@@ -31,7 +31,7 @@ use Rattle.board.specs.Storing.{storedBy, storedSaid}
 use Rattle.board.specs.Receive.{earBy, earOf, isStoring, returned, gathering, ordinary, hearing}
 use Rattle.board.proofs.laws.Hears.{sound-engine}
 use Rattle.promise.specs.Machine.{ours}
-use Rattle.promise.specs.Demands.{idles, stores, ticks, Host, Sent, after, sent}
+use Rattle.promise.specs.Demands.{isIdle, idles, stores, ticks, Host, Sent, after, sent}
 use Rattle.promise.specs.Steps.{Each}
 use Rattle.promise.specs.Spaces.{Gathers, IsLine, NoneBegun, Between, no-calls, at-rest, silence, sending, SameOutcome, SpacesChangeNothing}
 use Rattle.promise.proofs.laws.Gathering.{ticks-quiet, step, goes, one-step, hear-plain, gatheredAll, unanswered, heard-step, gather-bytes}
@@ -180,7 +180,9 @@ ready-by : (c : Bool) (t : ℕ) (e : Engine) → earBy (pick c (withRun e (runni
 ready-by true t e = refl
 ready-by false t e = refl
 
-waits-by : (s : Bool) (j : Job) (v : ℕ) (e : Engine) → pick s gathers (earBy j) ≡ waits → pick s gathers (earBy (heardBy j v e .run .job)) ≡ drops
+-- where a byte meets a wait, the board is not at rest, and once it has heard the byte it drops the next
+waits-by : (s : Bool) (j : Job) (v : ℕ) (e : Engine) → pick s gathers (earBy j) ≡ waits
+    → (s || isIdle j && not s || isStoring j && not s ≡ false) × (pick s gathers (earBy (heardBy j v e .run .job)) ≡ drops)
 waits-by true j v e h = let z : _≡_ {A = ℕ} 0 1 = cc in absurd (omega arith)
 waits-by false job.Idle v e h = let z : _≡_ {A = ℕ} 0 1 = cc in absurd (omega arith)
 waits-by false job.Storing v e h = let z : _≡_ {A = ℕ} 0 1 = cc in absurd (omega arith)
@@ -188,7 +190,7 @@ waits-by false (job.Direct m) v e h = let z : _≡_ {A = ℕ} 0 1 = cc in absurd
 waits-by false job.Ready v e h = let z : _≡_ {A = ℕ} 0 1 = cc in absurd (omega arith)
 waits-by false (job.Moving m) v e h = let z : _≡_ {A = ℕ} 0 1 = cc in absurd (omega arith)
 waits-by false (job.Delay q) v e h = let z : _≡_ {A = ℕ} 0 1 = cc in absurd (omega arith)
-waits-by false (job.Wait c t) v e h = ready-by (eqb v c) t e
+waits-by false (job.Wait c t) v e h = (refl, ready-by (eqb v c) t e)
 
 abbrev firstByte : List ℕ → ℕ
 firstByte [] = 13
@@ -208,33 +210,22 @@ dropped b store e v ports h = by (eqb (length store) 16384 && sound b)
     by true = hear-plain v ports b store h ∙ rw e
     by false = refl
 
--- clock calls between the bytes are none where a wait stands
-waits-none : (host : Host) (b : Board) → Between host b → earOf b ≡ waits → (i : ℕ) → host .calls i ≡ 0
-unfolding earOf
-waits-none host b (no-calls z) e i = z i
-waits-none host b (at-rest r) e i = by (b .standing) (b .engine .run .job) e r
-  where
-    by : {A : Type 0} (s : Bool) (j : Job) → pick s gathers (earBy j) ≡ waits → s || rowOf (kind j) .isIdle && not s || isStoring j && not s ≡ true → A
-    by true j e r = let z : _≡_ {A = ℕ} 0 1 = cc in absurd (omega arith)
-    by false job.Idle e r = let z : _≡_ {A = ℕ} 0 1 = cc in absurd (omega arith)
-    by false job.Storing e r = let z : _≡_ {A = ℕ} 0 1 = cc in absurd (omega arith)
-    by false (job.Direct m) e r = let z : _≡_ {A = ℕ} 0 1 = cc in absurd (omega arith)
-    by false job.Ready e r = let z : _≡_ {A = ℕ} 0 1 = cc in absurd (omega arith)
-    by false (job.Moving m) e r = let z : _≡_ {A = ℕ} 0 1 = cc in absurd (omega arith)
-    by false (job.Delay q) e r = let z : _≡_ {A = ℕ} 0 1 = cc in absurd (omega arith)
-    by false (job.Wait c t) e r = let z : _≡_ {A = ℕ} 0 1 = cc in absurd (omega arith)
-
 module _ (host : Host) (b : Board) (store : List ℕ) (between : Between host b) (ear : earOf b ≡ waits) (right : eqb (length store) 16384 && sound b ≡ true) where
   abbrev woken : ℕ → Board
   woken v = board (heard v (b .engine)) (b .standing) (b .line)
 
   woken-drops : (v : ℕ) → earOf (woken v) ≡ drops
   unfolding earOf heard
-  woken-drops v = waits-by (b .standing) (b .engine .run .job) v (b .engine) ear
+  woken-drops v = waits-by (b .standing) (b .engine .run .job) v (b .engine) ear .1
+
+  none-between : Between host b → (i : ℕ) → host .calls i ≡ 0
+  unfolding earOf
+  none-between (no-calls z) i = z i
+  none-between (at-rest r) i = never (sym (waits-by (b .standing) (b .engine .run .job) 0 (b .engine) ear .0) ∙ r)
 
   no-ticks : (c : Board) (i : ℕ) → ticks ours (host .calls i) store c ≡ c
   unfolding ticks
-  no-ticks c i = rw (waits-none host b between ear i)
+  no-ticks c i = rw (none-between between i)
 
   waking : (v i : ℕ) (l : List ℕ) → v ≤ 252 → sent ours host i (v ∷ l) b store ≡ after ours [] (sent ours host (suc i) l (woken v) store)
   waking v i l h =

@@ -33,6 +33,19 @@ pub fn push_decimal(out: &mut Vec<u8>, v: i64) {
     out.extend_from_slice(&digits[first..]);
 }
 
+/// An optional minus and 1 to so many digits, if the number is one of 64 bits.
+pub fn whole(text: &str, most: usize) -> Option<i64> {
+    let digits = text.strip_prefix('-').unwrap_or(text);
+    let right = (1..=most).contains(&digits.len()) && digits.bytes().all(|b| b.is_ascii_digit());
+    right.then(|| text.parse().ok())?
+}
+
+/// Sixteen hexadecimal digits, small letters.
+pub fn word(text: &str) -> Option<u64> {
+    let right = |b| matches!(b, b'0'..=b'9' | b'a'..=b'f');
+    (text.len() == 16 && text.bytes().all(right)).then(|| u64::from_str_radix(text, 16).ok())?
+}
+
 /// Writes the low `text.len()` hexadecimal digits of `v`, in capitals.
 pub fn write_hexadecimal(text: &mut [u8], v: u32) {
     let mut left = v;

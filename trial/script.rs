@@ -4,7 +4,7 @@ use crate::host;
 use std::io::{self, Write};
 use trial::board::{Answer, Board, Refusal};
 use trial::lister::TEXT;
-use trial::number::push_decimal;
+use trial::number::{push_decimal, whole};
 use trial::receive::Ports;
 use trial::record::STORE;
 
@@ -211,11 +211,8 @@ fn push_answer(out: &mut Vec<u8>, answer: Result<Answer, Refusal>) {
     out.push(b'\n');
 }
 
-/// An optional minus and 1 to 10 digits.
 fn number(text: &str) -> Option<i64> {
-    let digits = text.strip_prefix('-').unwrap_or(text);
-    let right = (1..=10).contains(&digits.len()) && digits.bytes().all(|b| b.is_ascii_digit());
-    right.then(|| text.parse().ok())?
+    whole(text, 10)
 }
 
 fn byte(v: i64) -> Option<u8> {

@@ -21,7 +21,7 @@ pub const AXIS_WRONG: u8 = 201;
 pub const VALUE_WRONG: u8 = 202;
 pub const RESULT_WRONG: u8 = 203;
 
-fn axis_right(axis: Axis) -> Result<(), u8> {
+pub(crate) fn axis_right(axis: Axis) -> Result<(), u8> {
     let right = |v: f64| (0.001..=1_000_000.0).contains(&v);
     if right(axis.lead) && right(axis.steps) && right(axis.gear) {
         Ok(())
@@ -46,6 +46,11 @@ pub fn distance(axis: Axis, mm: f64) -> Result<i32, u8> {
     if !(-1_000_000.0..=1_000_000.0).contains(&mm) {
         return Err(VALUE_WRONG);
     }
+    steps(axis, mm)
+}
+
+/// The same once axis and distance are known to be right.
+pub(crate) fn steps(axis: Axis, mm: f64) -> Result<i32, u8> {
     nearest(mm / axis.lead * axis.steps * axis.gear, LOW, HIGH)
 }
 

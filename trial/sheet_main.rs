@@ -1,14 +1,8 @@
 //! `sheet_main`: converts the sheet's values line by line: `refusal value`. See README.md.
 
 use std::io::{self, Read, Write};
-use trial::number::push_decimal;
+use trial::number::{push_decimal, word};
 use trial::sheet::{distance, speed, Axis, Speed};
-
-/// Sixteen hexadecimal digits, small letters.
-fn word(text: &str) -> Option<u64> {
-    let right = |b| matches!(b, b'0'..=b'9' | b'a'..=b'f');
-    (text.len() == 16 && text.bytes().all(right)).then(|| u64::from_str_radix(text, 16).ok())?
-}
 
 /// None: the line is wrong.
 fn convert(line: &str) -> Option<Result<i32, u8>> {

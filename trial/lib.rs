@@ -3,6 +3,7 @@
 
 pub mod board;
 pub mod by_value;
+pub mod chain;
 pub mod check;
 pub mod line;
 pub mod lister;

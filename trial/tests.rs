@@ -7,6 +7,7 @@ mod program;
 mod rng;
 mod script;
 mod spaces;
+mod test_chain;
 mod test_check;
 mod test_host;
 mod test_lines;

@@ -4,9 +4,11 @@
 mod damage;
 mod host;
 mod program;
+mod questions;
 mod rng;
 mod script;
 mod spaces;
+mod test_ask;
 mod test_chain;
 mod test_check;
 mod test_host;

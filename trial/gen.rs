@@ -1,10 +1,13 @@
 //! `gen KIND SEED COUNT`: streams for trials, the same for the same seed. See README.md.
 
 mod damage;
+mod gen_ask;
 mod gen_calls;
+mod gen_chain;
 mod gen_host;
 mod gen_quiet;
 mod gen_sheet;
+mod gen_unread;
 mod gen_walk;
 mod program;
 mod rng;
@@ -23,12 +26,13 @@ fn main() -> io::Result<()> {
         "walk" => gen_walk::stream(&mut rng, count, &mut out),
         "calls" => gen_calls::script(&mut rng, count, &mut out),
         "sheet" => gen_sheet::vectors(&mut rng, count, &mut out),
+        "ask" => gen_ask::lines(&mut rng, count, &mut out),
         _ => return usage(),
     }
     io::stdout().lock().write_all(&out)
 }
 
 fn usage() -> io::Result<()> {
-    eprintln!("usage: gen walk|calls|sheet SEED COUNT");
+    eprintln!("usage: gen walk|calls|sheet|ask SEED COUNT");
     std::process::exit(2)
 }

@@ -16,7 +16,7 @@ pub fn vectors(rng: &mut Rng, count: u64, out: &mut Vec<u8>) {
     }
 }
 
-fn axis(rng: &mut Rng) -> [f64; 3] {
+pub fn axis(rng: &mut Rng) -> [f64; 3] {
     if rng.once_in(3) {
         let lead = rng.pick(&[1.0, 2.0, 2.5, 4.0, 5.0, 10.0, 20.0]);
         return [lead, rng.pick(&[2.0, 200.0, 400.0, 800.0]), rng.pick(&[0.5, 1.0, 2.0, 3.0])];

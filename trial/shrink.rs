@@ -1,5 +1,7 @@
 //! `shrink KIND ONE OTHER`: shortens an input on which two programs differ, and shows what is left.
 
+mod shrink_ask;
+
 use std::io::{self, Read, Write};
 use std::process::{Command, Stdio};
 
@@ -23,20 +25,24 @@ struct Pair<'a> {
 }
 
 impl Pair<'_> {
-    fn differ(&self, parts: &[&[u8]]) -> io::Result<bool> {
-        let input = parts.concat();
-        Ok(output("one", self.one, &input)? != output("other", self.other, &input)?)
+    fn differ(&self, input: &[u8]) -> io::Result<bool> {
+        Ok(output("one", self.one, input)? != output("other", self.other, input)?)
     }
 
-    /// Leaves out ever smaller runs of parts as long as the programs still differ.
-    fn shorten<'b>(&self, mut parts: Vec<&'b [u8]>) -> io::Result<Vec<&'b [u8]>> {
+    /// Leaves out ever smaller runs of parts as long as the programs still differ on what is put together
+    /// from the rest.
+    fn shorten<'b>(
+        &self,
+        mut parts: Vec<&'b [u8]>,
+        together: impl Fn(&[&'b [u8]]) -> Vec<u8>,
+    ) -> io::Result<Vec<u8>> {
         let mut run = parts.len().div_ceil(2);
         while run > 0 {
             let mut at = 0;
             while at < parts.len() {
                 let end = (at + run).min(parts.len());
                 let fewer = [&parts[..at], &parts[end..]].concat();
-                if self.differ(&fewer)? {
+                if self.differ(&together(&fewer))? {
                     parts = fewer;
                 } else {
                     at = end;
@@ -44,7 +50,7 @@ impl Pair<'_> {
             }
             run /= 2;
         }
-        Ok(parts)
+        Ok(together(&parts))
     }
 
     fn show(&self, input: &[u8]) -> io::Result<()> {
@@ -61,15 +67,21 @@ impl Pair<'_> {
 fn main() -> io::Result<()> {
     let arguments: Vec<String> = std::env::args().collect();
     let [_, kind, one, other] = &arguments[..] else {
-        eprintln!("usage: shrink walk|calls|sheet ONE OTHER");
+        eprintln!("usage: shrink walk|calls|sheet|ask ONE OTHER");
         std::process::exit(2)
     };
     let mut input = Vec::new();
     io::stdin().read_to_end(&mut input)?;
     let pair = Pair { one, other };
     let end = if kind == "walk" { 13 } else { 10 };
-    let lines = pair.shorten(input.split_inclusive(|&b| b == end).collect())?.concat();
-    let small = lines.len() < 2_000 && kind == "walk";
-    let shortest = if small { pair.shorten(lines.chunks(1).collect())?.concat() } else { lines };
+    let lines = pair.shorten(input.split_inclusive(|&b| b == end).collect(), |lines| lines.concat())?;
+    let shortest = match kind.as_str() {
+        "walk" if lines.len() < 2_000 => pair.shorten(lines.chunks(1).collect(), |bytes| bytes.concat())?,
+        "ask" => {
+            let (question, fields) = shrink_ask::parts(&lines);
+            pair.shorten(fields, |fields| question.with(fields))?
+        }
+        _ => lines,
+    };
     pair.show(&shortest)
 }

@@ -5,6 +5,10 @@ ghost use lib.Ieee.{binary64, ofBits};
 ghost use Rattle.sheet.specs.Sheet.{axisRight, distanceRight, rateRight, between, distanceFloat, speedFloat, halfUp, wholeSteps, wholeSpeed, distanceSteps, speedSteps, refused, distanceOf, speedOf};
 ghost use Rattle.sheet.specs.work.Work.{Room, capped, cappedWhole};
 
+mod chains;
+
+pub use chains::chain;
+
 // What an axis is, each a 64-bit float.
 pub struct Axis {
     pub lead: f64,
@@ -52,7 +56,7 @@ pub fn speed(axis: Axis, rate: Rate) -> Converted
 }
 
 // The test of the axis, 201.
-fn axis_right(axis: Axis) -> bool
+pub(crate) fn axis_right(axis: Axis) -> bool
     ensures { λ r. ⌜ r ≡ axisRight axis ⌝ }
 {
     let lead = within(0.001, axis.lead, 1000000.0);
@@ -87,7 +91,7 @@ fn within(lo: f64, x: f64, hi: f64) -> bool
 }
 
 // The formula of a distance, rounded to a whole number of steps of 24 bits, else 203.
-fn distance_steps(axis: Axis, mm: f64) -> Converted
+pub(crate) fn distance_steps(axis: Axis, mm: f64) -> Converted
     ensures { λ r. ⌜ r ≡ distanceSteps axis mm ⌝ }
 {
     let steps = mm / axis.lead * axis.steps * axis.gear;
@@ -113,7 +117,7 @@ fn speed_float(axis: Axis, v: f64) -> f64
 }
 
 // The range of a distance.
-fn whole_steps(n: i64) -> Converted
+pub(crate) fn whole_steps(n: i64) -> Converted
     ensures { λ r. ⌜ r ≡ wholeSteps n ⌝ }
 {
     if (-8388608 <= n) & (n <= 8388607) {

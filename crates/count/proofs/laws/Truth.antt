@@ -1,6 +1,6 @@
--- Laws of truths that every crate cites: what `&&` says, and that no truth is the other. Assumes nothing.
-use mathlib.Core.Path.{_≡_, refl}
-use mathlib.Core.Bool.{Bool, true, false, not, _&&_, false≢true}
+-- Laws of truths that every crate cites: what `&&` and `||` say, and that no truth is the other. Assumes nothing.
+use mathlib.Core.Path.{_≡_, refl, sym}
+use mathlib.Core.Bool.{Bool, true, false, not, _&&_, _||_, false≢true}
 
 pub never : {A : Type 0} → _≡_ {A = Bool} false true → A
 never e = absurd (false≢true e)
@@ -17,6 +17,11 @@ and-right false b e = never e
 
 pub and-parts : (a b : Bool) → a && b ≡ true → (a ≡ true) × (b ≡ true)
 and-parts a b e = (and-left a b e, and-right a b e)
+
+-- neither holds
+pub or-false : {a b : Bool} → a || b ≡ false → (a ≡ false) × (b ≡ false)
+or-false {a = true} e = never (sym e)
+or-false {a = false} e = (refl, e)
 
 -- ---- and what says both
 

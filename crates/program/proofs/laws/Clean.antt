@@ -1,13 +1,13 @@
 -- A check that finds nothing finds nothing at each place, in each of its conditions. Assumes nothing.
 use Prim.Native.Nat.{ℕ, zero, suc, _+_, _≤_, _<_}
-use mathlib.Core.Bool.{Bool, true, false, cond, not, _&&_, _||_, Bool·beq}
+use mathlib.Core.Bool.{Bool, true, false, cond, not, _&&_, Bool·beq}
 use mathlib.Core.Path.{_≡_, refl, sym, _∙_, subst}
 use native.Mathlib.Omega.{arith}
 use native.Mathlib.Nat.{zero-add}
 use borrow.Author.Tests.{ltb-false, leb-true, eqb-true, eqb-false, le-leb}
 use lib.Dec.{ltb, leb, eqb}
 use Rattle.count.specs.Pick.{pick}
-use Rattle.count.proofs.laws.Truth.{never, and-parts, both}
+use Rattle.count.proofs.laws.Truth.{never, or-false, and-parts, both}
 use Rattle.program.specs.declared.Verdict.{Verdict}
 use Rattle.program.specs.declared.Verdict.the-variants.{Sound, Fault}
 use Rattle.program.specs.work.Marks.{mark, holds, meets, overlaps, holders, strays, outside, early, letter, checked}
@@ -26,10 +26,6 @@ none-go f false e z g h = let n = eqb-false _ _ e in g (below h n)
   where
     below : {i n : ℕ} → i < suc n → (i ≡ n → ⊥) → i < n
     below h d = omega arith
-
-pub or-false : {a b : Bool} → a || b ≡ false → (a ≡ false) × (b ≡ false)
-or-false {a = true} e = never (sym e)
-or-false {a = false} e = (refl, e)
 
 -- nowhere among k places
 pub none-of : (k : ℕ) (f : ℕ → Bool) → some k f ≡ false → (i : ℕ) → i < k → f i ≡ false

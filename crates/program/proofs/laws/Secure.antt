@@ -7,7 +7,7 @@ use native.Mathlib.Omega.{arith}
 use borrow.Author.Tests.{ltb-true, ltb-false, leb-true}
 use lib.Dec.{ltb, leb, T}
 use lib.ListN.{length}
-use Rattle.count.proofs.laws.Truth.{and-parts}
+use Rattle.count.proofs.laws.Truth.{or-false, and-parts}
 use Rattle.record.specs.declared.Record.{Record}
 use Rattle.program.specs.declared.Verdict.the-variants.{Sound}
 use Rattle.program.specs.work.Marks.{mark, holds, meets, overlaps, holders, strays, outside, early}
@@ -16,7 +16,7 @@ use Rattle.program.specs.work.Aims as aims
 use Rattle.program.proofs.laws.Flow.{Flow, Ahead, Jump, Wait, Round, Halt}
 use Rattle.program.proofs.laws.Flow as flow
 use Rattle.program.proofs.laws.Nest.{is-true, Secure}
-use Rattle.program.proofs.laws.Clean.{and-false, or-false, none-of, up-tally, holders-up, holds-yes, holds-parts, meets-no, level, Clean, clean}
+use Rattle.program.proofs.laws.Clean.{and-false, none-of, up-tally, holders-up, holds-yes, holds-parts, meets-no, level, Clean, clean}
 
 -- where a record at place i goes
 abbrev pub placed : ℕ → Aim → Flow

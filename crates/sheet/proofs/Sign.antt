@@ -21,7 +21,7 @@ no-nan nan h = subst T h tt
 no-nan (inf s) h = tt
 no-nan (fin s m e) h = tt
 
-abbrev Signed : Bool → Float → Type 0
+abbrev pub Signed : Bool → Float → Type 0
 Signed s nan = ⊥
 Signed s (inf t) = t ≡ s
 Signed s (fin t m e) = t ≡ s
@@ -32,7 +32,7 @@ by-sign s nan h = absurd h
 by-sign s (inf t) h = rw h
 by-sign s (fin t m e) h = rw h
 
-of-value : (s : Bool) (y : Float) (a c : ℕ) → HasValue y s a c → Signed s y
+pub of-value : (s : Bool) (y : Float) (a c : ℕ) → HasValue y s a c → Signed s y
 of-value s nan a c h = absurd h
 of-value s (inf t) a c h = absurd h
 of-value s (fin t m e) a c h = h .0

@@ -5,6 +5,11 @@ use denote.Ref.{now}
 use Rattle.reader.proofs.next_number.Reads as next-number
 use Rattle.reader.proofs.next_numbers.Reads as next-numbers
 use Rattle.reader.proofs.hex_number.Reads as hex-number
+use Rattle.reader.proofs.fields.field_end.Reads as field-end
+use Rattle.reader.proofs.fields.read_whole.Reads as read-whole
+use Rattle.reader.proofs.fields.read_bits.Reads as read-bits
+use Rattle.reader.proofs.fields.float.Reads as float
+use Rattle.reader.proofs.fields.magnitude.Reads as magnitude
 
 pub next-number-one : (κs : _) (a : _) (r r′ : _) (s s′ : _) → next-number.Post κs a r s → next-number.Post κs a r′ s′ → r ≡ r′
 next-number-one κs a r r′ s s′ p q = p ∙ sym q
@@ -17,3 +22,18 @@ next-numbers-one κs a r r′ s s′ p q = (p .0 ∙ sym (q .0), p .1 ∙ sym (q
 
 pub hex-number-one : (κs : _) (a : _) (r r′ : _) (s s′ : _) → hex-number.Post κs a r s → hex-number.Post κs a r′ s′ → r ≡ r′
 hex-number-one κs a r r′ s s′ p q = p ∙ sym q
+
+pub field-end-one : (κs : _) (a : _) (r r′ : _) (s s′ : _) → field-end.Post κs a r s → field-end.Post κs a r′ s′ → r ≡ r′
+field-end-one κs a r r′ s s′ p q = p ∙ sym q
+
+pub read-whole-one : (κs : _) (a : _) (r r′ : _) (s s′ : _) → read-whole.Post κs a r s → read-whole.Post κs a r′ s′ → r ≡ r′
+read-whole-one κs a r r′ s s′ p q = p ∙ sym q
+
+pub read-bits-one : (κs : _) (a : _) (r r′ : _) (s s′ : _) → read-bits.Post κs a r s → read-bits.Post κs a r′ s′ → r ≡ r′
+read-bits-one κs a r r′ s s′ p q = p ∙ sym q
+
+pub float-one : (κs : _) (a : _) (r r′ : _) (s s′ : _) → float.Post κs a r s → float.Post κs a r′ s′ → r ≡ r′
+float-one κs a r r′ s s′ p q = p ∙ sym q
+
+pub magnitude-one : (κs : _) (a : _) (r r′ : _) (s s′ : _) → magnitude.Post κs a r s → magnitude.Post κs a r′ s′ → r ≡ r′
+magnitude-one κs a r r′ s s′ p q = p ∙ sym q

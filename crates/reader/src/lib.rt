@@ -1,9 +1,19 @@
 // The numbers of a text, for the programs that run vectors: decimal ones one behind the other, whatever stands between them, and
-// hexadecimal ones at a place.
+// hexadecimal ones at a place. And the fields of a line, for the program that answers questions.
 ghost use mathlib.Core.Path.{_≡_};
 ghost use Prim.Native.Nat.{_≤_};
 ghost use lib.ListN.{length};
 ghost use Rattle.reader.specs.Reader.{isDigit, withDigit, numberAt, wordsAt, behindWords, hexValue, hexAt};
+
+mod fields;
+
+pub use fields::Bits;
+pub use fields::Whole;
+pub use fields::field_end;
+pub use fields::float;
+pub use fields::magnitude;
+pub use fields::read_bits;
+pub use fields::read_whole;
 
 // A number of the text as a word of 32 bits, and where the text goes on.
 pub struct Number {
@@ -11,7 +21,7 @@ pub struct Number {
     pub at: usize,
 }
 
-fn is_digit(b: u8) -> bool
+pub(crate) fn is_digit(b: u8) -> bool
     ensures { λ r. ⌜ r ≡ isDigit b ⌝ }
 {
     (48 <= b) & (b <= 57)

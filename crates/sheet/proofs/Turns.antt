@@ -12,12 +12,12 @@ use lib.Seq.{drop-cons, take-suc-set}
 use lib.Ieee.{Float, nan, inf, fin}
 use mir.Syntax.{w32}
 use mir.Val.{SFits}
-use Rattle.count.specs.Pick.{pick}
+use Rattle.count.specs.Pick.{pick, every}
 use Rattle.count.proofs.laws.Truth.{and-parts}
 use Rattle.sheet.specs.declared.Axis.{Axis}
 use Rattle.sheet.specs.declared.Converted.{Converted}
 use Rattle.sheet.specs.Sheet.{signed, near, found, refused, wholeSteps, rounded, distanceFloat, distanceSteps}
-use Rattle.sheet.specs.Chain.{every, sums, inMm, resultOf, sumRight}
+use Rattle.sheet.specs.Chain.{sums, inMm, resultOf, sumRight}
 use Rattle.sheet.specs.work.Links.{noted, linkOf, faultFrom, stepsFrom}
 use Rattle.sheet.proofs.Range.{steps-fit}
 

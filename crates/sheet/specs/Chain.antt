@@ -7,7 +7,7 @@ use lib.Dec.{eqb, ltb}
 use lib.IntN.{ℤ, pos, negℤ, _+ℤ_, _-ℤ_}
 use lib.ListN.{length}
 use lib.Ieee.{Float, binary64, ofInt, div}
-use Rattle.count.specs.Pick.{pick}
+use Rattle.count.specs.Pick.{pick, every}
 use Rattle.count.specs.Numbers.{within, in24}
 use Rattle.sheet.specs.declared.Axis.{Axis}
 use Rattle.sheet.specs.declared.Converted.{Converted}
@@ -17,11 +17,6 @@ use Rattle.sheet.specs.Sheet.{float, axisRight, distanceSteps}
 unfoldable pub total : List ℤ → ℤ
 total [] = pos 0
 total (t ∷ l) = t +ℤ total l
-
--- every one of a list passes a test
-unfoldable pub every : {A : Type 0} → (A → Bool) → List A → Bool
-every test [] = true
-every test (x ∷ l) = test x && every test l
 
 -- ---- 02, §2, sentence 4: the chain is summed in whole thousandths of a mm
 

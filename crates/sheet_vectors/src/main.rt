@@ -1,8 +1,6 @@
 // Runs the sheet on the vectors of its standard input, one to a line: a letter and four patterns of sixteen hexadecimal digits in small
 // letters, each behind one space (tests/vectors/sheet.py). Writes the refusal and the value of each. For a line that is none it writes
 // `? ` and the number of the line, from 1.
-ghost use mathlib.Core.Path.{_≡_};
-ghost use lib.IntN.{natAbs};
 use libc::STDIN_FILENO;
 use libc::STDOUT_FILENO;
 use sheet::Axis;
@@ -25,14 +23,6 @@ fn word(line: &[u8; 70], at: usize) -> u64 {
     reader::hex_number(line, at, 16)
 }
 
-// The float of a pattern. Every pattern of not-a-number gives the same.
-fn float(w: u64) -> f64 {
-    if 0x7FF0_0000_0000_0000 < w % 0x8000_0000_0000_0000 {
-        return 0.0 / 0.0;
-    }
-    f64::from_bits(w)
-}
-
 // The whole number of a pattern in two's complement.
 fn whole(w: u64) -> i64 {
     if w <= 0x7FFF_FFFF_FFFF_FFFF {
@@ -43,35 +33,23 @@ fn whole(w: u64) -> i64 {
 
 fn converted(kind: u8, axis: Axis, w: u64) -> Converted {
     if kind == b'D' {
-        return sheet::distance(axis, float(w));
+        return sheet::distance(axis, reader::float(w));
     }
     if kind == b'S' {
-        return sheet::speed(axis, Rate::PerSecond(float(w)));
+        return sheet::speed(axis, Rate::PerSecond(reader::float(w)));
     }
     if kind == b'M' {
-        return sheet::speed(axis, Rate::PerMinute(float(w)));
+        return sheet::speed(axis, Rate::PerMinute(reader::float(w)));
     }
     sheet::speed(axis, Rate::Steps(whole(w)))
 }
 
 fn of_line(line: &[u8; 70]) -> Converted {
-    let lead = float(word(line, 2));
-    let steps = float(word(line, 19));
-    let gear = float(word(line, 36));
+    let lead = reader::float(word(line, 2));
+    let steps = reader::float(word(line, 19));
+    let gear = reader::float(word(line, 36));
     let axis = Axis { lead, steps, gear };
     converted(line[0], axis, word(line, 53))
-}
-
-// |v|, at the whole range of an i32.
-fn size_of(v: i32) -> u32
-    ensures { λ r. ⌜ r ≡ natAbs v ⌝ }
-{
-    if v < 0 {
-        let w = -1 - v;
-        (w as u32) + 1
-    } else {
-        v as u32
-    }
 }
 
 fn show(c: Converted) {
@@ -81,7 +59,7 @@ fn show(c: Converted) {
     if v < 0 {
         io::write_all(STDOUT_FILENO, b"-");
     }
-    io::print_decimal(STDOUT_FILENO, size_of(v) as u64);
+    io::print_decimal(STDOUT_FILENO, reader::magnitude(v) as u64);
     io::write_all(STDOUT_FILENO, b"\n");
 }
 

@@ -15,13 +15,13 @@ use lib.Ieee.Positive.{positive, between as inbetween}
 use native.Mathlib.Nat.{mul-pos}
 use lib.Dec.{ltb→lt}
 use borrow.Author.Tests.{not-true, not-false, ne-eqb, eqb-true}
-use Rattle.count.specs.Pick.{pick}
+use Rattle.count.specs.Pick.{pick, every}
 use Rattle.count.specs.Numbers.{within, in24}
 use Rattle.count.proofs.laws.Truth.{and-left, and-right, and-parts}
 use Rattle.sheet.specs.declared.Axis.{Axis}
 use Rattle.sheet.specs.declared.Converted.{Converted}
 use Rattle.sheet.specs.Sheet.{float, between, found, refused, near, halfUp, axisRight, distanceRight, distanceFloat, distanceSteps, distanceOf, wholeSteps, rounded}
-use Rattle.sheet.specs.Chain.{total, every, sums, inMm, resultOf, results, differences, mostDistances, sumRight, accepted, Chained, chained, chainOf}
+use Rattle.sheet.specs.Chain.{total, sums, inMm, resultOf, results, differences, mostDistances, sumRight, accepted, Chained, chained, chainOf}
 use Rattle.sheet.proofs.laws.Laws.{whole-stays}
 use Rattle.sheet.proofs.laws.Floats.{zero-rounds}
 use Rattle.sheet.proofs.laws.Thousandths.{sum-is-distance}

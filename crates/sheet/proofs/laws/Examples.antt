@@ -7,7 +7,8 @@ use lib.ListN.{replicate}
 use lib.Ieee.{nan, binary64, round, ofInt, le, mul, div}
 use Rattle.count.specs.Numbers.{within, in24}
 use Rattle.sheet.specs.declared.Rate.the-variants.{PerSecond, PerMinute}
-use Rattle.sheet.specs.Chain.{every, sums, inMm, resultOf, results, differences, sumRight, chained, chainOf}
+use Rattle.count.specs.Pick.{every}
+use Rattle.sheet.specs.Chain.{sums, inMm, resultOf, results, differences, sumRight, chained, chainOf}
 use Rattle.sheet.specs.Sheet.{axis, float, minusFloat, found, refused, halfUp, near, rounded, wholeSteps, wholeSpeed, axisRight, distanceRight, rateRight, distanceSteps, speedSteps, distanceOf, speedOf}
 
 -- (9) lead 5, 400 steps, gear 1: 10 mm is 800

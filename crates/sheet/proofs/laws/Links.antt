@@ -10,13 +10,13 @@ use lib.ListN.{length}
 use lib.IntN.{ℤ, pos, negsuc, _+ℤ_, _-ℤ_}
 use lib.Signed.{leZ}
 use lib.Ieee.{Float, nan, inf, fin}
-use Rattle.count.specs.Pick.{pick}
+use Rattle.count.specs.Pick.{pick, every}
 use Rattle.count.specs.Numbers.{within, in24}
 use Rattle.count.proofs.laws.Truth.{and-left, and-right}
 use Rattle.sheet.specs.declared.Axis.{Axis}
 use Rattle.sheet.specs.declared.Converted.{Converted}
 use Rattle.sheet.specs.Sheet.{signed, near, found, refused, wholeSteps, rounded, axisRight, distanceFloat, distanceSteps}
-use Rattle.sheet.specs.Chain.{every, sums, inMm, resultOf, results, differences, mostDistances, sumRight, accepted, chained, chainOf}
+use Rattle.sheet.specs.Chain.{sums, inMm, resultOf, results, differences, mostDistances, sumRight, accepted, chained, chainOf}
 use Rattle.sheet.specs.work.Links.{noted, linkOf, faultFrom, stepsFrom}
 
 -- ---- a conversion is accepted, or it is refused 203 with the value 0

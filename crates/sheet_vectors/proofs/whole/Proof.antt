@@ -1,7 +1,7 @@
 -- `sheet_vectors::whole` is safe. Assumes nothing.
 use native.Mathlib.Omega.{arith}
 use Prim.Native.Nat.{_-_}
-use Rattle.sheet_vectors.proofs.Size.{below-fits}
+use Rattle.reader.proofs.laws.Size.{below-fits}
 use borrow.Author.Needs.{needs}
 use Rattle.sheet_vectors.proofs.whole.Statement.{statement}
 use Rattle.sheet_vectors.proofs.whole.Tie as tie

@@ -11,7 +11,8 @@ use mir.Syntax.{w32, w64}
 use mir.Val.{SFits, toZ, ofZ}
 use mir.ValLaws.{toZ-ofZ}
 use Rattle.count.specs.Numbers.{within}
-use Rattle.sheet.specs.Chain.{sumRight, sums, every}
+use Rattle.count.specs.Pick.{every}
+use Rattle.sheet.specs.Chain.{sumRight, sums}
 use Rattle.sheet.specs.work.Links.{linkOf, stepsFrom}
 use Rattle.sheet.proofs.Sums.{sum-fits}
 use Rattle.sheet.proofs.Turns.{link-result-fits, link-step-fits, sums-go, steps-go}

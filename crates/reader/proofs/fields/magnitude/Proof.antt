@@ -1,13 +1,13 @@
--- `sheet_vectors::size_of` meets its contract. Assumes nothing.
+-- `reader::magnitude` meets its contract. Assumes nothing.
 use mathlib.Core.Path.{_≡_}
 use lib.IntN.{negsuc, _-ℤ_}
 use mir.Syntax.{w32}
 use mir.Val.{toZ, ofZ}
 use mir.ValLaws.{toZ-ofZ}
-use Rattle.sheet_vectors.proofs.Size.{Under, under, plain}
+use Rattle.reader.proofs.laws.Size.{Under, under, plain}
 use borrow.Author.Needs.{needs}
-use Rattle.sheet_vectors.proofs.size_of.Statement.{statement}
-use Rattle.sheet_vectors.proofs.size_of.Tie as tie
+use Rattle.reader.proofs.fields.magnitude.Statement.{statement}
+use Rattle.reader.proofs.fields.magnitude.Tie as tie
 
 -- what the machine reads back from v's bits is v
 is : (s : tie.Start) → toZ w32 (ofZ w32 (s .args .v)) ≡ s .args .v
@@ -37,5 +37,5 @@ returns c = rw (is (c .before), again c) (low c .size)
 returns-2 : tie.Need-returns-2
 returns-2 c = search needs
 
-pub size-of-spec : {M : Type 1} → statement M
-size-of-spec = tie.close (tie.spec sub-w cast-result add-result cast-result-2 returns returns-2)
+pub magnitude-spec : {M : Type 1} → statement M
+magnitude-spec = tie.close (tie.spec sub-w cast-result add-result cast-result-2 returns returns-2)

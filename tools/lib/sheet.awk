@@ -1,5 +1,12 @@
-# Numbers as the programs of the sheet read them, in sixteen hexadecimal digits. Functions for the awk programs that are named behind
-# this file.
+# Values as a person writes them, and their numbers as the programs of the sheet read them. Functions for the awk programs that are
+# named behind this file.
+
+# The value of a line: without the byte order mark that a first line may have, and without spaces around it. A comment has none.
+function value_of(line, first) {
+    if (first && substr(line, 1, 3) == "\357\273\277") line = substr(line, 4)
+    gsub(/^[ \t]+|[ \t]+$/, "", line)
+    return line ~ /^#/ ? "" : line
+}
 
 # A number as a person writes it: digits with at most one decimal point among them, before them or behind them, and at most one sign in
 # front. No exponent, no comma, no space.
@@ -15,6 +22,21 @@ function is_whole(text) {
 function size(text) {
     sub(/^[-+]?0*/, "", text)
     return text + 0
+}
+
+# The thousandths of a number, as the digits of a whole number: -2500 for -2.5. Nothing if a part of a thousandth is left. From 19
+# digits on it is 18 nines: a chain of distances refuses both alike.
+function thousandths(text, sign, point, decimals) {
+    sign = text ~ /^-/ ? "-" : ""
+    sub(/^[-+]/, "", text)
+    point = index(text ".", ".")
+    decimals = substr(text, point + 1)
+    sub(/0+$/, "", decimals)
+    if (length(decimals) > 3) return ""
+    text = substr(text, 1, point - 1) substr(decimals "000", 1, 3)
+    sub(/^0+/, "", text)
+    if (text == "") return "0"
+    return sign (length(text) > 18 ? "999999999999999999" : text)
 }
 
 # Sixteen digits of four parts of 16 bits.

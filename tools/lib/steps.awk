@@ -4,9 +4,8 @@
 BEGIN {
     if (part == "axis") exit axis_of(ARGV[1], ARGV[2], ARGV[3])
 }
-NR == 1 && substr($0, 1, 3) == "\357\273\277" { $0 = substr($0, 4) }
-{ gsub(/^[ \t]+|[ \t]+$/, "") }
-/^#/ || $0 == "" { next }
+{ $0 = value_of($0, NR == 1) }
+$0 == "" { next }
 {
     take($0)
     asked++
@@ -36,6 +35,7 @@ function take(text) {
     if (unit == "") unit = "mm"
     kind = unit == "mm" ? "D" : unit == "mm/s" ? "S" : unit == "mm/min" ? "M" : unit == "steps/s" ? "N" : ""
     if (text ~ /,/) fault = "write a decimal point and no comma, as in 2.5"
+    else if (text ~ /^[0-9]+[ \t]*x/) fault = "distances are repeated in a chain, as in --chain 30 x 0.333"
     else if (kind == "" || !is_number(number)) fault = "a value is a distance, as 10 or -2.5 mm, or a speed, as 600 mm/min, 10 mm/s or 900 steps/s"
     else if (kind == "N" && !is_whole(number)) fault = "steps per second are a whole number"
 }

@@ -1,0 +1,47 @@
+-- `ask::answer` is safe. Assumes nothing.
+use mathlib.Core.Path.{sym}
+use lib.Seq.{length-take-le}
+use borrow.Author.Needs.{needs}
+use Rattle.ask.proofs.answer.Statement.{statement}
+use Rattle.ask.proofs.answer.Tie as tie
+
+unread-requires : tie.Need-unread-requires
+unread-requires c κs = search needs
+
+returns : tie.Need-returns
+returns c = search needs
+
+end-of-requires : tie.Need-end-of-requires
+end-of-requires c κs = search needs
+
+slice-aggregate-is-chain : tie.Need-slice-aggregate-is-chain
+slice-aggregate-is-chain c = sym (length-take-le _ _ (c .before .end-of .ensures .1))
+
+is-chain-requires : tie.Need-is-chain-requires
+is-chain-requires c κs = search needs
+
+answer-requires : tie.Need-answer-requires
+answer-requires c κs = search needs
+
+returns-2 : tie.Need-returns-2
+returns-2 c = search needs
+
+unread-requires-2 : tie.Need-unread-requires-2
+unread-requires-2 c κs = search needs
+
+returns-3 : tie.Need-returns-3
+returns-3 c = search needs
+
+pub answer-spec : {M : Type 1} → statement M
+answer-spec =
+    tie.close
+    (tie.spec
+    unread-requires
+    returns
+    end-of-requires
+    slice-aggregate-is-chain
+    is-chain-requires
+    answer-requires
+    returns-2
+    unread-requires-2
+    returns-3)

@@ -15,6 +15,7 @@ pub mod Guard
 pub mod KeepsAlways
 pub mod KeepsAxes
 pub mod KeepsCalls
+pub mod KeepsChain
 pub mod KeepsEnd
 pub mod KeepsEvents
 pub mod KeepsLines

@@ -4,12 +4,14 @@ use Prim.Native.Nat.{ℕ, _+_}
 use mathlib.Core.Bool.{Bool, false, not, _&&_, _||_}
 use mathlib.Core.List.{List, [], _∷_, _++_}
 use lib.Dec.{eqb, ltb}
-use lib.IntN.{pos}
-use lib.ListN.{length, take, drop, getD}
+use lib.IntN.{ℤ, pos}
+use lib.ListN.{length, take, drop, getD, replicate}
 use Rattle.count.specs.Sizes.{storeBytes, replyBytes}
 use Rattle.count.specs.Chars.{ch}
 use Rattle.count.specs.Pick.{pick}
 use Rattle.count.specs.Paper.{Paper, says}
+use Rattle.sheet.specs.declared.Converted.{Converted}
+use Rattle.sheet.specs.Chain.{results, chained, chainOf}
 use Rattle.motion.specs.declared.Counters.{Counters}
 use Rattle.motion.specs.Next.{pulseOf}
 use Rattle.record.specs.Places.{fetchOf}
@@ -28,6 +30,7 @@ use Rattle.course.specs.Walk.{noStore}
 use Rattle.promise.specs.Machine.{Machine, Lent, Heard, Clocked, lent, heardBy, clockedBy, ours}
 use Rattle.promise.specs.Demands.{idles, stores}
 use Rattle.promise.specs.Stop.{stoppable}
+use Rattle.promise.specs.Chain.{Chaining}
 use Rattle.promise.specs.Route.{comes}
 
 -- ---- ours but for what it hears, for its clock calls, or for what its runs say
@@ -196,3 +199,17 @@ hasSpaces b = not (eqb (length (unspaced (textOf (b .line)))) (b .line .len))
 
 abbrev pub strict : Machine
 strict = hearsSo (λ v ports l b. pick (eqb v (ch "\r") && hasSpaces b) (lineDone b, saysAlone (ch "5") l) (ours .hear v ports l b))
+
+-- ---- a chain of distances (02 §2)
+
+abbrev pub values : List Converted → List ℤ
+values [] = []
+values (r ∷ l) = r .value ∷ values l
+
+-- 01's way for a single distance, used for a chain: each is converted by itself
+unfoldable pub oneByOne : Chaining
+oneByOne a l output = chained 0 (values (results a l))
+
+-- a refusal sets the output to zeros
+abbrev pub clears : Chaining
+clears a l output = pick (eqb (chainOf a l output .refusal) 0) (chainOf a l output) (chained (chainOf a l output .refusal) (replicate (length output) (pos 0)))

@@ -3,6 +3,7 @@ pub mod Demands
 pub mod Follows
 pub mod Steps
 pub mod Spaces
+pub mod Chain
 pub mod Stop
 pub mod Three
 pub mod Route

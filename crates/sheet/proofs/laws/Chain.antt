@@ -14,7 +14,7 @@ use lib.Ieee.Fits.{up-pos, down-pos}
 use lib.Ieee.Positive.{positive, between as inbetween}
 use native.Mathlib.Nat.{mul-pos}
 use lib.Dec.{ltb→lt}
-use borrow.Author.Tests.{not-true, not-false, ne-eqb, eqb-true}
+use borrow.Author.Tests.{ne-eqb, eq-eqb, eqb-true}
 use Rattle.count.specs.Pick.{pick, every}
 use Rattle.count.specs.Numbers.{within, in24}
 use Rattle.count.proofs.laws.Truth.{and-left, and-right, and-parts}
@@ -206,10 +206,10 @@ module _ (a : Axis) (l output : List ℤ) where
 -- ---- one distance alone is `distance` of it, refusals too
 
 -- what a conversion is to an output of one number
-abbrev pub alone : ℤ → Converted → Chained
+abbrev alone : ℤ → Converted → Chained
 alone o c = chained (c .refusal) (pick (accepted c) (c .value ∷ []) (o ∷ []))
 
-pub one-alone : (a : Axis) (t o : ℤ) → chainOf a (t ∷ []) (o ∷ []) ≡ alone o (distanceOf a (inMm t))
+one-alone : (a : Axis) (t o : ℤ) → chainOf a (t ∷ []) (o ∷ []) ≡ alone o (distanceOf a (inMm t))
 unfolding chainOf sums results differences every distanceOf resultOf
 one-alone a t o = rw (+ℤ-idl t) (by (axisRight a) (sumRight t) refl refl (result-outcome a t))
   where
@@ -223,3 +223,16 @@ one-alone a t o = rw (+ℤ-idl t) (by (axisRight a) (sumRight t) refl refl (resu
     by true false p q c = rw (p, q, sym (sum-is-distance t) ∙ q)
     by true true p q (taken z k h) = rw (p, q, sym (sum-is-distance t) ∙ q, h, +ℤ-idr z, k)
     by true true p q (out h) = rw (p, q, sym (sum-is-distance t) ∙ q, h)
+
+-- it is refused alike, and where it is accepted the number is the same
+pub record Alone (a : Axis) (t o : ℤ) : Type 0 where
+  pub refused : chainOf a (t ∷ []) (o ∷ []) .refusal ≡ distanceOf a (inMm t) .refusal
+  pub delivered : chainOf a (t ∷ []) (o ∷ []) .refusal ≡ 0 → chainOf a (t ∷ []) (o ∷ []) .steps ≡ distanceOf a (inMm t) .value ∷ []
+
+pub alone-is : (a : Axis) (t o : ℤ) → Alone a t o
+alone-is a t o =
+    let same : chainOf a (t ∷ []) (o ∷ []) .refusal ≡ distanceOf a (inMm t) .refusal = ap (λ (c : Chained). c .refusal) (one-alone a t o) in
+    record {
+      refused = same;
+      delivered = λ z. ap (λ (c : Chained). c .steps) (one-alone a t o) ∙ rw (eq-eqb (distanceOf a (inMm t) .refusal) 0 (sym same ∙ z));
+    }

@@ -2,7 +2,7 @@
 ghost use mathlib.Core.Path.{_≡_};
 ghost use Prim.Native.Nat.{_≤_, _<_};
 ghost use lib.ListN.{length};
-ghost use Rattle.ask.specs.Onward.{Onward};
+ghost use Rattle.ask.specs.work.Onward.{Onward};
 
 // The bits of a float, or that there are none, and where they end.
 pub(crate) struct BitsRead {

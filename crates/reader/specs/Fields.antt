@@ -1,5 +1,5 @@
 -- The fields of a line of questions: words parted by one space each, of which some are whole numbers and some the bits of a float. The paper knows no such line; this
--- is ours alone (D162).
+-- is ours alone (D165).
 use Prim.Native.Nat.{ℕ, _+_, _-_, _*_}
 use mathlib.Core.Bool.{Bool, true, false, _&&_, _||_}
 use mathlib.Core.List.{List, [], _∷_}

@@ -13,11 +13,6 @@ use Rattle.sheet.specs.declared.Axis.{Axis}
 use Rattle.sheet.specs.declared.Converted.{Converted}
 use Rattle.sheet.specs.Sheet.{float, axisRight, distanceSteps}
 
--- the sum of some distances, from 0
-unfoldable pub total : List ℤ → ℤ
-total [] = pos 0
-total (t ∷ l) = t +ℤ total l
-
 -- ---- 02, §2, sentence 4: the chain is summed in whole thousandths of a mm
 
 -- the partial sums: each distance is added to the sum before it
@@ -37,10 +32,16 @@ unfoldable pub results : Axis → List ℤ → List Converted
 results a [] = []
 results a (t ∷ l) = resultOf a t ∷ results a l
 
--- each relative distance is the difference of neighbouring results
+-- each relative distance is the difference of neighbouring results; before the first stands 0
 unfoldable pub differences : ℤ → List Converted → List ℤ
 differences before [] = []
 differences before (r ∷ l) = (r .value -ℤ before) ∷ differences (r .value) l
+
+-- ---- 02, §2, sentence 5 speaks of totals: of the distances in thousandths, and of the steps
+
+unfoldable pub total : List ℤ → ℤ
+total [] = pos 0
+total (t ∷ l) = t +ℤ total l
 
 -- ---- 02, §2, sentence 6: the refusals in their order
 
@@ -48,7 +49,7 @@ differences before (r ∷ l) = (r .value -ℤ before) ∷ differences (r .value)
 abbrev pub mostDistances : ℕ
 mostDistances = 1000
 
--- 202: a sum is from -1,000,000 to 1,000,000 mm
+-- 202: a sum is from -1,000,000 to 1,000,000 mm, in thousandths
 unfoldable pub sumRight : ℤ → Bool
 sumRight t = within (negℤ (pos 1000000000)) (pos 1000000000) t
 

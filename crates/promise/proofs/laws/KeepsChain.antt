@@ -29,9 +29,9 @@ chain-requested = record {
 
 -- ---- the conversion of each distance by itself: three times 33 steps are 99, and the total is 100
 
-pub one-by-one-fails : ChainRequested oneByOne → ⊥
+pub oneByOne-fails : ChainRequested oneByOne → ⊥
 unfolding oneByOne total results resultOf inMm ofInt distanceSteps rounded wholeSteps near halfUp float mul div le
-one-by-one-fails d =
+oneByOne-fails d =
     let l = pos 333 ∷ pos 333 ∷ pos 333 ∷ [] in
     let h = d .whole (axis 1 100 1) l (pos 0 ∷ pos 0 ∷ pos 0 ∷ []) refl in
     let n : _≡_ {A = ℕ} 100 99 = ap (λ (c : Converted). natAbs (c .value)) (sym (apart .1) ∙ h) in

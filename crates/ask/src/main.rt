@@ -19,25 +19,13 @@ struct Place {
     pub more: bool,
 }
 
-// The word `chain`.
-fn is_chain(word: &[u8]) -> bool {
-    if word.len() != 5 {
-        return false;
-    }
-    (word[0] == b'c')
-        & (word[1] == b'h')
-        & (word[2] == b'a')
-        & (word[3] == b'i')
-        & (word[4] == b'n')
-}
-
-// The answer to a line; says whether it was written.
+// The answer to a line, by its first word; says whether it was written.
 fn answer(line: &[u8]) -> bool {
     if LONGEST < line.len() {
         return show::unread();
     }
     let end = fields::end_of(line, 0);
-    if is_chain(&line[..end]) {
+    if check::same(&line[..end], b"chain") {
         return chain::answer(line, end);
     }
     show::unread()

@@ -14,11 +14,14 @@ returns c = search needs
 end-of-requires : tie.Need-end-of-requires
 end-of-requires c κs = search needs
 
-slice-aggregate-is-chain : tie.Need-slice-aggregate-is-chain
-slice-aggregate-is-chain c = sym (length-take-le _ _ (c .before .end-of .ensures .1))
+slice-aggregate-same : tie.Need-slice-aggregate-same
+slice-aggregate-same c = sym (length-take-le _ _ (c .before .end-of .ensures .1))
 
-is-chain-requires : tie.Need-is-chain-requires
-is-chain-requires c κs = search needs
+slice-aggregate-same-2 : tie.Need-slice-aggregate-same-2
+slice-aggregate-same-2 c = search needs
+
+same-requires : tie.Need-same-requires
+same-requires c κs = search needs
 
 answer-requires : tie.Need-answer-requires
 answer-requires c κs = search needs
@@ -39,8 +42,9 @@ answer-spec =
     unread-requires
     returns
     end-of-requires
-    slice-aggregate-is-chain
-    is-chain-requires
+    slice-aggregate-same
+    slice-aggregate-same-2
+    same-requires
     answer-requires
     returns-2
     unread-requires-2

@@ -1,7 +1,5 @@
 // `ask`: answers questions, one on each line of its standard input, with one line each (trial/README.md, ask). A line that cannot be read is
 // answered `?`.
-ghost use Prim.Native.Nat.{_≤_};
-ghost use lib.ListN.{length};
 use libc::STDIN_FILENO;
 use libc::STDOUT_FILENO;
 

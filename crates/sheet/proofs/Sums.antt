@@ -1,6 +1,6 @@
 -- Sums of whole numbers as the machine holds them: an order with a term moved to its other side, and the sizes that fit. Assumes nothing.
 use mathlib.Core.Path.{_≡_, refl, sym, ap, _∙_}
-use mathlib.Core.Bool.{Bool, true, false, not, _&&_, cond}
+use mathlib.Core.Bool.{Bool, true, false, cond}
 use Prim.Native.Nat.{ℕ, zero, suc, _+_, _-_, _≤_, _<_, _^_}
 use native.Mathlib.Omega.{arith}
 use lib.Dec.{T, leb, ltb, leb·suc-suc, le→leb, lt→ltb}
@@ -9,9 +9,9 @@ use lib.IntN.{ℤ, pos, negsuc, negℤ, subℕ, _+ℤ_, _-ℤ_, +ℤ-assoc, +ℤ
 use lib.Signed.{leZ, nonNeg, mag}
 use mir.Syntax.{w32, w64}
 use mir.Val.{SFits}
-use borrow.Author.Tests.{leb-true, leb-false, ltb-true, ltb-false, le-leb, lt-leb}
+use borrow.Author.Tests.{leb-true, ltb-true, ltb-false, le-leb, lt-leb}
 use Rattle.count.specs.Numbers.{within}
-use Rattle.count.proofs.laws.Truth.{never, and-left, and-right}
+use Rattle.count.proofs.laws.Truth.{and-left}
 use Rattle.sheet.specs.Chain.{sumRight}
 
 -- ---- a ≤ b exactly if b - a is not negative

@@ -1,8 +1,8 @@
 -- One link of a chain after the other, as the code goes: what a turn of either loop leaves for the next one. Assumes nothing.
 use mathlib.Core.Path.{_≡_, refl, sym, ap, _∙_}
-use mathlib.Core.Bool.{Bool, true, false, not, _&&_}
+use mathlib.Core.Bool.{Bool, true, false, _&&_}
 use mathlib.Core.List.{List, [], _∷_, _++_, append-assoc}
-use Prim.Native.Nat.{ℕ, suc, _+_, _<_, _^_}
+use Prim.Native.Nat.{ℕ, _+_, _<_}
 use native.Mathlib.Numerals.{add-one}
 use native.Mathlib.Omega.{arith}
 use lib.IntN.{ℤ, pos, negsuc, _+ℤ_, _-ℤ_}
@@ -15,7 +15,6 @@ use mir.Val.{SFits}
 use Rattle.count.specs.Pick.{pick, every}
 use Rattle.count.proofs.laws.Truth.{and-parts}
 use Rattle.sheet.specs.declared.Axis.{Axis}
-use Rattle.sheet.specs.declared.Converted.{Converted}
 use Rattle.sheet.specs.Sheet.{signed, near, found, refused, wholeSteps, rounded, distanceFloat, distanceSteps}
 use Rattle.sheet.specs.Chain.{sums, inMm, resultOf, sumRight}
 use Rattle.sheet.specs.work.Links.{noted, linkOf, faultFrom, stepsFrom}

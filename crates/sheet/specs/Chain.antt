@@ -1,7 +1,7 @@
 -- A chain of distances (02, §2), in the request's order: partial sums in whole thousandths of a mm, each divided by 1,000 as a float and converted, and the
 -- differences of neighbouring results. Definitions only; what they come to is in `Chain.antt` of the laws.
 use Prim.Native.Nat.{ℕ}
-use mathlib.Core.Bool.{Bool, true, false, not, _&&_, _||_}
+use mathlib.Core.Bool.{Bool, not, _&&_, _||_}
 use mathlib.Core.List.{List, [], _∷_}
 use lib.Dec.{eqb, ltb}
 use lib.IntN.{ℤ, pos, negℤ, _+ℤ_, _-ℤ_}

@@ -6,12 +6,9 @@ use native.Mathlib.Omega.{arith}
 use lib.IntN.{ℤ, pos, natAbs}
 use lib.ListN.{getD}
 use lib.Ieee.{round, ofInt, le, mul, div}
-use Rattle.count.specs.Pick.{every}
-use Rattle.count.specs.Numbers.{within, in24}
-use Rattle.sheet.specs.declared.Axis.{Axis}
 use Rattle.sheet.specs.declared.Converted.{Converted}
-use Rattle.sheet.specs.Sheet.{axis, float, minusFloat, distanceOf, distanceRight, distanceSteps, axisRight, rounded, wholeSteps, near, halfUp}
-use Rattle.sheet.specs.Chain.{total, sums, inMm, resultOf, results, differences, sumRight, Chained, chainOf}
+use Rattle.sheet.specs.Sheet.{axis, float, distanceSteps, axisRight, rounded, wholeSteps, near, halfUp}
+use Rattle.sheet.specs.Chain.{total, inMm, resultOf, results, chainOf}
 use Rattle.sheet.proofs.laws.Chain.{alone-is, every-prefix, whole-chain, refused-keeps}
 use Rattle.sheet.proofs.laws.Examples.{apart}
 use Rattle.promise.specs.Chain.{ChainRequested}

@@ -1,23 +1,20 @@
 -- What the definitions of `Fields.antt` come to byte by byte, and between the code's way to a whole number and them. Assumes nothing.
-use mathlib.Core.Path.{_≡_, refl, sym, ap, _∙_}
-use mathlib.Core.Bool.{Bool, true, false, not, _&&_, _||_}
+use mathlib.Core.Path.{_≡_, refl}
+use mathlib.Core.Bool.{Bool, true, false, _&&_, _||_}
 use mathlib.Core.List.{List, [], _∷_}
 use Prim.Native.Nat.{ℕ, zero, suc, _+_, _-_, _*_, _^_, _≤_, _<_}
 use native.Mathlib.Nat.{pow-le-pow-right, pow-suc}
 use native.Mathlib.Numerals.{add-one}
 use native.Mathlib.Omega.{arith}
 use lib.Dec.{leb, ltb, eqb}
-use lib.IntN.{ℤ, pos, negsuc, negℤ}
-use lib.Signed.{leZ}
+use lib.IntN.{pos, negℤ}
 use lib.ListN.{length, drop, getD, drop-of-length-le}
 use borrow.Author.Tests.{eq-eqb, ne-eqb, le-leb, lt-leb, leb-true, ltb-true, ltb-false}
-use Rattle.count.specs.Chars.{ch}
 use Rattle.count.specs.Pick.{pick, every}
 use Rattle.count.specs.Numbers.{within, withSign}
 use Rattle.count.proofs.laws.Lists.{next}
 use Rattle.count.proofs.laws.Truth.{and-parts, or-false}
 use Rattle.reader.specs.declared.fields.Size.{Size}
-use Rattle.reader.specs.declared.fields.Whole.{Whole}
 use Rattle.reader.specs.Reader.{isDigit}
 use Rattle.reader.specs.Fields.{fieldLength, withDigits, whole, noWhole, in64, signedWhole, wholeOf}
 use Rattle.reader.specs.work.Sizes.{noSize, sizeFrom, sizedWhole}

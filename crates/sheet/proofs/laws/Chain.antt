@@ -22,7 +22,6 @@ use Rattle.sheet.specs.declared.Axis.{Axis}
 use Rattle.sheet.specs.declared.Converted.{Converted}
 use Rattle.sheet.specs.Sheet.{float, between, found, refused, near, halfUp, axisRight, distanceRight, distanceFloat, distanceSteps, distanceOf, wholeSteps, rounded}
 use Rattle.sheet.specs.Chain.{total, sums, inMm, resultOf, results, differences, mostDistances, sumRight, accepted, Chained, chained, chainOf}
-use Rattle.sheet.proofs.laws.Laws.{whole-stays}
 use Rattle.sheet.proofs.laws.Floats.{zero-rounds}
 use Rattle.sheet.proofs.laws.Thousandths.{sum-is-distance}
 use Rattle.sheet.proofs.laws.Links.{Outcome, taken, out, result-outcome}

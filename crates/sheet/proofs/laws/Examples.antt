@@ -1,8 +1,7 @@
 -- 01, "Prove these", (9), (10) and (11), and the chain of 02, §2: antt computes each side. Assumes nothing.
 use mathlib.Core.Path.{_≡_, refl}
-use Prim.Native.Nat.{ℕ}
-use mathlib.Core.List.{List, [], _∷_}
-use lib.IntN.{ℤ, pos, negsuc}
+use mathlib.Core.List.{[], _∷_}
+use lib.IntN.{pos, negsuc}
 use lib.ListN.{replicate}
 use lib.Ieee.{nan, binary64, round, ofInt, le, mul, div}
 use Rattle.count.specs.Numbers.{within, in24}

@@ -1,16 +1,14 @@
 -- Laws of floats that the library does not have: a sign turned on both sides of an order and through a rounding, and zero through the operations. Assumes nothing.
-use mathlib.Core.Path.{_≡_, refl, sym, ap, _∙_}
-use mathlib.Core.Bool.{Bool, true, false, not, _&&_, _||_, Bool·beq, cond}
+use mathlib.Core.Path.{_≡_, refl, sym, _∙_}
+use mathlib.Core.Bool.{Bool, true, false, not, _&&_, _||_, cond}
 use Prim.Native.Nat.{ℕ, zero, suc, _+_, _*_, _<_, _^_}
-use native.Mathlib.Nat.{add-comm, mul-pos, zero-mul, mul-one}
+use native.Mathlib.Nat.{add-comm}
 use native.Mathlib.Omega.{arith}
-use lib.Dec.{T, ltb, eqb}
-use lib.IntN.{ℤ, pos}
-use lib.Ieee.{Float, nan, inf, fin, Format, binary64, prec, emax, low, up, down, unlike, odd, units, round, neg, mul, div, below, level, lt, eq, le}
-use lib.Ieee.Fits.{round-is, up-pos, down-pos}
+use lib.Dec.{ltb, eqb}
+use lib.IntN.{pos}
+use lib.Ieee.{Float, nan, inf, fin, Format, binary64, prec, emax, low, up, down, odd, units, round, neg, below, level, lt, eq, le}
 use lib.Ieee.Scale.{round-same}
-use lib.Ieee.Positive.{positive}
-use borrow.Author.Tests.{eqb-true, eqb-false, eq-eqb, ne-eqb, lt-ltb}
+use borrow.Author.Tests.{eqb-true, eqb-false, eq-eqb, ne-eqb}
 
 -- ---- the order with both signs turned
 

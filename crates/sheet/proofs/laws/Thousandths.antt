@@ -1,11 +1,10 @@
 -- A sum in thousandths of a mm as a distance in mm: it is the float nearest to the sum / 1,000, and 202 asks the same of both. Assumes nothing.
 use mathlib.Core.Path.{_≡_, refl, sym, ap, subst, _∙_}
-use mathlib.Core.Bool.{Bool, true, false, not, _&&_, _||_, cond}
-use Prim.Native.Nat.{ℕ, zero, suc, _+_, _*_, _≤_, _<_, _^_}
+use mathlib.Core.Bool.{Bool, true, false, _&&_, cond}
+use Prim.Native.Nat.{ℕ, suc, _+_, _*_, _≤_, _<_, _^_}
 use native.Mathlib.Omega.{arith}
 use lib.Dec.{T, leb, ltb, leb·suc-suc}
-use lib.IntN.{ℤ, pos, negsuc, negℤ}
-use lib.Signed.{leZ}
+use lib.IntN.{ℤ, pos, negsuc}
 use lib.Ieee.{Float, nan, inf, fin, binary64, up, down, unlike, odd, units, round, ofInt, neg, div, lt, eq, le}
 use lib.Ieee.Fits.{down-pos}
 use lib.Ieee.Exact.{HasValue, odd-sign}
@@ -13,9 +12,9 @@ use lib.Ieee.Back.{round-whole}
 use lib.Ieee.Scale.{round-same}
 use lib.Ieee.Order.{round-mono, kept, drop as dropped}
 use lib.Ieee.Positive.{positive, le→cross, above-of-le, le-trans-positive, between as inbetween}
-use borrow.Author.Tests.{leb-true, leb-false, le-leb, lt-leb, lt-ltb}
+use borrow.Author.Tests.{leb-true, leb-false, lt-ltb}
 use Rattle.count.specs.Numbers.{within}
-use Rattle.count.proofs.laws.Truth.{and-true, never}
+use Rattle.count.proofs.laws.Truth.{and-true}
 use Rattle.sheet.specs.Sheet.{float, minusFloat, distanceRight}
 use Rattle.sheet.specs.Chain.{inMm, sumRight}
 use Rattle.sheet.proofs.Sign.{Signed, of-value}

@@ -1,5 +1,5 @@
 -- `ask::chain::read_distances` is safe and ends: each field ends further on. Assumes nothing.
-use Prim.Native.Nat.{_-_, _<_}
+use Prim.Native.Nat.{_-_}
 use mathlib.Core.Path.{_≡_}
 use native.Mathlib.Omega.{arith}
 use lib.ListN.{length}

@@ -6,7 +6,7 @@ use lib.IntN.{ℤ, pos, negsuc, negℤ, _-ℤ_}
 use native.Mathlib.Nat.{zero-add}
 use native.Mathlib.Omega.{arith}
 use mir.Syntax.{w64}
-use mir.Val.{toZ, ofZ}
+use mir.Val.{toZ}
 use mir.ValLaws.{toZ-pos, toZ-ofZ}
 use Rattle.reader.specs.Fields.{whole}
 use Rattle.reader.specs.work.Sizes.{sizedWhole}

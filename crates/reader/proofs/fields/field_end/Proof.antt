@@ -1,6 +1,6 @@
 -- `reader::field_end` meets its contract: the loop keeps where the field ends. Assumes nothing.
 use Prim.Native.Nat.{_+_, _-_}
-use mathlib.Core.Path.{_≡_, sym, ap, _∙_}
+use mathlib.Core.Path.{_≡_}
 use native.Mathlib.Omega.{arith}
 use lib.ListN.{length, drop}
 use Rattle.reader.specs.Fields.{fieldLength, fieldEnd}

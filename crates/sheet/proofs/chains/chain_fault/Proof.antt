@@ -1,5 +1,5 @@
 -- `sheet::chains::chain_fault` meets its contract: one link a turn. Assumes nothing.
-use Prim.Native.Nat.{_≤_, _-_, _<_}
+use Prim.Native.Nat.{_≤_, _-_}
 use mathlib.Core.Path.{_≡_, refl, sym, ap, _∙_}
 use mathlib.Core.Bool.{true, false}
 use mathlib.Core.List.{[]}
@@ -7,14 +7,14 @@ use native.Mathlib.Omega.{arith}
 use lib.IntN.{ℤ, pos, _+ℤ_}
 use lib.ListN.{length, drop, getD, drop-of-length-le}
 use mir.Syntax.{w32, w64}
-use mir.Val.{SFits, toZ, ofZ}
+use mir.Val.{toZ, ofZ}
 use mir.ValLaws.{toZ-ofZ}
 use borrow.Author.Tests.{not-true, not-false}
 use Rattle.count.specs.Numbers.{within}
 use Rattle.sheet.specs.Chain.{sumRight}
 use Rattle.sheet.specs.work.Links.{noted, linkOf, faultFrom}
 use Rattle.sheet.proofs.Sums.{sum-fits}
-use Rattle.sheet.proofs.Turns.{more, link-result-fits, fault-stops, fault-goes}
+use Rattle.sheet.proofs.Turns.{link-result-fits, fault-stops, fault-goes}
 use borrow.Author.Needs.{needs}
 use Rattle.sheet.proofs.chains.chain_fault.Statement.{statement}
 use Rattle.sheet.proofs.chains.chain_fault.Tie as tie

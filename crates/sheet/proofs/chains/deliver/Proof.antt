@@ -5,12 +5,11 @@ use mathlib.Core.Bool.{true}
 use mathlib.Core.List.{[], _++_, append-nil}
 use native.Mathlib.Omega.{arith}
 use lib.IntN.{ℤ, pos, _+ℤ_}
-use lib.ListN.{length, take, drop, getD, set, length-set, drop-of-length-le}
+use lib.ListN.{length, take, drop, getD, length-set, drop-of-length-le}
 use lib.Seq.{take-length}
 use mir.Syntax.{w32, w64}
-use mir.Val.{SFits, toZ, ofZ}
+use mir.Val.{toZ, ofZ}
 use mir.ValLaws.{toZ-ofZ}
-use Rattle.count.specs.Numbers.{within}
 use Rattle.count.specs.Pick.{every}
 use Rattle.sheet.specs.Chain.{sumRight, sums}
 use Rattle.sheet.specs.work.Links.{linkOf, stepsFrom}

@@ -1,5 +1,5 @@
 -- `sheet::chains::result_of` meets its contract. Assumes nothing.
-use mathlib.Core.Path.{_≡_, sym, ap, subst, _∙_}
+use mathlib.Core.Path.{_≡_, sym, subst, _∙_}
 use lib.Dec.{T}
 use lib.IntN.{ℤ}
 use lib.Ieee.{binary64, inFloat}

@@ -45,12 +45,14 @@ pub struct Point {
     pub z: i32,
 }
 
-// A reply that is still to be written: none, one byte, 0 and the three positions, or 0 and a port's byte.
+// A reply that is still to be written: none, one byte, 0 and the three positions, 0 and a port's byte, or G with the letter and the place
+// of a fault.
 pub(crate) enum Saying {
     Silent,
     One(u8),
     Positions,
     Port(u8),
+    Fault(u8, u16),
 }
 
 // What a byte comes to, before its reply is written: the next state and the reply.

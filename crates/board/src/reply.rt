@@ -3,7 +3,7 @@ ghost use mathlib.Core.Path.{_≡_};
 ghost use mathlib.Core.List.{[], _∷_, _++_};
 ghost use Prim.Native.Nat.{_+_, _≤_};
 ghost use lib.ListN.{length, take, drop};
-ghost use Rattle.count.specs.Text.{written, report, twoHex};
+ghost use Rattle.count.specs.Text.{written, report, twoHex, fourDigits};
 ghost use Rattle.board.specs.work.Work.{bytesOf, putOf, textOf, receivedOf};
 use crate::Received;
 use crate::Saying;
@@ -48,6 +48,17 @@ fn put_port(reply: &mut [u8], byte: u8) -> usize
     3
 }
 
+// G, the letter of a fault, and its place.
+fn put_fault(reply: &mut [u8], letter: u8, place: u16) -> usize
+    requires { ⌜ 32 ≤ length (now reply) ⌝ }
+    ensures { λ r. ⌜ written r (now (reply .exit)) ≡ putOf (71 ∷ letter ∷ fourDigits place) (now (reply .entry)) ⌝ }
+{
+    count::put_place(&mut reply[2..], place);
+    reply[0] = b'G';
+    reply[1] = letter;
+    6
+}
+
 fn put(say: Saying, at: Counters, reply: &mut [u8]) -> usize
     requires { ⌜ 32 ≤ length (now reply) ⌝ }
     ensures { λ r. ⌜ written r (now (reply .exit)) ≡ putOf (bytesOf say at) (now (reply .entry)) ⌝ }
@@ -57,6 +68,7 @@ fn put(say: Saying, at: Counters, reply: &mut [u8]) -> usize
         Saying::One(b) => put_one(reply, b),
         Saying::Positions => put_positions(reply, at),
         Saying::Port(b) => put_port(reply, b),
+        Saying::Fault(letter, place) => put_fault(reply, letter, place),
     }
 }
 

@@ -3,27 +3,17 @@ ghost use mathlib.Core.Path.{_≡_};
 ghost use mathlib.Core.Bool.{true};
 ghost use Prim.Native.Nat.{_≤_};
 ghost use Rattle.record.specs.Fault.{isCode};
-ghost use Rattle.program.specs.Program.{isSound};
 ghost use Rattle.line.specs.Lines.{storedOf};
 ghost use Rattle.board.specs.State.{textOf};
 ghost use Rattle.board.specs.Storing.{recordOf, recordSaid, endSaid, storedSaid};
 ghost use Rattle.board.specs.work.Work.{spoke, keptSaid};
 use crate::Board;
+use crate::Saying;
 use crate::Spoke;
 use line::Code;
 use line::Stored;
 use program::Verdict;
 use record::Record;
-
-fn is_sound(verdict: Verdict) -> bool
-    ensures { λ r. ⌜ r ≡ isSound verdict ⌝ }
-{
-    match verdict {
-        Verdict::Sound => true,
-        Verdict::Fault(_, _) => false,
-        Verdict::Unreadable => false,
-    }
-}
 
 impl Board {
     // A right record is written at the end of the part in use, where there is room for it.
@@ -59,16 +49,18 @@ impl Board {
         self.keep(item, store)
     }
 
-    // `9` ends storing: 0, or G with the store emptied.
+    // `9` ends storing: 0; or, with the store emptied, G with the letter and the place of the fault, alone if the store isn't readable.
     fn end_storing(self, store: &[u8]) -> Spoke
         ensures { λ r. ⌜ spoke r (now (store .entry)) ≡ endSaid self (now (store .entry)) ⌝ }
     {
         let e = self.engine;
-        let held = e.held;
-        if is_sound(program::check(store, held)) {
-            return self.replies(e.cease(), b'0');
+        let verdict = program::check(store, e.held);
+        match verdict {
+            Verdict::Sound => self.replies(e.cease(), b'0'),
+            Verdict::Fault(letter, place) => self.with_engine(e.empty().cease())
+                .says(Saying::Fault(letter, place)),
+            Verdict::Unreadable => self.replies(e.empty().cease(), b'G'),
         }
-        self.replies(e.empty().cease(), b'G')
     }
 
     pub(crate) fn store_line(self, store: &mut [u8]) -> Spoke

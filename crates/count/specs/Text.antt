@@ -1,4 +1,5 @@
--- Numbers as text: hexadecimal capitals (01, "Lines", rows P and b), decimal (01, "Store", the lister; "walk").
+-- Numbers as text: hexadecimal capitals (01, "Lines", rows P and b), decimal (01, "Store", the lister; "walk"), and a record's place as four
+-- digits (02 §1).
 use mathlib.Core.List.{List, [], _∷_, _++_}
 use Prim.Native.Nat.{ℕ, zero, suc, _+_, _-_, _/_, _%_}
 use lib.Dec.{ltb}
@@ -61,3 +62,13 @@ digits n = decimal 10 n
 unfoldable pub shown : ℤ → List ℕ
 shown (pos n) = digits n
 shown (negsuc n) = ch "-" ∷ digits (suc n)
+
+-- ---- a record's place as four digits
+
+-- the last k decimal digits of n
+unfoldable pub decimals : ℕ → ℕ → List ℕ
+decimals zero n = []
+decimals (suc k) n = decimals k (n / 10) ++ (ch "0" + n % 10) ∷ []
+
+unfoldable pub fourDigits : ℕ → List ℕ
+fourDigits p = decimals 4 p

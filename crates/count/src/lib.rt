@@ -29,6 +29,7 @@ pub use ranges::is_switch;
 pub use ranges::is_zero;
 pub use text::put_byte;
 pub use text::put_count;
+pub use text::put_place;
 pub use text::put_report;
 pub use text::put_word;
 

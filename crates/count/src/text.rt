@@ -1,11 +1,11 @@
 // Numbers as text, each written at the front of a lent part; a part that is too short stays as it is.
 ghost use mathlib.Core.Path.{_≡_};
 ghost use mathlib.Core.List.{_++_};
-ghost use Prim.Native.Nat.{_<_, _≤_, _%_};
+ghost use Prim.Native.Nat.{_+_, _<_, _≤_, _%_};
 ghost use lib.IntN.{negsuc};
 ghost use lib.ListN.{length, drop};
 ghost use Rattle.count.specs.Numbers.{value, signed};
-ghost use Rattle.count.specs.Text.{written, wrote, hexDigit, twos24, report, twoHex, digits, shown};
+ghost use Rattle.count.specs.Text.{written, wrote, hexDigit, twos24, report, twoHex, digits, shown, fourDigits};
 
 const HALF: u32 = 8388608;
 
@@ -110,4 +110,25 @@ pub fn put_count(text: &mut [u8], c: u32) -> usize
         return put_digits(text, c - HALF);
     }
     put_minus(text, HALF - 1 - c)
+}
+
+// The last decimal digit of a number.
+fn last_digit(n: u16) -> u8
+    ensures { λ r. ⌜ r ≡ 48 + n % 10 ⌝ }
+{
+    b'0' + (n % 10) as u8
+}
+
+// A record's place as four digits.
+pub fn put_place(text: &mut [u8], p: u16) -> usize
+    ensures { λ r. ⌜ written r (now (text .exit)) ≡ wrote 4 (fourDigits p) (now (text .entry)) ⌝ }
+{
+    if text.len() < 4 {
+        return 0;
+    }
+    text[0] = last_digit(p / 1000);
+    text[1] = last_digit(p / 100);
+    text[2] = last_digit(p / 10);
+    text[3] = last_digit(p);
+    4
 }

@@ -2,7 +2,7 @@
 use Prim.Native.Nat.{ℕ, zero, suc, _+_, _≤_, _<_}
 use mathlib.Core.Path.{_≡_}
 use mathlib.Core.Bool.{Bool, true, false, not, _&&_, _||_}
-use mathlib.Core.List.{List, [], _∷_}
+use mathlib.Core.List.{List, [], _∷_, _++_}
 use lib.Dec.{eqb}
 use lib.IntN.{ℤ, pos, _+ℤ_}
 use lib.ListN.{length, getD, take, drop}
@@ -17,13 +17,14 @@ use Rattle.line.specs.Lines.{letterPaper, directOf}
 use Rattle.record.specs.declared.Held.{Held}
 use Rattle.record.specs.Places.{inUse}
 use Rattle.record.specs.Bytes.{Below}
-use Rattle.program.specs.Program.{accepted}
+use Rattle.program.specs.Program.{verdictOf, accepted}
 use Rattle.engine.specs.declared.Job.{Job}
 use Rattle.count.specs.Ranges.{names}
 use Rattle.engine.specs.Kinds.{kind, rowOf}
 use Rattle.engine.specs.State.{ceased, emptied}
 use Rattle.board.specs.declared.Board.{Board}
 use Rattle.board.specs.State.{board, noLine, textOf, lineDone}
+use Rattle.board.specs.Storing.{namedFault}
 use Rattle.board.specs.Receive.{isStoring, resetCode}
 use Rattle.course.specs.Run.{runsNow}
 use Rattle.promise.specs.Machine.{Machine, Lent, lent, Heard, Event, byte, clock, next, afterAll}
@@ -65,13 +66,15 @@ endLine b = (not (b .line .over) && stores b) && isNine (textOf (b .line))
 abbrev pub unstored : Board → Board
 unstored b = board (ceased (emptied (b .engine))) (b .standing) noLine
 
--- a refused line: the reply is one byte, both buffers are else as given, and the board is the very board before with an empty line;
--- G at the end line also leaves the store empty
+-- a refused line: the reply is one character; at the end line it is G, and with a fault six: G, the letter of the fault and the record's
+-- place as four digits (02 §1). Both buffers are else as given, and the board is the very board before with an empty line; G at the end line
+-- also leaves the store empty
 pub record Untouched (b b′ : Board) (l l′ : Lent) (c : ℕ) (t : List ℕ) : Type 0 where
-  pub alone : t ≡ []
-  pub reply : l′ .reply ≡ c ∷ drop 1 (l .reply)
-  pub store : l′ .store ≡ l .store
+  pub alone : endLine b ≡ false → t ≡ []
   pub letter : endLine b ≡ true → c ≡ ch "G"
+  pub named : endLine b ≡ true → t ≡ namedFault (verdictOf (b .engine .held) (l .store))
+  pub reply : l′ .reply ≡ (c ∷ t) ++ drop (length (c ∷ t)) (l .reply)
+  pub store : l′ .store ≡ l .store
   pub board : b′ ≡ pick (endLine b) (unstored b) (lineDone b)
 
 -- no reply at a return

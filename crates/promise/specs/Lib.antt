@@ -2,6 +2,7 @@ pub mod Machine
 pub mod Demands
 pub mod Follows
 pub mod Steps
+pub mod Named
 pub mod Spaces
 pub mod Chain
 pub mod Stop

@@ -8,7 +8,7 @@ use lib.ListN.{length, getD, drop}
 use Rattle.count.specs.Pick.{pick}
 use Rattle.count.specs.Numbers.{signed}
 use Rattle.count.specs.Ranges.{inPort, inByte, inZero}
-use Rattle.count.specs.Text.{Written, written, report, twoHex}
+use Rattle.count.specs.Text.{Written, written, report, twoHex, fourDigits}
 use Rattle.motion.specs.declared.Counters.{Counters}
 use Rattle.record.specs.declared.Record.{Record}
 use Rattle.record.specs.Fault.{numbersReply, faultOf}
@@ -37,6 +37,7 @@ bytesOf saying.Silent at = []
 bytesOf (saying.One b) at = b ∷ []
 bytesOf saying.Positions at = 48 ∷ report (at .x) ++ report (at .y) ++ report (at .z)
 bytesOf (saying.Port v) at = 48 ∷ twoHex v
+bytesOf (saying.Fault l p) at = 71 ∷ l ∷ fourDigits p
 
 abbrev pub spokeOf : Board → Saying → Spoke
 spokeOf b s = record { board = b; say = s }

@@ -9,7 +9,7 @@ use lib.Dec.{ltb}
 use lib.IntN.{ℤ, pos, negsuc}
 use lib.ListN.{length, drop, length-append}
 use Rattle.count.specs.Pick.{pick}
-use Rattle.count.specs.Text.{written, wrote, hexDigit, hexes, decimal, digits, shown}
+use Rattle.count.specs.Text.{written, wrote, hexDigit, hexes, decimal, decimals, digits, shown}
 
 -- ---- more room than is needed changes nothing
 
@@ -74,6 +74,15 @@ pub hexes-six : (n : ℕ)
     → hexes 6 n ≡ hexDigit (n / 1048576 % 16) ∷ hexDigit (n / 65536 % 16) ∷ hexDigit (n / 4096 % 16) ∷ hexDigit (n / 256 % 16) ∷ hexDigit (n / 16 % 16) ∷ hexDigit (n % 16) ∷ []
 unfolding hexes
 hexes-six n = rw (tens n .3, tens n .2, tens n .1, tens n .0)
+
+-- ---- four decimal digits by their powers of 10
+
+pub decimals-four : (n : ℕ) → decimals 4 n ≡ (48 + n / 1000 % 10) ∷ (48 + n / 100 % 10) ∷ (48 + n / 10 % 10) ∷ (48 + n % 10) ∷ []
+unfolding decimals
+decimals-four n =
+    let h : n / 10 / 10 ≡ n / 100 = omega arith in
+    let t : n / 10 / 10 / 10 ≡ n / 1000 = omega arith in
+    rw (t, h)
 
 -- ---- a text at the front of a part
 

@@ -112,6 +112,10 @@ put-count-text s = s .0
 pub put-count-one : (κs : _) (a : _) (r r′ : _) (s s′ : _) → put-count.Post κs a r s → put-count.Post κs a r′ s′ → (r ≡ r′) × (now (put-count-text s) ≡ now (put-count-text s′))
 put-count-one κs a r r′ s s′ p q = (ap (λ (w : Written). w .len) (p ∙ sym q), ap (λ (w : Written). w .text) (p ∙ sym q))
 
+-- the first parameter, `text: &mut [u8]`, as it is left
+abbrev put-place-text : {X A : Type 0} → X × A → X
+put-place-text s = s .0
+
 pub put-place-one : (κs : _) (a : _) (r r′ : _) (s s′ : _) → put-place.Post κs a r s → put-place.Post κs a r′ s′ → (r ≡ r′) × (now (put-place-text s) ≡ now (put-place-text s′))
 put-place-one κs a r r′ s s′ p q = (ap (λ (w : Written). w .len) (p ∙ sym q), ap (λ (w : Written). w .text) (p ∙ sym q))
 

@@ -14,5 +14,6 @@ pub mod Right
 pub mod Marks
 pub mod Decode
 pub mod Target
-pub mod Work
 pub mod Papers
+pub mod Ranges
+pub mod Backs

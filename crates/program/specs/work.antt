@@ -3,3 +3,4 @@ pub mod Aims
 pub mod Work
 pub mod Target
 pub mod Decode
+pub mod Ranges

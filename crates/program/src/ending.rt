@@ -5,7 +5,7 @@ ghost use Rattle.program.specs.work.Aims.{aimOf};
 ghost use Rattle.program.specs.Program.{verdictOf};
 ghost use Rattle.program.specs.work.Decode.{kindOf, clip, kept};
 use crate::Verdict;
-use crate::arrays::check_arrays;
+use crate::pass::check_arrays;
 use record::Held;
 use record::Record;
 use record::record_at;

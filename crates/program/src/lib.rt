@@ -1,6 +1,8 @@
 // Programs: the check at the end line, and where a record sends a run.
 mod arrays;
 mod ending;
+mod pass;
+mod ranges;
 mod running;
 
 pub use ending::check;

@@ -1,5 +1,5 @@
 -- Laws of a number's digits, and of a text at the front of a part. Assumes nothing.
-use Prim.Native.Nat.{ℕ, zero, suc, _+_, _/_, _%_, _<_, _≤_, _^_}
+use Prim.Native.Nat.{ℕ, zero, suc, _+_, _*_, _/_, _%_, _<_, _≤_, _^_}
 use mathlib.Core.Path.{_≡_, refl, ap, sym, _∙_}
 use mathlib.Core.List.{List, [], _∷_, _++_}
 use mathlib.Core.Bool.{Bool, true, false}
@@ -7,9 +7,9 @@ use native.Mathlib.Omega.{arith}
 use borrow.Author.Tests.{lt-ltb, le-ltb, ltb-false}
 use lib.Dec.{ltb}
 use lib.IntN.{ℤ, pos, negsuc}
-use lib.ListN.{length, drop, length-append}
+use lib.ListN.{length, getD, drop, length-append}
 use Rattle.count.specs.Pick.{pick}
-use Rattle.count.specs.Text.{written, wrote, hexDigit, hexes, decimal, decimals, digits, shown}
+use Rattle.count.specs.Text.{written, wrote, hexDigit, hexes, decimal, decimals, digits, shown, fourDigits}
 
 -- ---- more room than is needed changes nothing
 
@@ -83,6 +83,31 @@ decimals-four n =
     let h : n / 10 / 10 ≡ n / 100 = omega arith in
     let t : n / 10 / 10 / 10 ≡ n / 1000 = omega arith in
     rw (t, h)
+
+valued : (n : ℕ) → n < 10000 → n ≡ 1000 * (n / 1000 % 10) + 100 * (n / 100 % 10) + 10 * (n / 10 % 10) + n % 10
+valued n h =
+    let t : n ≡ 10 * (n / 10) + n % 10 = omega arith in
+    let u : n / 10 ≡ 10 * (n / 100) + n / 10 % 10 = omega arith in
+    let v : n / 100 ≡ 10 * (n / 1000) + n / 100 % 10 = omega arith in
+    let w : n / 1000 ≡ n / 1000 % 10 = omega arith in
+    summed n (n / 10) (n / 100) (n / 1000) _ _ _ _ t u v w
+  where
+    summed : (n t h k a b c d : ℕ) → n ≡ 10 * t + a → t ≡ 10 * h + b → h ≡ 10 * k + c → k ≡ d → n ≡ 1000 * d + 100 * c + 10 * b + a
+    summed n t h k a b c d p q r s = omega arith
+
+-- FOUR DIGITS stand for one number below 10,000
+pub four-one : (p q : ℕ) → p < 10000 → q < 10000 → fourDigits p ≡ fourDigits q → p ≡ q
+unfolding fourDigits
+four-one p q h k e =
+    let d = sym (decimals-four p) ∙ e ∙ decimals-four q in
+    let at : (i : ℕ) → getD ((48 + p / 1000 % 10) ∷ (48 + p / 100 % 10) ∷ (48 + p / 10 % 10) ∷ (48 + p % 10) ∷ []) i 0
+    ≡ getD ((48 + q / 1000 % 10) ∷ (48 + q / 100 % 10) ∷ (48 + q / 10 % 10) ∷ (48 + q % 10) ∷ []) i 0 = λ i. ap (λ (l : List ℕ). getD l i 0) d in
+    valued p h ∙ same (p / 1000 % 10) (p / 100 % 10) (p / 10 % 10) (p % 10) (q / 1000 % 10) (q / 100 % 10) (q / 10 % 10) (q % 10) (at 0) (at 1) (at 2) (at 3)
+    ∙ sym (valued q k)
+  where
+    same : (a b c d a′ b′ c′ d′ : ℕ) → 48 + a ≡ 48 + a′ → 48 + b ≡ 48 + b′ → 48 + c ≡ 48 + c′ → 48 + d ≡ 48 + d′
+        → 1000 * a + 100 * b + 10 * c + d ≡ 1000 * a′ + 100 * b′ + 10 * c′ + d′
+    same a b c d a′ b′ c′ d′ p q r s = omega arith
 
 -- ---- a text at the front of a part
 

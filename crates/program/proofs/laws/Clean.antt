@@ -66,7 +66,7 @@ module _ (loop turn : ℕ → Bool) (far : ℕ → ℕ) (n : ℕ) where
   parts false false false false true h = absurd (omega arith)
   parts false false false false false h = (refl, refl, refl, refl, refl)
 
-  clean-of : (p : ℕ) → letter loop turn far n p ≡ 0 → Clean p
+  pub clean-of : (p : ℕ) → letter loop turn far n p ≡ 0 → Clean p
   unfolding letter
   clean-of p h =
       let d = parts (outside turn far n p) (early loop far p) (overlaps loop far p) (ltb 7 (holders loop far n p)) (strays loop turn far n p) h in

@@ -1,4 +1,5 @@
 pub mod Walks
+pub mod Notes
 pub mod Steps
 pub mod Gather
 pub mod Only

@@ -4,7 +4,7 @@ ghost use Prim.Native.Nat.{_+_, _-_, _≤_, _<_};
 ghost use Rattle.program.specs.Check.{some};
 ghost use Rattle.program.specs.work.Marks.{mark, overlaps};
 ghost use Rattle.program.specs.work.Work.{loopIn, farIn};
-ghost use Rattle.program.specs.work.Ranges.{ranged, startOf, reach, differ, Firstly, Backs};
+ghost use Rattle.program.specs.work.Ranges.{ranged, startOf, backOf, startsOf, reach, differ, Firstly, Backs};
 use crate::arrays::far;
 use crate::arrays::half_at;
 use crate::arrays::is_loop;
@@ -44,17 +44,31 @@ fn reaches(kinds: &[u8], offsets: &[u16], i: u16, s: u32) -> bool
     is_loop(kinds, i) & (far(offsets, i) < s)
 }
 
-// The first place from `k` on that is a loop whose range starts before mark `s`, or `n`. `backs` has for each place the first behind it whose
-// range starts before its own: what lies between starts no earlier and is passed over.
+// Of the note of a place: the first loop behind it whose range starts before its own.
+fn back_at(notes: &[u16], i: u16) -> u16
+    ensures { λ r. ⌜ r ≡ backOf (now (notes .entry)) i ⌝ }
+{
+    half_at(notes, i) % 1024
+}
+
+// How many ranges start there, up to eight.
+pub(crate) fn starts_at(notes: &[u16], i: u16) -> u16
+    ensures { λ r. ⌜ r ≡ startsOf (now (notes .entry)) i ⌝ }
+{
+    half_at(notes, i) / 1024
+}
+
+// The first place from `k` on that is a loop whose range starts before mark `s`, or `n`. From place to place the notes tell which it can be
+// next: what lies between starts no earlier than the place itself.
 pub(crate) fn first_back(
-    backs: &[u16],
+    notes: &[u16],
     kinds: &[u8],
     offsets: &[u16],
     n: u16,
     k: u16,
     s: u32,
 ) -> u16
-    requires { ⌜ Backs (loopIn (now kinds)) (farIn (now offsets)) (now backs) n k × (k ≤ n) × (s ≤ mark k + 1) ⌝ }
+    requires { ⌜ Backs (loopIn (now kinds)) (farIn (now offsets)) (now notes) n k × (k ≤ n) × (s ≤ mark k + 1) ⌝ }
     ensures { λ r. ⌜ Firstly (reach (loopIn (now (kinds .entry))) (farIn (now (offsets .entry))) s) k n r ⌝ }
 {
     let mut i = k;
@@ -62,40 +76,40 @@ pub(crate) fn first_back(
         if reaches(kinds, offsets, i, s) {
             return i;
         }
-        i = half_at(backs, i);
+        i = back_at(notes, i);
     }
     i
 }
 
 // c: whether the range of place `p` and that of an earlier loop overlap with neither holding the other.
-pub(crate) fn overlaps(backs: &[u16], kinds: &[u8], offsets: &[u16], n: u16, p: u16) -> bool
-    requires { ⌜ Backs (loopIn (now kinds)) (farIn (now offsets)) (now backs) n 0 × (p < n) ⌝ }
+pub(crate) fn overlaps(notes: &[u16], kinds: &[u8], offsets: &[u16], n: u16, p: u16) -> bool
+    requires { ⌜ Backs (loopIn (now kinds)) (farIn (now offsets)) (now notes) n 0 × (p < n) ⌝ }
     ensures { λ r. ⌜ r ≡ overlaps (loopIn (now (kinds .entry))) (farIn (now (offsets .entry))) p ⌝ }
 {
     if is_loop(kinds, p) {
         let f = far(offsets, p);
         let k = place_of(f);
         if k < p as u32 {
-            return first_back(backs, kinds, offsets, n, k as u16, f) < p;
+            return first_back(notes, kinds, offsets, n, k as u16, f) < p;
         }
     }
     false
 }
 
 // Whether a range holds one of the places `lo` and `hi` and not the other: it ends between them, or starts between them.
-pub(crate) fn parted(backs: &[u16], kinds: &[u8], offsets: &[u16], n: u16, lo: u16, hi: u16) -> bool
-    requires { ⌜ Backs (loopIn (now kinds)) (farIn (now offsets)) (now backs) n 0 × (lo ≤ hi) × (hi ≤ n) × (n ≤ 1000) ⌝ }
+pub(crate) fn parted(notes: &[u16], kinds: &[u8], offsets: &[u16], n: u16, lo: u16, hi: u16) -> bool
+    requires { ⌜ Backs (loopIn (now kinds)) (farIn (now offsets)) (now notes) n 0 × (lo ≤ hi) × (hi ≤ n) × (n ≤ 1000) ⌝ }
     ensures { λ r. ⌜ r ≡ some n (differ (loopIn (now (kinds .entry))) (farIn (now (offsets .entry))) (mark lo) (mark hi)) ⌝ }
 {
     let m = mark_of(lo) + 1;
-    let first = first_back(backs, kinds, offsets, n, lo, m);
+    let first = first_back(notes, kinds, offsets, n, lo, m);
     if first < hi {
         return true;
     }
     let s = mark_of(hi) + 1;
     let mut k = hi;
     while k < n {
-        let i = first_back(backs, kinds, offsets, n, k, s);
+        let i = first_back(notes, kinds, offsets, n, k, s);
         let near = reaches(kinds, offsets, i, m);
         if (i < n) & !near {
             return true;

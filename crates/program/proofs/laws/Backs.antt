@@ -7,13 +7,11 @@ use mathlib.Core.Path.{_≡_, refl, sym, _∙_, ap, subst, fun-ext}
 use native.Mathlib.Omega.{arith}
 use borrow.Author.Tests.{ltb-true, ltb-false, leb-true, leb-false, eqb-true, eqb-false, lt-ltb, le-ltb, le-leb, lt-leb}
 use lib.Dec.{ltb, leb, eqb}
-use lib.ListN.{length, getD, set}
-use lib.Seq.{getD-set-same, getD-set-other}
 use Rattle.count.specs.Pick.{pick}
 use Rattle.count.proofs.laws.Truth.{never, and-parts, both, or-false}
 use Rattle.program.specs.Check.{some}
 use Rattle.program.specs.work.Marks.{mark, holds, meets, overlaps, outside, strays}
-use Rattle.program.specs.work.Ranges.{Firstly, ranged, startOf, reach, differ, Backs}
+use Rattle.program.specs.work.Ranges.{Firstly, ranged, startOf, backOf, reach, differ, Backs}
 use Rattle.program.proofs.laws.Clean.{holds-yes}
 use Rattle.program.proofs.laws.Ranges.{and-no, some-none, some-one}
 
@@ -78,8 +76,8 @@ module _ (loop : ℕ → Bool) (far : ℕ → ℕ) where
 
   -- ---- from entry to entry
 
-  pub entry-of : (bs : List ℕ) (n k i : ℕ) {u : ℕ} → Backs loop far bs n k → k ≤ i → i < n → u ≡ getD bs i 0 → Firstly (reach loop far (startOf loop far i)) (i + 1) n u
-  entry-of bs n k i b g h e = rw e (b .entry i g h)
+  pub entry-of : (ns : List ℕ) (n k i : ℕ) {u : ℕ} → Backs loop far ns n k → k ≤ i → i < n → u ≡ backOf ns i → Firstly (reach loop far (startOf loop far i)) (i + 1) n u
+  entry-of ns n k i b g h e = rw e (b .entry i g h)
 
   pub passed-on : (k i n s u : ℕ) → Passed (reach loop far s) k i → k ≤ i → reach loop far s i ≡ false → s ≤ mark k + 1
       → Firstly (reach loop far (startOf loop far i)) (i + 1) n u → Passed (reach loop far s) k u
@@ -95,26 +93,6 @@ module _ (loop : ℕ → Bool) (far : ℕ → ℕ) where
       by {j} true b x y l m = p .none j l (ltb-true j i x)
       by {j} false true x y l m = subst (λ (q : ℕ). reach loop far s q ≡ false) (sym (eqb-true j i y)) e
       by {j} false false x y l m = reach-less s (startOf loop far i) j least (f .none j (behind (eqb-false j i y) (ltb-false j i x)) m)
-
-  pub backs-from : (bs : List ℕ) (n q k : ℕ) → q ≤ k → Backs loop far bs n q → Backs loop far bs n k
-  backs-from bs n q k h b = record { entry = λ i g l. b .entry i (omega arith) l }
-
-  pub backs-none : (bs : List ℕ) (n q : ℕ) → n ≤ q → Backs loop far bs n q
-  backs-none bs n q h = record { entry = λ i g l. absurd (omega arith) }
-
-  pub backs-more : (bs : List ℕ) (n q i b : ℕ) {s : ℕ} → q ≡ i + 1 → i < length bs → Backs loop far bs n q → s ≡ startOf loop far i
-      → Firstly (reach loop far s) q n b → Backs loop far (set bs i b) n i
-  backs-more bs n q i b e l h o f = record { entry = λ j g m. by (eqb i j) refl g m }
-    where
-      behind : {i j : ℕ} → (i ≡ j → ⊥) → i ≤ j → i + 1 ≤ j
-      behind d l = omega arith
-
-      by : {j : ℕ} (t : Bool) → eqb i j ≡ t → i ≤ j → j < n → Firstly (reach loop far (startOf loop far j)) (j + 1) n (getD (set bs i b) j 0)
-      by {j} true x g m =
-          subst (λ (q : ℕ). Firstly (reach loop far (startOf loop far q)) (q + 1) n (getD (set bs i b) q 0)) (eqb-true i j x)
-          (rw (getD-set-same bs i b 0 l, ← e, ← o) f)
-      by {j} false x g m =
-          rw (getD-set-other bs i j b 0 (λ y. eqb-false i j x (sym y))) (h .entry j (let d = behind (eqb-false i j x) g in omega arith) m)
 
   -- ---- overlaps
 

@@ -1,6 +1,6 @@
 -- Ranges as the code finds and counts them are those of the check: how many hold a place, counted from place to place; which loop is the
 -- first, from a place on, whose range starts before a mark; and what that says of overlaps and of two places. Assumes nothing.
-use Prim.Native.Nat.{ℕ, zero, suc, _+_, _-_, _≤_, _<_}
+use Prim.Native.Nat.{ℕ, zero, suc, _+_, _-_, _*_, _≤_, _<_}
 use mathlib.Core.Bool.{Bool, true, false, cond, not, _&&_, _||_, Bool·beq}
 use mathlib.Core.Path.{_≡_, refl, sym, _∙_, ap, subst}
 use native.Mathlib.Omega.{arith}
@@ -207,17 +207,18 @@ upTo-deep h k = by (ltb k 8) refl
     by true e = refl
     by false e = let l = ltb-false k 8 e in rw (lt-ltb 7 (h + 8) (omega arith), lt-ltb 7 (h + k) (omega arith))
 
-pub upTo-more : (k : ℕ) (b : Bool) → fuller (upTo8 k) b ≡ upTo8 (cond b 1 0 + k)
+pub upTo-more : (k : ℕ) (b : Bool) → fuller (upTo8 k * 1024) b ≡ upTo8 (cond b 1 0 + k) * 1024
 unfolding fuller upTo8
 upTo-more k false = rw (zero-add k)
 upTo-more k true = by (ltb k 8) (ltb k 7) refl refl
   where
-    by : (t u : Bool) → ltb k 8 ≡ t → ltb k 7 ≡ u → pick (ltb (pick t k 8) 8) (pick t k 8 + 1) (pick t k 8) ≡ pick (ltb (1 + k) 8) (1 + k) 8
-    by true true e f = let l = ltb-true k 7 f in rw (e, lt-ltb (1 + k) 8 (omega arith)) (omega arith)
+    by : (t u : Bool) → ltb k 8 ≡ t → ltb k 7 ≡ u
+        → pick (ltb (pick t k 8 * 1024) 8192) (pick t k 8 * 1024 + 1024) (pick t k 8 * 1024) ≡ pick (ltb (1 + k) 8) (1 + k) 8 * 1024
+    by true true e f = let l = ltb-true k 7 f in rw (lt-ltb (k * 1024) 8192 (omega arith), lt-ltb (1 + k) 8 (omega arith)) (omega arith)
     by true false e f =
         let l = ltb-true k 8 e in
         let m = ltb-false k 7 f in
-        rw (e, le-ltb (1 + k) 8 (omega arith)) (omega arith)
+        rw (lt-ltb (k * 1024) 8192 (omega arith), le-ltb (1 + k) 8 (omega arith)) (omega arith)
     by false u e f = let l = ltb-false k 8 e in rw (le-ltb (1 + k) 8 (omega arith))
 
 -- ---- the letter of a place, and the count behind it

@@ -1,6 +1,6 @@
 -- Stands in contracts of functions that are not exported: nothing of it need be believed. The ranges of loops as the code finds and counts
 -- them, over marks. Its laws: proofs/laws/Ranges.antt.
-use Prim.Native.Nat.{ℕ, _+_, _-_, _<_, _≤_}
+use Prim.Native.Nat.{ℕ, _+_, _-_, _*_, _/_, _%_, _<_, _≤_}
 use mathlib.Core.Bool.{Bool, true, false, not, _&&_, Bool·beq}
 use mathlib.Core.List.{List}
 use mathlib.Core.Path.{_≡_}
@@ -17,9 +17,16 @@ pub record Firstly (f : ℕ → Bool) (k n r : ℕ) : Type 0 where
   pub none : (i : ℕ) → k ≤ i → i < r → f i ≡ false
   pub hit : r < n → f r ≡ true
 
--- one more, up to eight
+-- the note of a place: how many ranges start there, up to eight, times 1,024; and the first loop behind it whose range starts before its own
+abbrev pub startsOf : List ℕ → ℕ → ℕ
+startsOf ns i = getD ns i 0 / 1024
+
+abbrev pub backOf : List ℕ → ℕ → ℕ
+backOf ns i = getD ns i 0 % 1024
+
+-- one range more that starts there
 unfoldable pub fuller : ℕ → Bool → ℕ
-fuller count more = pick (more && ltb count 8) (count + 1) count
+fuller note more = pick (more && ltb note 8192) (note + 1024) note
 
 -- a number, up to eight
 unfoldable pub upTo8 : ℕ → ℕ
@@ -46,17 +53,21 @@ module _ (loop : ℕ → Bool) (far : ℕ → ℕ) where
   unfoldable pub goesOn : ℕ → ℕ → Bool
   goesOn p i = (ranged i && ltb (far i - 32768) p) && leb p i
 
-  -- how many ranges start at each place, among those of the first k places
-  pub record Starts (ss : List ℕ) (k : ℕ) : Type 0 where
-    pub entry : (q : ℕ) → q < 1000 → getD ss q 0 ≡ upTo8 (tally k (opens q))
+  -- nothing is noted but how many ranges start at each place, among those of the first k places
+  pub record Counts (ns : List ℕ) (k : ℕ) : Type 0 where
+    pub count : (q : ℕ) → q < 1000 → getD ns q 0 ≡ upTo8 (tally k (opens q)) * 1024
+
+  -- it is noted how many ranges start at each place
+  pub record Starts (ns : List ℕ) (k : ℕ) : Type 0 where
+    pub entry : (q : ℕ) → q < 1000 → startsOf ns q ≡ upTo8 (tally k (opens q))
 
   -- the range of place i starts before mark s
   unfoldable pub reach : ℕ → ℕ → Bool
   reach s i = loop i && ltb (far i) s
 
-  -- for each place from q on, the first loop behind it whose range starts before its own
-  pub record Backs (bs : List ℕ) (n q : ℕ) : Type 0 where
-    pub entry : (i : ℕ) → q ≤ i → i < n → Firstly (reach (startOf i)) (i + 1) n (getD bs i 0)
+  -- it is noted for each place from q on which loop behind it is the first whose range starts before its own
+  pub record Backs (ns : List ℕ) (n q : ℕ) : Type 0 where
+    pub entry : (i : ℕ) → q ≤ i → i < n → Firstly (reach (startOf i)) (i + 1) n (backOf ns i)
 
   -- the range of place i holds one of two marks and not the other
   unfoldable pub differ : ℕ → ℕ → ℕ → Bool

@@ -10,7 +10,7 @@ use Rattle.program.proofs.pass.fuller.Tie as tie
 
 add-result : tie.Need-add-result
 add-result c =
-    let l = ltb-true (c .before .args .count) 8 (and-parts (c .before .args .more) (ltb (c .before .args .count) 8) (c .if1 .taken) .1) in
+    let l = ltb-true (c .before .args .note) 8192 (and-parts (c .before .args .more) (ltb (c .before .args .note) 8192) (c .if1 .taken) .1) in
     omega arith
 
 returns : tie.Need-returns

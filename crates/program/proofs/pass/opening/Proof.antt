@@ -1,6 +1,6 @@
 -- `program::opening` meets its contract. Assumes nothing.
 use native.Mathlib.Omega.{arith}
-use Rattle.program.proofs.Walks.{opening-yes, opening-no}
+use Rattle.program.proofs.Notes.{opening-yes, opening-no}
 use borrow.Author.Needs.{needs}
 use Rattle.program.proofs.pass.opening.Statement.{statement}
 use Rattle.program.proofs.pass.opening.Tie as tie

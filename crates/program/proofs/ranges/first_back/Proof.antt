@@ -10,10 +10,10 @@ use Rattle.program.proofs.ranges.first_back.Statement.{statement}
 use Rattle.program.proofs.ranges.first_back.Tie as tie
 
 abbrev Inv-loop : tie.InvT-loop
-Inv-loop backs kinds offsets n k s i₀ i = (k ≤ i) × (i ≤ n) × Passed (reach (loopIn kinds) (farIn offsets) s) k i
+Inv-loop notes kinds offsets n k s i₀ i = (k ≤ i) × (i ≤ n) × Passed (reach (loopIn kinds) (farIn offsets) s) k i
 
 abbrev μ-loop : tie.MeasureT-loop
-μ-loop backs kinds offsets n k s i₀ i = n - i
+μ-loop notes kinds offsets n k s i₀ i = n - i
 
 loop-holds : tie.Need-loop-holds Inv-loop μ-loop
 loop-holds c = (omega arith, c .before .before .before .pre .1, passed-none _ _)
@@ -26,14 +26,14 @@ returns c =
     let b = c .before .before .before in
     first-hit _ _ _ _ (b .loop .inv .2) (b .loop .inv .0) (c .before .before .loop-test .taken) (sym (c .before .reaches .ensures) ∙ c .if1 .taken)
 
-half-at-requires : tie.Need-half-at-requires Inv-loop μ-loop
-half-at-requires c κs = search needs
+back-at-requires : tie.Need-back-at-requires Inv-loop μ-loop
+back-at-requires c κs = search needs
 
 loop-less : tie.Need-loop-less Inv-loop μ-loop
 loop-less c =
     let b = c .before .before .before .before in
     let p = b .before .before .before .before .pre in
-    let f = entry-of _ _ _ _ _ _ (p .0) (b .loop .inv .0) (c .before .before .before .loop-test .taken) (c .half-at .ensures) in
+    let f = entry-of _ _ _ _ _ _ (p .0) (b .loop .inv .0) (c .before .before .before .loop-test .taken) (c .back-at .ensures) in
     let l = c .before .before .before .loop-test .taken in
     let g = f .from in
     let h = f .most in
@@ -43,7 +43,7 @@ loop-again : tie.Need-loop-again Inv-loop μ-loop
 loop-again c =
     let b = c .before .before .before .before in
     let p = b .before .before .before .before .pre in
-    let f = entry-of _ _ _ _ _ _ (p .0) (b .loop .inv .0) (c .before .before .before .loop-test .taken) (c .half-at .ensures) in
+    let f = entry-of _ _ _ _ _ _ (p .0) (b .loop .inv .0) (c .before .before .before .loop-test .taken) (c .back-at .ensures) in
     let g = f .from in
     let h = b .loop .inv .0 in
     (omega arith, f .most, passed-on _ _ _ _ _ _ _ (b .loop .inv .2) h (sym (c .before .before .reaches .ensures) ∙ c .before .if1 .left) (p .2) f)
@@ -60,7 +60,7 @@ first-back-spec =
     loop-holds
     reaches-requires
     returns
-    half-at-requires
+    back-at-requires
     loop-less
     loop-again
     returns-2)

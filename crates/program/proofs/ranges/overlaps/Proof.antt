@@ -1,6 +1,7 @@
 -- `program::overlaps` meets its contract. Assumes nothing.
 use native.Mathlib.Omega.{arith}
-use Rattle.program.proofs.laws.Backs.{backs-from, asked-off, asked-late, asked-first}
+use Rattle.program.proofs.Notes.{backs-from}
+use Rattle.program.proofs.laws.Backs.{asked-off, asked-late, asked-first}
 use borrow.Author.Needs.{needs}
 use Rattle.program.proofs.ranges.overlaps.Statement.{statement}
 use Rattle.program.proofs.ranges.overlaps.Tie as tie

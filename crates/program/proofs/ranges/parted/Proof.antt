@@ -2,16 +2,17 @@
 use Prim.Native.Nat.{_+_, _-_, _≤_}
 use native.Mathlib.Omega.{arith}
 use Rattle.program.specs.work.Work.{loopIn, farIn}
-use Rattle.program.proofs.laws.Backs.{backs-from, at-mark, near-mark, Alike, part-first, alike-start, part-hit, alike-next, alike-end}
+use Rattle.program.proofs.Notes.{backs-from}
+use Rattle.program.proofs.laws.Backs.{at-mark, near-mark, Alike, part-first, alike-start, part-hit, alike-next, alike-end}
 use borrow.Author.Needs.{needs}
 use Rattle.program.proofs.ranges.parted.Statement.{statement}
 use Rattle.program.proofs.ranges.parted.Tie as tie
 
 abbrev Inv-loop : tie.InvT-loop
-Inv-loop backs kinds offsets n lo hi m first s k₀ k = (hi ≤ k) × (k ≤ n + 1) × Alike (loopIn kinds) (farIn offsets) n lo hi k
+Inv-loop notes kinds offsets n lo hi m first s k₀ k = (hi ≤ k) × (k ≤ n + 1) × Alike (loopIn kinds) (farIn offsets) n lo hi k
 
 abbrev μ-loop : tie.MeasureT-loop
-μ-loop backs kinds offsets n lo hi m first s k₀ k = n + 1 - k
+μ-loop notes kinds offsets n lo hi m first s k₀ k = n + 1 - k
 
 mark-of-requires : tie.Need-mark-of-requires Inv-loop μ-loop
 mark-of-requires c κs = search needs

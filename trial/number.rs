@@ -54,3 +54,12 @@ pub fn write_hexadecimal(text: &mut [u8], v: u32) {
         left >>= 4;
     }
 }
+
+/// Writes the low `text.len()` decimal digits of `v`.
+pub fn write_decimal(text: &mut [u8], v: u32) {
+    let mut left = v;
+    for place in text.iter_mut().rev() {
+        *place = b'0' + (left % 10) as u8;
+        left /= 10;
+    }
+}

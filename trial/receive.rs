@@ -1,10 +1,10 @@
 //! Receiving a byte: control codes, gathering a line, and what each line does.
 
 use crate::board::{Board, Job, Refusal, REPLY_SHORT};
-use crate::check;
+use crate::check::{self, Fault, Verdict};
 use crate::line::{self, Line};
 use crate::motion::{self, Setting};
-use crate::number::write_hexadecimal;
+use crate::number::{write_decimal, write_hexadecimal};
 use crate::record::{self, Record, RECORDS, STORE};
 
 const STOP: u8 = 253;
@@ -15,7 +15,7 @@ const RETURN: u8 = 13;
 /// The levels of the four input ports.
 pub type Ports = [u8; 4];
 
-/// A line's outcome: accepted with the length of its reply, or refused with a character.
+/// A line's outcome: the length of the reply that is written, or a character that refuses it.
 type Outcome = Result<usize, u8>;
 
 fn refuse_if(wrong: bool, reply: u8) -> Result<(), u8> {
@@ -146,11 +146,15 @@ impl Board {
 
     fn end_storing(&mut self, reply: &mut [u8], store: &[u8]) -> Outcome {
         self.job = Job::Idle;
-        if !check::accepted(store, self.used as usize, self.store_axes, self.records) {
+        let verdict = check::check(store, self.used as usize, self.store_axes, self.records);
+        if verdict != Verdict::Accepted {
             self.empty_store();
-            return Err(b'G');
         }
-        Ok(say(reply, b'0'))
+        match verdict {
+            Verdict::Accepted => Ok(say(reply, b'0')),
+            Verdict::Unreadable => Err(b'G'),
+            Verdict::Faulty(fault) => Ok(report_fault(fault, reply)),
+        }
     }
 
     fn direct_line(&mut self, text: &[u8], ports: Ports, reply: &mut [u8]) -> Outcome {
@@ -275,6 +279,14 @@ impl Board {
             m.pulse(&mut self.position);
         }
     }
+}
+
+/// G, the letter and the place as four digits.
+fn report_fault(fault: Fault, reply: &mut [u8]) -> usize {
+    reply[0] = b'G';
+    reply[1] = fault.letter;
+    write_decimal(&mut reply[2..6], fault.place as u32);
+    6
 }
 
 fn report_port(port: i32, ports: Ports, reply: &mut [u8]) -> Outcome {

@@ -1,60 +1,283 @@
 //! The check at the end line, the store's bytes, its limits and the listing.
 
+use crate::rng::Rng;
 use crate::Bench;
 
-fn at_nine(lines: &[&str]) -> String {
-    let (b, last) = Bench::with_program(1, lines);
+/// The reply to `9` behind these lines. Whatever it says, but 0, the store is emptied.
+fn at_nine<T: AsRef<str>>(lines: &[T]) -> String {
+    let lines: Vec<&str> = lines.iter().map(AsRef::as_ref).collect();
+    let (b, last) = Bench::with_program(1, &lines);
     let kept = (b.board.used, b.board.records, b.board.store_axes);
-    if last == "G" {
-        assert_eq!(kept, (0, 0, 0));
-    }
+    assert_eq!(kept == (0, 0, 0), last != "0" || lines.is_empty());
     last
+}
+
+/// The same with so many loops behind the lines, all with ranges from one place on, the first with this offset.
+fn with_tower(lines: &[&str], count: i64, offset: i64) -> String {
+    let tower = (0..count).map(|k| format!("3 1,{}", offset - k));
+    at_nine(&lines.iter().map(|line| line.to_string()).chain(tower).collect::<Vec<_>>())
 }
 
 #[test]
 fn targets() {
     assert_eq!(at_nine(&["133", "3 0,1"]), "0");
     assert_eq!(at_nine(&["3 0,2", "133"]), "0");
-    assert_eq!(at_nine(&["3 0,3", "133"]), "G");
+    assert_eq!(at_nine(&["3 0,3", "133"]), "Ga0000");
     assert_eq!(at_nine(&["3 0,0"]), "0");
     assert_eq!(at_nine(&["133", "3 0,-1"]), "0");
-    assert_eq!(at_nine(&["133", "3 0,-2"]), "G");
+    assert_eq!(at_nine(&["133", "3 0,-2"]), "Ga0001");
     assert_eq!(at_nine(&["233,1"]), "0");
-    assert_eq!(at_nine(&["233,2"]), "G");
-    assert_eq!(at_nine(&["233,-1"]), "G");
+    assert_eq!(at_nine(&["233,2"]), "Ga0000");
+    assert_eq!(at_nine(&["133", "134", "233,-3"]), "Ga0002");
+    assert_eq!(at_nine(&["133", "3 0,32767"]), "Ga0001");
+    assert_eq!(at_nine(&["133", "3 0,-32768"]), "Ga0001");
 }
 
 #[test]
-fn ranges() {
-    assert_eq!(at_nine(&["3 1,-1"]), "G");
-    assert_eq!(at_nine(&["133", "3 25,-1", "3 2,-1"]), "G");
+fn ranges_too_early() {
+    assert_eq!(at_nine(&["3 1,-1"]), "Gb0000");
+    assert_eq!(at_nine(&["133", "3 1,-1"]), "0");
+    assert_eq!(at_nine(&["133", "3 1,-2"]), "Gb0001");
+    assert_eq!(at_nine(&["133", "3 1,-1", "3 1,-32768"]), "Gb0002");
+}
+
+#[test]
+fn overlaps() {
+    assert_eq!(at_nine(&["133", "3 25,-1", "3 2,-1"]), "Gc0002");
     assert_eq!(at_nine(&["133", "3 25,-1", "3 2,-2"]), "0");
     assert_eq!(at_nine(&["133", "134", "3 1,-1", "3 1,-3"]), "0");
-    assert_eq!(at_nine(&["133", "134", "3 1,-2", "135", "3 1,-3"]), "G");
+    assert_eq!(at_nine(&["133", "134", "3 1,-2", "135", "3 1,-3"]), "Gc0004");
+    assert_eq!(at_nine(&["133", "3 1,-1", "134", "3 1,-1"]), "0"); // side by side
+}
+
+/// The later loop of each two counts, and of these the first.
+#[test]
+fn overlaps_of_three() {
+    // 0 to 2, 1 to 3, 2 to 4: each with each
+    assert_eq!(at_nine(&["133", "134", "3 1,-2", "3 1,-2", "3 1,-2"]), "Gc0003");
+    // 0 to 3 and, in it, 1 to 2: both overlap 2 to 4
+    assert_eq!(at_nine(&["133", "134", "3 1,-1", "3 1,-3", "3 1,-2"]), "Gc0004");
+    // 1 to 2, held by 0 to 3; 3 to 4 overlaps the outer one alone
+    assert_eq!(at_nine(&["133", "134", "3 1,-1", "3 1,-3", "3 1,-1"]), "Gc0004");
+    // 0 to 1 and 3 to 4 side by side; 1 to 5 overlaps the first and holds the second
+    assert_eq!(at_nine(&["133", "3 1,-1", "134", "135", "3 1,-1", "3 1,-4"]), "Gc0005");
 }
 
 #[test]
 fn depth() {
-    let mut lines = vec!["133".to_string()];
-    for k in 1..=7 {
-        lines.push(format!("3 1,-{k}"));
-    }
-    let seven: Vec<&str> = lines.iter().map(String::as_str).collect();
-    assert_eq!(at_nine(&seven), "0");
-    lines.push("3 1,-8".to_string());
-    let eight: Vec<&str> = lines.iter().map(String::as_str).collect();
-    assert_eq!(at_nine(&eight), "G");
+    assert_eq!(with_tower(&["133"], 7, -1), "0");
+    assert_eq!(with_tower(&["133"], 8, -1), "Gd0000"); // a place that is no loop
+    assert_eq!(with_tower(&["133", "134", "135"], 8, -1), "Gd0002");
+    assert_eq!(with_tower(&["133", "134", "135"], 8, -2), "Gd0001");
+    assert_eq!(with_tower(&["133", "3 1,-1"], 7, -1), "Gd0001"); // a loop's own place
+    assert_eq!(with_tower(&["133", "134", "3 1,-1"], 7, -3), "Gd0001"); // seven from 0 on, one from 1 on
 }
 
 #[test]
-fn same_ranges() {
-    assert_eq!(at_nine(&["3 0,1", "133", "3 1,-1"]), "G"); // to a loop's start from outside
-    assert_eq!(at_nine(&["3 0,2", "133", "3 1,-1"]), "G"); // to its record from outside
+fn jumps_across() {
+    assert_eq!(at_nine(&["3 0,1", "133", "3 1,-1"]), "Ge0000"); // to a loop's start from outside
+    assert_eq!(at_nine(&["3 0,2", "133", "3 1,-1"]), "Ge0000"); // to its record from outside
     assert_eq!(at_nine(&["3 0,3", "133", "3 1,-1"]), "0"); // over it
     assert_eq!(at_nine(&["3 0,1", "3 1,-1"]), "0"); // inside, to the loop record
-    assert_eq!(at_nine(&["3 0,2", "3 1,-1"]), "G"); // out of it
-    assert_eq!(at_nine(&["233,2", "3 1,-1", "133"]), "G");
-    assert_eq!(at_nine(&["133", "3 1,-1", "3 0,-1"]), "G"); // back into it
+    assert_eq!(at_nine(&["3 0,2", "3 1,-1"]), "Ge0000"); // out of it, to the end place
+    assert_eq!(at_nine(&["233,2", "3 1,-1", "133"]), "Ge0000");
+    assert_eq!(at_nine(&["133", "3 1,-1", "3 0,-1"]), "Ge0002"); // back into it
+    assert_eq!(at_nine(&["133", "3 1,-1", "3 0,-2"]), "Ge0002");
+    assert_eq!(at_nine(&["3 0,3", "133", "3 1,-1", "134", "3 1,-1"]), "Ge0000"); // from between, into the second
+    assert_eq!(at_nine(&["3 0,3", "3 1,-1", "133", "134", "3 1,-1"]), "Ge0000");
+    // from one into another
+}
+
+/// A range that starts below 0 holds the places from 0 on, for `d` and for `e`.
+#[test]
+fn early_ranges_hold() {
+    assert_eq!(at_nine(&["3 0,3", "z0", "3 1,-5"]), "Ge0000");
+    assert_eq!(at_nine(&["3 0,2", "z0", "3 1,-5"]), "Gb0002");
+    assert_eq!(at_nine(&["133", "3 0,2", "3 1,-3", "134"]), "Ge0001");
+    assert_eq!(with_tower(&["133"], 8, -2), "Gd0000");
+    assert_eq!(with_tower(&["133"], 7, -2), "Gb0001");
+    assert_eq!(with_tower(&["133", "3 1,-1", "3 1,-30000"], 6, -3), "Gd0000");
+    assert_eq!(with_tower(&["133", "3 1,-1", "3 1,-30000"], 5, -3), "Gb0002");
+}
+
+#[test]
+fn the_smallest_place() {
+    assert_eq!(at_nine(&["3 0,9", "3 1,-2"]), "Ga0000");
+    assert_eq!(at_nine(&["133", "3 1,-2", "3 0,9"]), "Gb0001");
+    assert_eq!(at_nine(&["133", "3 1,-1", "3 0,-1", "3 0,9"]), "Ge0002");
+    assert_eq!(at_nine(&["133", "3 1,-1", "3 1,-1", "3 1,-9"]), "Gc0002");
+    assert_eq!(at_nine(&["233,9", "233,-9", "233,8"]), "Ga0000");
+    assert_eq!(with_tower(&["133", "3 0,99"], 8, -2), "Gd0000");
+    assert_eq!(with_tower(&["3 0,1", "133"], 8, -1), "Ge0000");
+    assert_eq!(with_tower(&["133", "3 1,-1", "3 1,-1"], 8, -1), "Gc0002");
+}
+
+#[test]
+fn the_earlier_letter_at_one_place() {
+    assert_eq!(with_tower(&["133", "134"], 8, -1), "Gd0001");
+    assert_eq!(with_tower(&["133", "3 0,99"], 8, -1), "Ga0001"); // and d
+    assert_eq!(with_tower(&["133", "3 1,-2"], 7, -1), "Gb0001"); // and d
+    assert_eq!(with_tower(&["133", "3 1,-1", "3 1,-1"], 7, -1), "Gc0002"); // and d
+    assert_eq!(with_tower(&["133", "3 0,-1"], 8, -1), "Gd0001"); // and e
+    assert_eq!(with_tower(&["133", "234,9"], 8, -1), "Gd0001"); // and e
+}
+
+/// A program of so many records that has this line last.
+fn long(records: usize, last: &str) -> Vec<&str> {
+    [vec!["133"; records - 1], vec![last]].concat()
+}
+
+#[test]
+fn the_last_place() {
+    assert_eq!(at_nine(&long(1_000, "3 0,1")), "0");
+    assert_eq!(at_nine(&long(1_000, "3 0,2")), "Ga0999");
+    assert_eq!(at_nine(&long(1_000, "3 1,-999")), "0");
+    assert_eq!(at_nine(&long(1_000, "3 1,-1000")), "Gb0999");
+    let mut lines = long(1_000, "3 1,-1");
+    lines[998] = "3 1,-1";
+    assert_eq!(at_nine(&lines), "Gc0999");
+    lines[999] = "2 33,-1";
+    assert_eq!(at_nine(&lines), "Ge0999");
+    lines[0] = "3 0,998";
+    assert_eq!(at_nine(&lines), "Ge0000");
+    assert_eq!(at_nine(&long(88, "3 0,2")), "Ga0087");
+}
+
+#[test]
+fn a_single_g() {
+    let spoilt = |alter: fn(&mut Bench)| {
+        let mut b = Bench::with_axes(1);
+        for line in ["@0i", "133", "3 0,9", "3 1,-9"] {
+            assert_eq!(b.line(line), "0");
+        }
+        alter(&mut b);
+        let last = b.line("9");
+        assert_eq!((b.board.used, b.board.records, b.board.store_axes), (0, 0, 0));
+        last
+    };
+    assert_eq!(spoilt(|_| {}), "Ga0001");
+    assert_eq!(spoilt(|b| b.store[0] = 0), "G");
+    assert_eq!(spoilt(|b| b.store[22] = b'4'), "G"); // the last record's code
+    assert_eq!(spoilt(|b| b.board.used -= 1), "G");
+    assert_eq!(spoilt(|b| b.board.records -= 1), "G");
+    assert_eq!(spoilt(|b| b.store[16] = 0), "Gb0002"); // now it jumps to itself
+    assert_eq!(spoilt(|b| b.board.store_axes = 7), "Ga0001");
+}
+
+#[test]
+fn the_reply_alone_is_written() {
+    let mut b = Bench::with_axes(1);
+    for line in ["@0i", "3 0,9"] {
+        b.line(line);
+    }
+    b.byte(b'9');
+    let mut reply = [7; 40];
+    assert_eq!(b.board.receive(13, [0; 4], &mut reply, &mut b.store), Ok(6));
+    assert_eq!(reply[..6], *b"Ga0000");
+    assert_eq!(reply[6..], [7; 34]);
+}
+
+/// A record as the check sees it.
+#[derive(Clone, Copy)]
+enum Step {
+    Plain,
+    Loop(i64),
+    Jump(i64),
+    Wait(i64),
+}
+
+impl Step {
+    fn line(self) -> String {
+        match self {
+            Step::Plain => "z0".to_string(),
+            Step::Loop(offset) => format!("3 1,{offset}"),
+            Step::Jump(offset) => format!("3 0,{offset}"),
+            Step::Wait(offset) => format!("233,{offset}"),
+        }
+    }
+}
+
+/// The letters of a place, each by its own sentence. A range is its first place and its loop's.
+fn letters(program: &[Step], ranges: &[(i64, i64)], place: i64) -> Vec<char> {
+    let holds = |&(first, last): &(i64, i64), p: i64| first <= p && p <= last;
+    let mut letters = Vec::new();
+    match program[place as usize] {
+        Step::Plain => {}
+        Step::Loop(offset) => {
+            let own = (place + offset, place);
+            let overlaps = |r: &(i64, i64)| {
+                let common = (own.0.max(r.0)..=own.1.min(r.1)).count() > 0;
+                let one_holds = (own.0 <= r.0 && r.1 <= own.1) || (r.0 <= own.0 && own.1 <= r.1);
+                common && !one_holds
+            };
+            letters.extend((own.0 < 0).then_some('b'));
+            letters.extend(ranges.iter().any(|r| r.1 < place && overlaps(r)).then_some('c'));
+        }
+        Step::Jump(offset) | Step::Wait(offset) => {
+            let target = place + offset;
+            let outside = target < 0 || target > program.len() as i64;
+            let across = ranges.iter().any(|r| holds(r, place) != holds(r, target));
+            letters.extend(outside.then_some('a'));
+            letters.extend(across.then_some('e'));
+        }
+    }
+    letters.extend((ranges.iter().filter(|r| holds(r, place)).count() > 7).then_some('d'));
+    letters
+}
+
+/// The reply to `9`, sentence by sentence.
+fn by_sentences(program: &[Step]) -> String {
+    let place_and_step = || (0i64..).zip(program);
+    let ranges: Vec<(i64, i64)> = place_and_step()
+        .filter_map(|(place, step)| match step {
+            Step::Loop(offset) => Some((place + offset, place)),
+            _ => None,
+        })
+        .collect();
+    for (place, _) in place_and_step() {
+        if let Some(letter) = letters(program, &ranges, place).iter().min() {
+            return format!("G{letter}{place:04}");
+        }
+    }
+    "0".to_string()
+}
+
+/// Few places are named again and again, so that ranges pile up, touch and overlap.
+fn random_steps(rng: &mut Rng) -> Vec<Step> {
+    let size = rng.between(1, 20);
+    let places = [rng.between(-2, 3), rng.between(0, size), rng.between(0, size + 1)];
+    let (loops, jumps) = (rng.pick(&[0, 3, 6, 11, 11]), rng.pick(&[0, 1, 1, 5]));
+    let step = |rng: &mut Rng, own: i64| {
+        let target = if rng.once_in(3) { rng.between(-1, size + 1) } else { rng.pick(&places) };
+        match rng.below(12) {
+            kind if kind < loops && target < own => Step::Loop(target - own),
+            kind if kind < loops => Step::Plain,
+            kind if kind < loops + jumps => rng.pick(&[Step::Jump(target - own), Step::Wait(target - own)]),
+            _ => Step::Plain,
+        }
+    };
+    (0..size).map(|own| step(rng, own)).collect()
+}
+
+#[test]
+fn as_the_sentences_say() {
+    let mut rng = Rng::new(9);
+    let mut b = Bench::with_axes(3);
+    let mut seen = [0; 6];
+    for _ in 0..40_000 {
+        let program = random_steps(&mut rng);
+        b.line("@0i");
+        program.iter().for_each(|step| assert_eq!(b.line(&step.line()), "0"));
+        let said = b.line("9");
+        assert_eq!(
+            said,
+            by_sentences(&program),
+            "{:?}",
+            program.iter().map(|s| s.line()).collect::<Vec<_>>()
+        );
+        seen[said.bytes().nth(1).map_or(0, |letter| (letter - b'a') as usize + 1)] += 1;
+    }
+    assert!(seen.iter().all(|&times| times > 1_000), "{seen:?}");
 }
 
 #[test]

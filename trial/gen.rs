@@ -4,6 +4,7 @@ mod damage;
 mod gen_ask;
 mod gen_calls;
 mod gen_chain;
+mod gen_fault;
 mod gen_host;
 mod gen_quiet;
 mod gen_sheet;

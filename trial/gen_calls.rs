@@ -2,6 +2,7 @@
 //! of them one more that an E may pass over.
 
 use crate::damage;
+use crate::gen_fault;
 use crate::gen_walk;
 use crate::program::{self, Span, Taste};
 use crate::rng::Rng;
@@ -9,9 +10,16 @@ use crate::spaces;
 use std::io::Write;
 
 pub fn script(rng: &mut Rng, count: u64, out: &mut Vec<u8>) {
-    let stored = (0, 0, 0);
-    let mut script =
-        Script { rng, out, altered: false, hurt_movement: false, tame: false, late: false, stored };
+    let mut script = Script {
+        rng,
+        out,
+        altered: false,
+        hurt_movement: false,
+        tame: false,
+        late: false,
+        stored: (0, 0, 0),
+        endless: false,
+    };
     for scene in 0..count {
         script.late = 2 * scene >= count;
         script.scene();
@@ -36,6 +44,8 @@ pub struct Script<'a> {
     pub late: bool,
     /// Used bytes, records and axes of the program sent last, if all of it was accepted.
     pub stored: (usize, usize, u8),
+    /// Whether that program may run without end, if it was accepted.
+    endless: bool,
 }
 
 impl Script<'_> {
@@ -108,34 +118,49 @@ impl Script<'_> {
     }
 
     fn store(&mut self, axes: u8) {
-        if self.rng.once_in(8) {
+        if self.rng.once_in(8) && !(self.tame && self.endless) {
             return;
         }
-        let span = self.span();
-        let taste = Taste { axes, span, waits: true, long: false };
-        let mut lines = program::sound(self.rng, &taste);
-        if self.rng.once_in(8) && !self.tame {
-            let at = self.rng.below(lines.len() as u64) as usize;
-            lines[at] = damage::hurt(self.rng, &lines[at]);
-        }
-        if self.rng.once_in(6) && !self.tame {
-            gen_walk::lengthen_one(self.rng, &mut lines);
-        }
-        if self.rng.once_in(12) && !self.tame {
-            let at = self.rng.below(lines.len() as u64) as usize;
-            lines[at] = spaces::misplaced(self.rng, &lines[at]);
-        }
-        let used = lines.iter().map(|l| 8 + 4 * l.bytes().filter(|&b| b == b',').count()).sum();
-        self.stored = (used, lines.len(), axes);
+        let lines = self.program(axes);
+        let length = |line: &String| 8 + 4 * line.bytes().filter(|&b| b == b',').count();
+        self.stored = (lines.iter().map(length).sum(), lines.len(), axes);
+        self.endless = gen_fault::may_not_end(&lines);
         self.line("@0i");
-        let hurt = self.rng.once_in(10) && !self.tame;
-        for text in lines {
-            self.line(&text);
+        let hurt = self.rng.once_in(10) && !self.tame && lines.len() < 50;
+        for text in &lines {
+            self.line(text);
             if hurt && self.rng.once_in(3) {
                 self.hurt();
             }
         }
+        if self.rng.once_in(6) && !self.tame {
+            let at = self.rng.below(lines.len() as u64) as usize;
+            self.spoil(lines[..at].iter().map(length).sum());
+        }
         self.line("9");
+    }
+
+    /// A sound program, or one that mostly fails the check, now and then with something wrong in a line.
+    fn program(&mut self, axes: u8) -> Vec<String> {
+        let taste = Taste { axes, span: self.span(), waits: true, long: false };
+        let faulty = self.rng.once_in(3) && !self.tame;
+        let mut lines =
+            if faulty { gen_fault::faulty(self.rng, axes, 100) } else { program::sound(self.rng, &taste) };
+        if self.tame {
+            return lines;
+        }
+        if self.rng.once_in(8) {
+            let at = self.rng.below(lines.len() as u64) as usize;
+            lines[at] = damage::hurt(self.rng, &lines[at]);
+        }
+        if self.rng.once_in(6) {
+            gen_walk::lengthen_one(self.rng, &mut lines);
+        }
+        if self.rng.once_in(12) {
+            let at = self.rng.below(lines.len() as u64) as usize;
+            lines[at] = spaces::misplaced(self.rng, &lines[at]);
+        }
+        lines
     }
 
     /// Clock calls with anything between them, then enough calls to come to an end.

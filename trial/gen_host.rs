@@ -67,6 +67,17 @@ impl Script<'_> {
         }
     }
 
+    /// The host alters a program before it is checked: its fields, or a byte of the record that starts here.
+    pub fn spoil(&mut self, record: usize) {
+        self.altered = true;
+        if self.rng.once_in(4) {
+            return self.bring_back();
+        }
+        let at = record + self.rng.pick(&[0, 1, 2, 3, 4, 5, 7, 8, 8, 8, 9, 11]);
+        let v = self.rng.pick(&[0, 1, 2, 3, 9, 0xD7, 0x2B, b'1', b'2', b'3', 0xF8, 0xFC, 0xFE, 0xFF]);
+        self.say(format!("W {at} {v}"));
+    }
+
     /// The fields of the program sent last, or nearly those: an emptied store's bytes are still there.
     fn bring_back(&mut self) {
         let (used, records, axes) = self.stored;

@@ -1,6 +1,7 @@
 //! Inputs for `walk`: COUNT scenes of lines, programs and control codes.
 
 use crate::damage;
+use crate::gen_fault;
 use crate::program::{self, Span, Taste};
 use crate::rng::Rng;
 use crate::spaces;
@@ -21,7 +22,7 @@ fn scene(rng: &mut Rng, axes: &mut u8, out: &mut Vec<u8>) {
         *axes = rng.pick(&[1, 3, 7, 7]);
         line(rng, out, &format!("@0{axes}"));
     }
-    match rng.below(12) {
+    match rng.below(15) {
         0..=4 => {
             for _ in 0..rng.between(1, 6) {
                 let text = direct(rng, *axes);
@@ -29,6 +30,7 @@ fn scene(rng: &mut Rng, axes: &mut u8, out: &mut Vec<u8>) {
             }
         }
         5..=9 => stored(rng, *axes, out),
+        12..=14 => failing(rng, *axes, out),
         10 if rng.once_in(2) => long_line(rng, out),
         10 => edge(rng, *axes, out),
         _ => {
@@ -53,6 +55,12 @@ fn line(rng: &mut Rng, out: &mut Vec<u8>, text: &str) {
         let at = rng.between(start as i64, out.len() as i64) as usize;
         out.insert(at, rng.pick(&[253, 255, 255, 254, 0, 200, 252]));
     }
+}
+
+/// A line with its return and nothing else done to it.
+fn unharmed(out: &mut Vec<u8>, text: &str) {
+    out.extend_from_slice(text.as_bytes());
+    out.push(13);
 }
 
 /// A line outside storing, mostly right.
@@ -173,6 +181,29 @@ fn stored(rng: &mut Rng, axes: u8, out: &mut Vec<u8>) {
     }
 }
 
+/// Stores a program that mostly fails the check, and starts it: what has failed is no more there. One that may
+/// run without end, should it be accepted, is left out again.
+fn failing(rng: &mut Rng, axes: u8, out: &mut Vec<u8>) {
+    let mut lines = gen_fault::faulty(rng, axes, 30);
+    if rng.once_in(8) {
+        let at = rng.below(lines.len() as u64) as usize;
+        lines[at] = damage::hurt(rng, &lines[at]);
+    }
+    unharmed(out, "@0i");
+    for text in &lines {
+        unharmed(out, text);
+    }
+    line(rng, out, "9");
+    if gen_fault::may_not_end(&lines) {
+        return unharmed(out, "@0k");
+    }
+    line(rng, out, "@0S");
+    for _ in 0..rng.below(4) {
+        out.push(rng.pick(&[33, 34, 35]));
+    }
+    out.push(255);
+}
+
 /// Resting points just outside 24 bits, met without a long run; so these lines are never damaged.
 fn edge(rng: &mut Rng, axes: u8, out: &mut Vec<u8>) {
     let tail = [",600", ",600,0,600", ",600,0,600,0,600,0,600"][axes.count_ones() as usize - 1];
@@ -189,8 +220,7 @@ fn edge(rng: &mut Rng, axes: u8, out: &mut Vec<u8>) {
     }
     for text in lines {
         let text = program::spaced(rng, text);
-        out.extend_from_slice(text.as_bytes());
-        out.push(13);
+        unharmed(out, &text);
     }
 }
 
@@ -203,8 +233,7 @@ fn long_line(rng: &mut Rng, out: &mut Vec<u8>) {
             text += ", 1";
         }
         text += &"1".repeat(len - text.len());
-        out.extend_from_slice(text.as_bytes());
-        out.push(13);
+        unharmed(out, &text);
         return;
     }
     let head: &[u8] = rng.pick(&[b"@0A0", b"@0P0", b"@0k,"]);

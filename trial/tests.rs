@@ -2,6 +2,7 @@
 #![cfg(test)]
 
 mod damage;
+mod gen_fault;
 mod host;
 mod program;
 mod questions;
@@ -11,6 +12,7 @@ mod spaces;
 mod test_ask;
 mod test_chain;
 mod test_check;
+mod test_fault;
 mod test_host;
 mod test_lines;
 mod test_movement;

@@ -11,8 +11,8 @@ pub fn faulty(rng: &mut Rng, axes: u8, long: u64) -> Vec<String> {
     let lines = match rng.below(10) {
         _ if rng.once_in(long) => large(rng),
         0..=2 => jumble(rng),
-        3..=5 => crowd(rng),
-        6 => crowded_record(rng),
+        3 | 4 => crowd(rng),
+        5 | 6 => crowded_record(rng),
         7 => early(rng),
         _ => bent(rng, axes),
     };
@@ -156,8 +156,8 @@ fn disturb(rng: &mut Rng, lines: &mut [String]) {
         if named < own && rng.once_in(2) { back(rng, own, named) } else { jump(rng, own, named) };
 }
 
-/// Hundreds of records, up to what the store takes and one more: small loops
-/// side by side, and now and then eight around one place, then some records replaced.
+/// Hundreds of records, up to what the store takes and one more: small loops side by side, and now and then
+/// eight around one place, then some records replaced.
 fn large(rng: &mut Rng) -> Vec<String> {
     let size =
         if rng.once_in(2) { rng.between(200, MOST) } else { rng.pick(&[MOST, MOST, MOST + 1, MOST - 1]) };

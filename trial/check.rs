@@ -81,8 +81,9 @@ fn ways(store: &[u8], used: usize, axes: u8, records: u32) -> Option<Ways> {
     readable.then_some(ways)
 }
 
-/// `b` and `c`. An earlier range that this one holds needs no more asking: what overlaps it later on, overlaps
-/// this one too. Those left have ever greater starts and own places, so that the last one tells for all.
+/// `b` and `c`. An earlier range that this one holds needs no more asking: what overlaps it later on,
+/// overlaps this one too. Those left have ever greater starts and own places, so that the last one tells
+/// for all.
 fn check_loops(ways: &Ways, named: &mut Named) {
     let mut earlier: Vec<Way> = Vec::new();
     for &(own, start) in &ways.loops {

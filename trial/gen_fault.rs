@@ -88,7 +88,8 @@ fn crowd(rng: &mut Rng) -> Vec<String> {
     lines
 }
 
-/// A record with a fault of its own at a place that seven or eight ranges hold, none of them the place before.
+/// A record, mostly with a fault of its own, at a place that seven or eight ranges from there on hold: with a
+/// loop's own range, eight or nine.
 fn crowded_record(rng: &mut Rng) -> Vec<String> {
     let own = rng.between(1, 4);
     let mut lines: Vec<String> = (0..own).map(|_| quick(rng)).collect();

@@ -181,8 +181,8 @@ fn stored(rng: &mut Rng, axes: u8, out: &mut Vec<u8>) {
     }
 }
 
-/// Stores a program that mostly fails the check, and starts it: what has failed is no more there. One that may
-/// run without end, should it be accepted, is left out again.
+/// Stores a program that mostly fails the check, and starts it: what has failed is no more there. One that
+/// may run without end, should it be accepted, is taken out of the store.
 fn failing(rng: &mut Rng, axes: u8, out: &mut Vec<u8>) {
     let mut lines = gen_fault::faulty(rng, axes, 30);
     if rng.once_in(8) {

@@ -11,7 +11,8 @@ fn at_nine<T: AsRef<str>>(lines: &[T]) -> String {
     last
 }
 
-/// The same with so many loops behind the lines, all with ranges from one place on, the first with this offset.
+/// The same with so many loops behind the lines, all with ranges from one place on, the first with this
+/// offset.
 fn with_tower(lines: &[&str], count: i64, offset: i64) -> String {
     let tower = (0..count).map(|k| format!("3 1,{}", offset - k));
     at_nine(&lines.iter().map(|line| line.to_string()).chain(tower).collect::<Vec<_>>())
@@ -82,7 +83,7 @@ fn jumps_across() {
     assert_eq!(at_nine(&["233,2", "3 1,-1", "133"]), "Ge0000");
     assert_eq!(at_nine(&["133", "3 1,-1", "3 0,-1"]), "Ge0002"); // back into it
     assert_eq!(at_nine(&["133", "3 1,-1", "3 0,-2"]), "Ge0002");
-    assert_eq!(at_nine(&["3 0,3", "133", "3 1,-1", "134", "3 1,-1"]), "Ge0000"); // from between, into the second
+    assert_eq!(at_nine(&["3 0,3", "133", "3 1,-1", "134", "3 1,-1"]), "Ge0000"); // over one, into another
     assert_eq!(at_nine(&["3 0,3", "3 1,-1", "133", "134", "3 1,-1"]), "Ge0000");
     // from one into another
 }

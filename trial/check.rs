@@ -56,6 +56,7 @@ struct Ways {
     end: i32,
 }
 
+/// Checks the store's part in use at the end line.
 pub fn check(store: &[u8], used: usize, axes: u8, records: u32) -> Verdict {
     let Some(ways) = ways(store, used, axes, records) else { return Verdict::Unreadable };
     let mut named = Named(None);

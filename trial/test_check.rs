@@ -165,6 +165,13 @@ fn a_single_g() {
 }
 
 #[test]
+fn a_single_g_from_a_start() {
+    let (mut b, last) = Bench::with_program(1, &["133"]);
+    assert_eq!((last.as_str(), b.line("@03"), b.line("@0S")), ("0", "0".to_string(), "G".to_string()));
+    assert_eq!(b.board.records, 1);
+}
+
+#[test]
 fn the_reply_alone_is_written() {
     let mut b = Bench::with_axes(1);
     for line in ["@0i", "3 0,9"] {

@@ -42,6 +42,6 @@ def store(*records):
     return lines("@0i", *records, "9"), R(*["0"] * (len(records) + 2))
 
 
-def refused_at_9(*records):
-    """The same, with G at `9`."""
-    return lines("@0i", *records, "9"), R(*["0"] * (len(records) + 1), "G")
+def refused_at_9(said, *records):
+    """The same, with this reply at `9`: G, the letter and the place of the fault."""
+    return lines("@0i", *records, "9"), R(*["0"] * (len(records) + 1), said)

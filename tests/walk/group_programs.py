@@ -36,7 +36,7 @@ case("storing_ranges", "1: out of range; a loop's offset is at most -1",
 case("storing_ranges_at_the_ends", "the ends are accepted; the program is refused at 9 for its targets",
      ONE + lines("@0i", "3 32767,-32768", "3 0,32767", "3 0,-32768", "5 0", "5 65535", "133", "1126", "233,32767", "2126,-32768",
                  "0 8388607,30", "0-8388608,10000", "m8388607,30", "z0", "z1", "n1", "9", "@0S"),
-     R("0", "0", *["0"] * 15, "G", "8"))
+     R("0", "0", *["0"] * 15, "Gb0000", "8"))
 
 case("storing_masks_and_speeds", "n beyond the axes is 3; a speed outside 30 to 10,000 is D; z2 of m must be 0",
      lines("@03", "@0i", "n0", "n4", "n7", "n8", "n-1", "00,29,0,30", "00,30,0,10001", "m0,30,0,0", "9", "@07", "@0i",
@@ -245,8 +245,8 @@ did = did + did + P([1, -1, 0], 600) + P([0, 0, -2], 800) + P([-3, 3, 0], 100) +
 case("storing_spaces_three_axes", "eight numbers, with a space behind all commas or some, and without",
      SEVEN + spaced + S + plain + S, ["R 0"] + said + did + said + did)
 
-given, said = refused_at_9("133", "3 0, 2")
-case("storing_spaces_and_the_check", "the check at 9 counts the offset behind a space: target 3 of two records is G, target 2 passes",
+given, said = refused_at_9("Ga0001", "133", "3 0, 2")
+case("storing_spaces_and_the_check", "the check at 9 counts the offset behind a space: target 3 of two records is refused, target 2 passes",
      ONE + given + lines("@0i", "133", "3 0, 1", "9", "@0S"), ["R 0"] + said + R("0", "0", "0", "0", "!", "0"))
 
 spaced = "0 0, 30, 0, 30, 0, 30, 0, 30"

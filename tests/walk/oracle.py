@@ -171,9 +171,10 @@ class Board:
         refuse(not shape, "5")
         if shape[1]:
             self.program, self.storing = self.storing, None
-            if not sound(self.program):
+            found = faults(self.program)
+            if found:
                 self.program, self.program_axes = [], 0
-                raise Refused("G")
+                raise Refused("G%s%04d" % min(found, key=lambda fault: (fault[1], fault[0])))
             return "0"
         code, v = shape[2].decode(), numbers(shape[3])
         self.right(code, v, self.program_axes)
@@ -254,20 +255,22 @@ class Board:
             self.job = None
 
 
-def sound(program):
-    """The check at 9, place by place with sets of ranges."""
-    ranges, ways = [], []
+def faults(program):
+    """The check at 9: every fault as its letter and place, each condition looked at by itself, with sets of ranges."""
+    ranges, ways = {}, []
     for place, (code, v) in enumerate(program):
         if code == "3" and v[0] > 0:
-            ranges.append(set(range(place + v[1], place + 1)))
+            ranges[place] = set(range(place + v[1], place + 1))
         elif code in "32":
             ways.append((place, place + v[1]))
-    holding = lambda p: [i for i, r in enumerate(ranges) if p in r]
-    return (all(within(t, 0, len(program)) for _, t in ways)
-            and all(min(r) >= 0 for r in ranges)
-            and all(r <= s or s <= r or not r & s for r in ranges for s in ranges)
-            and all(len(holding(p)) <= 7 for p in range(len(program)))
-            and all(holding(p) == holding(t) for p, t in ways))
+    holding = lambda p: [i for i, r in ranges.items() if p in r]
+    crossing = lambda i, j: ranges[i] & ranges[j] and not ranges[i] <= ranges[j] and not ranges[j] <= ranges[i]
+    reachable = lambda t: within(t, 0, len(program))
+    return ([("a", p) for p, t in ways if not reachable(t)]
+            + [("b", p) for p, r in ranges.items() if min(r) < 0]
+            + [("c", max(i, j)) for i in ranges for j in ranges if crossing(i, j)]
+            + [("d", p) for p in range(len(program)) if len(holding(p)) > 7]
+            + [("e", p) for p, t in ways if reachable(t) and holding(p) != holding(t)])
 
 
 def main():

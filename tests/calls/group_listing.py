@@ -13,15 +13,15 @@ SPACED = ["0 1, 30, -2, 10000, 003, 00600, -0, 77", "m 0, 30,8388607,31, -838860
 SHOWN = listed("01,30,-2,10000,3,600,0,77", "m0,30,8388607,31,-8388608,32,0,33", "30,1", "233,-7", "133", "31,-1", "9")
 HELD = state(axes=7, held=(116, 6, 7), job="Storing")  # 36 + 36 + 12 + 12 + 8 + 12 bytes
 case("listing_of_spaces", "a program sent with spaces behind its commas is listed without any, as the same program without them is",
-     line("@07", "0"), lines("0", "@0i", *SPACED), SHOWN, HELD, line("9", "G"), listed("9"),
-     lines("0", "@0i", *[r.replace(", ", ",") for r in SPACED]), SHOWN, HELD, line("9", "G"), listed("9"))
+     line("@07", "0"), lines("0", "@0i", *SPACED), SHOWN, HELD, line("9", "Ga0003"), listed("9"),
+     lines("0", "@0i", *[r.replace(", ", ",") for r in SPACED]), SHOWN, HELD, line("9", "Ga0003"), listed("9"))
 
 SENT = ["133", "3 25, -1", "2 33, -2"]  # 8, 12 and 12 bytes
 ALTERED = (listed("133", "325,-1", "233,-2", "9") + host("W 12 26", "W 13 1") + listed("133", "3282,-1", "233,-2", "9") + host("W 16 254", "W 24 34", "W 28 255") +
            listed("133", "3282,-2", "234,-1", "9") + host("W 11 3") + listed("G") + host("W 11 2", "W 19 0") + listed("G") + host("W 19 255", "W 20 0") + listed("G"))
 case("spaces_store_the_same_bytes", "sent with spaces and without: the host finds the numbers at the same bytes; then the front sent anew without spaces, the rest as it was",
      line("@01", "0"), lines("0", "@0i", *SENT), ALTERED, line("9", "G"), lines("0", "@0i", *[r.replace(", ", ",") for r in SENT]), ALTERED, line("9", "G"),
-     lines("0", "@0i", *SENT), listed("133", "325,-1", "233,-2", "9"), line("9", "G"), lines("0", "@0i", "133", "3 25,-1", "9"), listed("133", "325,-1", "9"),
+     lines("0", "@0i", *SENT), listed("133", "325,-1", "233,-2", "9"), line("9", "Ge0002"), lines("0", "@0i", "133", "3 25,-1", "9"), listed("133", "325,-1", "9"),
      host("K 32 3 1"), listed("133", "325,-1", "233,-2", "9"), state(axes=1, held=(32, 3, 1)))
 
 case("listing_standing", "the listing while a program stands; it changes nothing, and the program goes on",

@@ -5,6 +5,7 @@ import os
 import group_breaks
 import group_damage
 import group_listing
+import group_named
 import group_programs
 import group_refusals
 import group_reports

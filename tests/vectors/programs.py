@@ -9,8 +9,7 @@ verdict: 0, a letter and a place, or G where the store is not readable. A readab
 of the first 40 records that a run makes, then E at the end place, or G where the run ends with G. Of the waits of a run the first
 hears another character, the second its own, and so on.
 
-Every rule is taken from 01's sentences by brute force: a range is the set of its places, and every pair of ranges and every place is
-looked at.
+Every rule is taken from 01's sentences by brute force: every pair of ranges is looked at, and for every place all ranges that hold it. Which fault is named is 02's sentence (§1): of all faults the one at the smallest place, and there the earlier letter.
 """
 import os
 import sys
@@ -88,39 +87,38 @@ def decoded(axes, count, data):
 # ---- the check at `9`
 
 
-def verdict(records):
-    """0, or the letter and the place of the first fault."""
+def faults(records):
+    """Every fault as its place and letter, each condition by itself. A range that starts below 0 holds places as any other."""
     end = len(records)
-    ranges = {}
-    for i, (code, numbers) in enumerate(records):
-        if code == "3" and numbers[0] != 0:
-            ranges[i] = frozenset(range(i + numbers[1], i + 1))
+    ranges = {i: (i + v[1], i) for i, (code, v) in enumerate(records) if code == "3" and v[0] != 0}
+    ways = {p: p + v[1] for p, (code, v) in enumerate(records) if code == "2" or (code == "3" and v[0] == 0)}
+    holders = [{i for i, (low, high) in ranges.items() if within(low, p, high)} for p in range(end)] + [set()]
+    found = set()
+    for p, to in ways.items():
+        if not within(0, to, end):
+            found.add((p, "a"))
+        elif holders[p] != holders[to]:
+            found.add((p, "e"))
+    for i, (low, _) in ranges.items():
+        if low < 0:
+            found.add((i, "b"))
+        for j in ranges:
+            if crossing(ranges[i], ranges[j]):
+                found.add((max(i, j), "c"))
+    return found | {(p, "d") for p in range(end) if len(holders[p]) > 7}
 
-    def target(p):
-        code, numbers = records[p]
-        if code == "2" or (code == "3" and numbers[0] == 0):
-            return p + numbers[1]
-        return None
 
-    def holders(p):
-        return {i for i, held in ranges.items() if p in held}
+def crossing(one, other):
+    """Two ranges, each from its first place to its last, have a place in common, and each has one that the other has not."""
+    (a, b), (c, d) = one, other
+    common = (max(a, c), min(b, d))
+    return common[0] <= common[1] and common not in (one, other)
 
-    for p in range(end):
-        to = target(p)
-        if to is not None and not within(0, to, end):
-            return "a %d" % p
-        if p in ranges and min(ranges[p]) < 0:
-            return "b %d" % p
-        if p in ranges:
-            for i in ranges:
-                mine, other = ranges[p], ranges[i]
-                if i < p and mine & other and not mine <= other and not other <= mine:
-                    return "c %d" % p
-        if len(holders(p)) > 7:
-            return "d %d" % p
-        if to is not None and holders(p) != holders(to):
-            return "e %d" % p
-    return "0"
+
+def verdict(records):
+    """0, or the letter and the place of the fault that is named."""
+    found = faults(records)
+    return "%s %d" % min(found)[::-1] if found else "0"
 
 
 # ---- a run
@@ -318,11 +316,160 @@ def full():
     case([jump(1)] * 1001)
 
 
+def from_one_place(count, first=1):
+    """So many loops one behind the other that all start at the same place, `first` records before the first of them."""
+    return [loop(1, -back) for back in range(first, first + count)]
+
+
+# A few records with a fault of each letter, wherever they stand; the range of b holds all that stands before it.
+FAULTY = {
+    "a": [[jump(2000)], [X, wait(-2000)]],
+    "b": [[X, loop(1, -2000)]],
+    "c": [[X, loop(1, -1), loop(1, -1)], [X, X, loop(1, -2), X, loop(1, -3)]],
+    "d": [[X] + from_one_place(8)],
+    "e": [[jump(1), X, loop(1, -1)], [X, loop(1, -1), wait(-1)]],
+}
+
+
+def letters_at_different_places():
+    """Each fault alone, in front of each other one, and around one."""
+    for one in "abcde":
+        for records in FAULTY[one]:
+            case(records)
+            case([X, SEND] + records + [X])
+        for other in "abcde":
+            case(FAULTY[one][0] + FAULTY[other][-1])
+            case([SEND] + FAULTY[one][-1] + [X] + FAULTY[other][0])
+    # three letters, the first of them in the middle, inside a loop, and at the end
+    case([X] + FAULTY["e"][0] + FAULTY["c"][0] + FAULTY["a"][0])
+    case([X] + FAULTY["a"][0] + [X, loop(1, -3)] + FAULTY["d"][0])
+    case(FAULTY["c"][1] + FAULTY["e"][1] + FAULTY["b"][0])
+    # c at the later of two loops, of three, and of two pairs
+    case([X, X, loop(1, -2), X, loop(1, -1), X, loop(1, -5)])
+    case([X, X, loop(1, -1), loop(1, -1), loop(1, -4)])
+    case([X, X, X, loop(1, -3), loop(1, -2), loop(1, -4)])
+    case([X, X, X, loop(1, -1), loop(1, -3), loop(1, -2)])
+    case([X, loop(1, -1), loop(1, -1), X, loop(1, -1), loop(1, -1)])
+    case([X, X, loop(1, -1), X, loop(1, -1), loop(1, -3)])
+    # d where no loop is, where one is, and at the first place that all eight hold
+    case([X] * 8 + [loop(1, -k) for k in range(1, 17, 2)])
+    case([X, SEND, loop(1, -1)] + from_one_place(7, 3))
+    case([X, X, loop(1, -1)] + from_one_place(7))
+    case([X, loop(1, -1)] + from_one_place(6, 2) + [X, loop(1, -9)])
+
+
+def letters_at_one_place():
+    """Where one place has two faults the earlier letter is named: a with d, b with d, c with d, d with e, b with c behind b."""
+    deep = from_one_place(8)
+    for front in ([], [X], [X, SEND, X]):
+        for make in (jump, wait):
+            case(front + [make(100)] + deep)
+            case(front + [make(-100)] + deep)
+            case(front + [make(9)] + deep)
+            case(front + [make(2)] + deep)
+            case(front + [make(0)] + deep)
+        case(front + [X, loop(1, -50)] + from_one_place(7))
+        case(front + [X, loop(1, -1), loop(1, -1)] + from_one_place(7))
+        case(front + [X, loop(1, -50), loop(1, -40), jump(-1)])
+    case([loop(1, -1)] + from_one_place(7))
+    for make in (jump, wait):
+        case([X, make(1), X, loop(1, -1)] + from_one_place(7, 3))
+        case([make(2), loop(1, -1)])
+        case([make(3), loop(1, -1)])
+        case([make(-1), loop(1, -1)])
+
+
+def ranges_below_zero():
+    """A range that starts below 0 holds the places from 0 to its own."""
+    for make in (jump, wait):
+        case([make(3), X, loop(1, -5)])
+        case([make(2), X, loop(1, -5)])
+        case([make(1), X, loop(1, -3)])
+        case([make(3), X, loop(1, -32768), X])
+        case([X, make(2), loop(1, -3), loop(1, -4)])
+        case([X, loop(1, -2), make(-1)])
+    for count in (6, 7, 8):
+        case([X] + from_one_place(count, 2))
+        case([X] + from_one_place(7) + [loop(1, -9)] * (count - 6))
+        case([X, X] + from_one_place(count - 1) + [loop(1, -20)])
+
+
+class Dice:
+    """Numbers from a seed, the same everywhere."""
+
+    def __init__(self, seed):
+        self.state = seed
+
+    def roll(self, n):
+        self.state = (self.state * 6364136223846793005 + 1442695040888963407) % 2**64
+        return (self.state >> 33) % n
+
+
+def thrown(dice, most, loops):
+    """A program at random; of ten records about so many are loops. Most offsets stay inside, or leave it by one."""
+    size = 3 + dice.roll(most - 2)
+    records = []
+    for p in range(size):
+        kind = dice.roll(10)
+        if kind < loops and p > 0:
+            back = 1 + dice.roll(p + (dice.roll(8) == 0))
+            records.append(loop(1 + dice.roll(3), -back))
+        elif kind < loops + 3:
+            to = dice.roll(size + 1) if dice.roll(6) else (-1, size + 1)[dice.roll(2)]
+            records.append((jump, wait)[dice.roll(2)](to - p))
+        else:
+            records.append((X, SEND, DELAY)[dice.roll(3)])
+    return records
+
+
+def at_random(seed, most, loops, letters, each):
+    """Programs at random until there are so many for each named letter, with two letters or more among the faults; 0 stands for none."""
+    dice = Dice(seed)
+    room = dict.fromkeys(letters, each)
+    while any(room.values()):
+        records = thrown(dice, most, loops)
+        found = faults(records)
+        named = verdict(records)[0]
+        several = len({letter for _, letter in found}) > 1
+        if room.get(named, 0) and (several or named == "0" and any(code in "23" for code, _ in records)):
+            room[named] -= 1
+            case(records)
+
+
+def random_programs():
+    at_random(1, 9, 4, "0abce", 10)
+    at_random(2, 24, 3, "abce", 6)
+    at_random(3, 26, 7, "d", 12)
+
+
+def far_ends():
+    """1,000 records: without loops, seven deep, and with a fault at the last place where it can be."""
+    case([jump(1)] * 999 + [jump(2)])
+    case([X] + [jump(-1)] * 999)
+    case([X] * 999 + [wait(-999)])
+    case([X] * 999 + [wait(-1000)])
+    case([X] * 999 + [loop(1, -999)])
+    case([X] * 999 + [loop(1, -1000)])
+    case([X] * 998 + [loop(1, -998), loop(1, -1)])
+    case([X, loop(1, -1)] * 499 + [X, loop(1, -2)])
+    case([X] * 993 + from_one_place(7, 993))
+    case([X] * 992 + from_one_place(8))
+    case([X] * 992 + [loop(1, -1)] + from_one_place(7))
+    case([X] * 998 + [loop(1, -1), jump(-1)])
+    case([wait(1000)] + [X] * 998 + [jump(-999)])
+    case([wait(999)] + [X] * 998 + [loop(1, -998)])
+
+
 def main():
     faults_at_their_edges()
     runs()
     stores()
     full()
+    letters_at_different_places()
+    letters_at_one_place()
+    ranges_below_zero()
+    random_programs()
+    far_ends()
     made = {
         "stdin": "".join("%s\n%s\n" % (head, data) for head, data, _ in CASES),
         "stdout": "".join("%s\n" % line for _, _, line in CASES),

@@ -121,7 +121,7 @@ function still_running() {
 # A reply to a byte. An F says stop or break; the state behind it tells which.
 function reply(text) {
     if (text == "F") held = 1
-    else if (length(text) == 1 && text != "0") add_note("line " line ": " text, meaning(text, job_now == "Storing"))
+    else if (refuses(text)) add_note("line " line ": " text, meaning(text, job_now == "Storing"))
 }
 
 # A line S: what is at work, and where the positions and the origin lie on the table.

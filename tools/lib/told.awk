@@ -1,4 +1,4 @@
-# What the board did, for a person, under each line of the file that it answers: awk -f replies.awk -f told.awk LINES STREAM. LINES is what
+# What the board did, for a person, under each line of the file that it answers: awk -f replies.awk -f fault.awk -f told.awk LINES STREAM. LINES is what
 # sent.awk wrote of the file, STREAM what `calls` printed. -v scale="x y z": the steps of a mm on each axis, or empty; -v pulses=1 shows every pulse.
 BEGIN {
     split(scale, per, " ")
@@ -66,14 +66,29 @@ function reply(sent, words) {
     settle()
     words = sent
     if (length(sent) == 19) words = sent "  " place(hex(substr(sent, 2, 6)), hex(substr(sent, 8, 6)), hex(substr(sent, 14, 6)))
-    else if (length(sent) == 1 && sent != "0") words = sent "  " reason(sent)
-    else if (sent == "0" && storing && text[current] !~ /^9/) words = sent "  record " records
+    else if (refuses(sent)) words = sent "  " reason(sent)
+    else if (sent == "0" && storing && text[current] !~ /^9/) words = sent "  record " stored()
     if (headed) say(words)
     else head(words)
+    if (names_fault(sent)) explain(sent)
+}
+
+# The place of the record that has just been stored; it is kept with its line of the file.
+function stored() {
+    keep_record(records, current, text[current])
+    return records
+}
+
+# Under a program that was refused at its end line: more about the fault, and what to do.
+function explain(sent, more) {
+    more = fault_found(sent, records)
+    if (more != "") say(more)
+    say("the store is empty now: mend the program and send all of it again")
 }
 
 function reason(sent) {
     if (sent == "F") return text[current] ~ /^(break|byte 0*255)/ ? "ended" : "stopped, and stands"
+    if (names_fault(sent)) return meaning("G", 1) " at " record_at(substr(sent, 3) + 0) ": " fault_at(substr(sent, 2, 1))
     if (sent == "G" && storing) return meaning(sent, storing) ", and the store is empty now"
     if (sent == "5" && text[current] ~ /[ \t]$/) return meaning(sent, storing) ": a space stands at its end"
     if (sent == "5" && !headed) return meaning(sent, storing) spaces(text[current])

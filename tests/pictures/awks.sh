@@ -6,6 +6,14 @@ under() { # AWK...: a folder for the PATH in which awk is this one
     chmod +x "$dir/$1/awk"
 }
 
+compared() { # NAME: what is wanted and what came
+    if cmp -s "$dir/wanted" "$dir/got"; then
+        same=$((same + 1))
+    else
+        differs "$1" "$(cmp "$dir/wanted" "$dir/got" 2>&1)"
+    fi
+}
+
 by_awk() { # FILE PATH: the picture and the table of an input, under the awk of a path
     PATH=$2 "$root/tools/plate" 80,80.5,400 --surface -1 --numbers --title x <"$1"
     PATH=$2 "$root/tools/plate" 80,80.5,400 --measure <"$1"
@@ -18,6 +26,11 @@ slopes() { # slopes up and down that cross each other, with grooves and holes
         for (i = 1; i < 120; i++) printf "@0A%d,600,%d,%d,%d,300,%d,300\r", i * 37 % 23 - 11, i * 53 % 31 - 15, 100 + i * 40, i * 7 % 5 - 2, i * 5 % 7 - 3
     }'
 }
+told_by() { # PATH: what ./exercise says of programs that are refused at their end line, of spaces and of words, under the awk of a path
+    for text in named spaces words; do
+        PATH=$1 "$root/exercise" "$root/tests/own/$text.txt" --no-picture
+    done
+}
 slopes >"$dir/slopes"
 grep -v '^#' "$root/exercises/ramp-3d.txt" | tr '\n' '\r' >"$dir/ramp"
 for awk in mawk gawk 'busybox awk' original-awk; do
@@ -27,10 +40,9 @@ for awk in mawk gawk 'busybox awk' original-awk; do
     for file in slopes ramp; do
         by_awk "$dir/$file" "$PATH" >"$dir/wanted"
         by_awk "$dir/$file" "$dir/${awk%% *}:$PATH" >"$dir/got"
-        if cmp -s "$dir/wanted" "$dir/got"; then
-            same=$((same + 1))
-        else
-            differs "$file under $awk" "$(cmp "$dir/wanted" "$dir/got" 2>&1)"
-        fi
+        compared "$file under $awk"
     done
+    told_by "$PATH" >"$dir/wanted"
+    told_by "$dir/${awk%% *}:$PATH" >"$dir/got"
+    compared "the words under $awk"
 done

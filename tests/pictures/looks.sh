@@ -76,6 +76,12 @@ is "origins" "14000 34000 54000" "$(echo $(sed -n 's/^<path d="M\([0-9]*\) 39500
 lines hello @03 @0A5,600 @0i '0 5,600,0,600' '1 60' 7 9 @0S @09 | draw
 drawn "notes" '>line 1: 5, this is no line of the board<' '>line 3: 7, too few or too many numbers<' '>line 7: 5, this is no record<' \
     '>run of line 9 ended with 0<' '>line 10: 3, these axes are not allowed<' '>sent by the program: &lt;<'
+# A program refused at its end line: which record, and why. The single G of a start has its own words.
+lines @01 @0i '1 33' '3 0,5' 9 @0i '1 33' '3 2,-2' 9 @0i '1 33' '3 25,-1' '3 2,-1' 9 @0i '3 0,1' '1 33' '3 1,-1' 9 @0i '1 33' 9 @03 @0S | draw
+drawn "refused at the end line" '>line 5: Ga0001, target outside<' '>line 9: Gb0001, loop starts too early<' '>line 14: Gc0002, loops overlap<' \
+    '>line 19: Ge0000, jump across a loop<' '>line 24: G, stored under other axes<'
+lines @01 @0i '1 33' '3 1,-1' '3 1,-2' '3 1,-3' '3 1,-4' '3 1,-5' '3 1,-6' '3 1,-7' '3 1,-8' 9 @0S | draw
+drawn "refused for its depth" '>line 12: Gd0000, more than seven loops<' '>line 13: 8, no program is stored<' '>no movement<'
 lines @01 @0i '0 5,600' '0 8388607,600' 9 @0S | draw
 drawn "a run into nine" '>run of line 6 ended with 9, out of range<'
 for i in 1 2 3 4 5 6 7 8 9 10 11 12; do lines a b c d e f g h; done | draw

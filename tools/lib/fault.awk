@@ -87,7 +87,7 @@ function leads_across(place, count, to, i) {
     if (!(place in leads_to)) return ""
     to = leads_to[place]
     for (i = 0; i < count; i++) {
-        if (!holds(i, place) && to < count && holds(i, to)) return "it leads to place " to " in " loop_at(i) ": let it stand in that loop too, or lead past it"
+        if (!holds(i, place) && to < count && holds(i, to)) return "it leads to place " to " in " loop_at(i) ": let it lead to a place before that loop or behind it, or stand in it too"
         if (holds(i, place) && (to == count || !holds(i, to))) return "it stands in " loop_at(i) ", and leads out of it to place " to ": let it lead to a place from " first_of(i) " to " i
     }
     return ""

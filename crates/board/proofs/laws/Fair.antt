@@ -16,6 +16,8 @@ use Rattle.record.specs.declared.Record.{Record}
 use Rattle.record.specs.Bytes.{encode}
 use Rattle.record.specs.Keep.{storing, longer, hasRoom, storeOf}
 use Rattle.record.proofs.laws.Put.{room-so}
+use Rattle.program.specs.declared.Verdict.{Verdict}
+use Rattle.program.specs.declared.Verdict.the-variants as verdict
 use Rattle.program.specs.Program.{verdictOf, isSound}
 use Rattle.line.specs.declared.Letter.{Letter}
 use Rattle.line.specs.declared.Letter.the-variants as letter
@@ -39,10 +41,10 @@ use Rattle.board.specs.declared.Saying.the-variants as saying
 use Rattle.board.specs.declared.Spoke.{Spoke}
 use Rattle.board.specs.State.{board, noLine, textOf, gathered, withLine, lineDone, Said, said, sound}
 use Rattle.board.specs.Direct.{heardStanding, directSaid}
-use Rattle.board.specs.Storing.{recordOf, recordReply, storedBy, storedSaid}
+use Rattle.board.specs.Storing.{recordOf, recordReply, namedFault, storedBy, storedSaid}
 use Rattle.board.specs.Receive.{isStoring, holdsBy, endsBy, earOf, returned, gathering, ordinary, stopped, broken, resetSaid, hearing}
 use Rattle.board.specs.work.Work.{bytesOf, spokeOf, spoke, silentWith, repliedWith, begunWith, startedBy, affected, obeyed, numbersFault, lineFault, gathersBy, waitsBy}
-use Rattle.board.proofs.laws.Puts.{length-report, length-two}
+use Rattle.board.proofs.laws.Puts.{length-report, length-two, length-four}
 use Rattle.board.proofs.laws.Obeys.{no-fault, no-standing, axes-fit, obey-so}
 use Rattle.board.proofs.laws.Hears.{ear-so, sound-engine, sound-line}
 
@@ -77,6 +79,7 @@ say-short saying.Silent at = omega arith
 say-short (saying.One b) at = omega arith
 say-short saying.Positions at = simp (length-append, length-report) (omega arith)
 say-short (saying.Port v) at = simp length-two (omega arith)
+say-short (saying.Fault l p) at = simp length-four (omega arith)
 
 -- ---- an accepted line outside storing
 
@@ -176,6 +179,18 @@ module _ (byte : ℕ) (b : Board) (store : List ℕ) (h : sound b ≡ true) wher
   replied : (n : ℕ) → fair (said (lineDone b) (n ∷ []) store)
   replied n = quiet (repliedWith b (b .engine) n) (done-sound (b .engine) (b .standing) (sound-engine b h))
 
+  -- a failed check, with what it names
+  failed : (v : Verdict) → fair (said (board (ceased (emptied (b .engine))) (b .standing) noLine) (71 ∷ namedFault v) store)
+  failed v = by v (done-sound _ (b .standing) (cease-keeps (emptied (b .engine)) (empty-keeps (b .engine) (sound-engine b h))))
+    where
+      empty : Board
+      empty = board (ceased (emptied (b .engine))) (b .standing) noLine
+
+      by : (v : Verdict) → sound empty ≡ true → fair (said empty (71 ∷ namedFault v) store)
+      by verdict.Sound p = quiet (spokeOf empty (saying.One 71)) p
+      by (verdict.Fault l q) p = quiet (spokeOf empty (saying.Fault l q)) p
+      by verdict.Unreadable p = quiet (spokeOf empty (saying.One 71)) p
+
   module _ (r : byte ≡ 13) (k : isStoring (b .engine .run .job) && not (b .standing) ≡ true) where
     stored-fair : (c : Code) (d : Stored) → fair (storedBy c d b store)
     stored-fair code.Wrong d = replied 53
@@ -190,8 +205,7 @@ module _ (byte : ℕ) (b : Board) (store : List ℕ) (h : sound b ≡ true) wher
     stored-fair code.End d =
         fair-pick (isSound (verdictOf (b .engine .held) store)) _ _
         (λ p. quiet (repliedWith b (ceased (b .engine)) 48) (done-sound _ (b .standing) (cease-keeps (b .engine) (sound-engine b h))))
-        (λ p. quiet (repliedWith b (ceased (emptied (b .engine))) 71)
-        (done-sound _ (b .standing) (cease-keeps (emptied (b .engine)) (empty-keeps (b .engine) (sound-engine b h)))))
+        (λ p. failed (verdictOf (b .engine .held) store))
 
   module _ (ports : List ℕ) where
     direct-fair : (d : Direct) → (b .standing ≡ false → Still (b .engine .run .job)) → fair (directSaid d ports b store)

@@ -5,9 +5,11 @@ use mathlib.Core.Bool.{Bool, true, false}
 use mathlib.Core.List.{List, [], _∷_}
 use Prim.Native.Nat.{ℕ}
 use lib.Dec.{eqb}
-use lib.IntN.{pos}
+use lib.IntN.{ℤ, pos, negsuc}
+use lib.ListN.{getD}
 use borrow.Author.Tests.{eq-eqb}
 use Rattle.count.specs.Pick.{pick}
+use Rattle.count.specs.Text.{fourDigits}
 use Rattle.record.specs.Keep.{storeOf}
 use Rattle.program.specs.declared.Verdict.{Verdict}
 use Rattle.program.specs.declared.Verdict.the-variants as verdict
@@ -19,14 +21,25 @@ use Rattle.line.specs.Lines.{codePaper}
 use Rattle.engine.specs.State.{emptied, ceased}
 use Rattle.board.specs.declared.Board.{Board}
 use Rattle.board.specs.State.{board, noLine, said}
-use Rattle.board.specs.Storing.{recordOf, recordReply, recordSaid, endSaid, storedBy}
+use Rattle.board.specs.Storing.{recordOf, recordReply, recordSaid, namedFault, endSaid, storedBy}
 
--- THE END LINE replies the number of the verdict
-pub end-paper : (b : Board) (store : List ℕ) → endSaid b store .reply ≡ verdictPaper (verdictOf (b .engine .held) store) .number ∷ []
+-- the values of a verdict on paper, as they are sent: a letter, and a place as four digits
+abbrev pub whole : ℤ → ℕ
+whole (pos n) = n
+whole (negsuc n) = n
+
+abbrev pub spelled : List ℤ → List ℕ
+spelled [] = []
+spelled (letter ∷ l) = whole letter ∷ fourDigits (whole (getD l 0 (pos 0)))
+
+-- THE END LINE replies the number of the verdict, and behind it the letter and the place, if it has them
+pub end-paper : (b : Board) (store : List ℕ)
+    → endSaid b store .reply ≡ verdictPaper (verdictOf (b .engine .held) store) .number ∷ spelled (verdictPaper (verdictOf (b .engine .held) store) .values)
 end-paper b store =
     by (board (ceased (b .engine)) (b .standing) noLine) (board (ceased (emptied (b .engine))) (b .standing) noLine) (verdictOf (b .engine .held) store)
   where
-    by : (c d : Board) (v : Verdict) → pick (isSound v) (said c (48 ∷ []) store) (said d (71 ∷ []) store) .reply ≡ verdictPaper v .number ∷ []
+    by : (c d : Board) (v : Verdict)
+        → pick (isSound v) (said c (48 ∷ []) store) (said d (71 ∷ namedFault v) store) .reply ≡ verdictPaper v .number ∷ spelled (verdictPaper v .values)
     by c d verdict.Sound = refl
     by c d (verdict.Fault l p) = refl
     by c d verdict.Unreadable = refl

@@ -1,4 +1,4 @@
--- The replies of P and b as the code writes them, part after part, are the texts at the front of the buffer. Assumes nothing.
+-- The replies of P, b and the end line as the code writes them, part after part, are the texts at the front of the buffer. Assumes nothing.
 use Prim.Native.Nat.{ℕ, suc, _+_, _-_, _≤_}
 use mathlib.Core.Path.{_≡_, refl, sym, ap, _∙_}
 use mathlib.Core.List.{List, [], _∷_, _++_, append-assoc}
@@ -8,7 +8,7 @@ use borrow.Rule.Slice.PartMut.{putMid}
 use lib.ListN.{length, take, drop, set, length-set, length-append, length-drop}
 use lib.Seq.{take-at, drop-at, drop-drop, set-split, length-take-le}
 use Rattle.count.proofs.laws.Lists.{rest, to-end, set-front, drop-one}
-use Rattle.count.specs.Text.{Written, written, wrote, report, twoHex, hexes}
+use Rattle.count.specs.Text.{Written, written, wrote, report, twoHex, hexes, fourDigits, decimals}
 use Rattle.board.specs.work.Work.{putOf}
 
 -- ---- a text where there is room for it
@@ -34,6 +34,10 @@ pub length-two : (b : ℕ) → length (twoHex b) ≡ 2
 unfolding twoHex hexes
 length-two b = refl
 
+pub length-four : (p : ℕ) → length (fourDigits p) ≡ 4
+unfolding fourDigits decimals
+length-four p = refl
+
 put-as : (t s : List ℕ) {x : List ℕ} (n : ℕ) → length t ≡ n → x ≡ t ++ drop n s → written n x ≡ putOf t s
 put-as t s n l e = ap (λ (y : List ℕ). written n y) e ∙ ap (λ (k : ℕ). written k (t ++ drop k s)) (sym l)
 
@@ -51,6 +55,22 @@ port-put s ys b n h e =
     let p : ys ≡ twoHex b ++ drop 2 (drop 1 s) = text-behind s ys (twoHex b) 1 2 n (omega arith) e ∙ rw l in
     let q : set (putMid 1 (length s - 1) s ys) 0 48 ≡ (48 ∷ twoHex b) ++ drop 3 s = set-front s ys 48 (omega arith) ∙ rw (p, drop-one 2 s) in
     put-as (48 ∷ twoHex b) s 3 (ap suc l) q
+
+-- ---- G, a letter and a place
+
+-- a part from the third element on has come back, and then the first two are set
+set-two : (s ys : List ℕ) (x y : ℕ) → 2 ≤ length s → set (set (putMid 2 (length s - 2) s ys) 0 x) 1 y ≡ x ∷ y ∷ ys
+set-two [] ys x y h = absurd (omega arith)
+set-two (a ∷ []) ys x y h = absurd (omega arith)
+set-two (a ∷ b ∷ s) ys x y h = ap (λ (l : List ℕ). set (set l 0 x) 1 y) (to-end 2 (a ∷ b ∷ s) ys)
+
+pub fault-put : (s ys : List ℕ) (l p n : ℕ) → 32 ≤ length s → written n ys ≡ wrote 4 (fourDigits p) (take (length s - 2) (drop 2 s))
+    → written 6 (set (set (putMid 2 (length s - 2) s ys) 0 71) 1 l) ≡ putOf (71 ∷ l ∷ fourDigits p) s
+fault-put s ys l p n h e =
+    let f = length-four p in
+    let t : ys ≡ fourDigits p ++ drop 4 (drop 2 s) = text-behind s ys (fourDigits p) 2 4 n (omega arith) e ∙ rw f in
+    let q : set (set (putMid 2 (length s - 2) s ys) 0 71) 1 l ≡ (71 ∷ l ∷ fourDigits p) ++ drop 6 s = set-two s ys 71 l (omega arith) ∙ rw (t, drop-drop 4 2 s) in
+    put-as (71 ∷ l ∷ fourDigits p) s 6 (ap (λ (k : ℕ). suc (suc k)) f) q
 
 -- ---- 0 and the three positions
 

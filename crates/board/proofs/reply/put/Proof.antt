@@ -24,6 +24,12 @@ enum-known-say-2 c = search needs
 put-port-requires : tie.Need-put-port-requires
 put-port-requires c κs = search needs
 
+enum-known-say-3 : tie.Need-enum-known-say-3
+enum-known-say-3 c = search needs
+
+put-fault-requires : tie.Need-put-fault-requires
+put-fault-requires c κs = search needs
+
 returns : tie.Need-returns
 returns c = simp (c .enum-told .given .1)
 
@@ -45,6 +51,12 @@ same-length-3 c = search needs
 returns-4 : tie.Need-returns-4
 returns-4 c = simp (c .before .before .before .before .before .say2 .given .1, c .before .before .put-port .ensures)
 
+same-length-4 : tie.Need-same-length-4
+same-length-4 c = search needs
+
+returns-5 : tie.Need-returns-5
+returns-5 c = simp (c .before .before .before .before .before .say3 .given .1, c .before .before .put-fault .ensures)
+
 pub put-spec : {M : Type 1} → statement M
 put-spec =
     tie.close
@@ -56,10 +68,14 @@ put-spec =
     put-positions-requires
     enum-known-say-2
     put-port-requires
+    enum-known-say-3
+    put-fault-requires
     returns
     same-length
     returns-2
     same-length-2
     returns-3
     same-length-3
-    returns-4)
+    returns-4
+    same-length-4
+    returns-5)

@@ -1,9 +1,10 @@
 //! `pace`: makes the calls that its input asks for and counts them, for `bench/run`. It reads at most
-//! 65,536 bytes. Byte 0 asks for a listing, byte 1 for 1,000 conversions of the sheet; any other is
-//! received, and clock calls follow it until one answers nothing.
+//! 65,536 bytes. Byte 0 asks for a listing, byte 1 for 1,000 conversions of the sheet and byte 2 for the
+//! check of the stored program; any other is received, and clock calls follow it until one answers nothing.
 
 use std::io::{self, Read};
 use trial::board::{Answer, Board};
+use trial::check::{self, Verdict};
 use trial::lister::TEXT;
 use trial::record::STORE;
 use trial::sheet::{self, Axis, Speed};
@@ -28,6 +29,7 @@ impl Pace {
         match byte {
             0 => self.list(),
             1 => self.convert_all(),
+            2 => self.check(),
             _ => {
                 self.receive(byte);
                 self.run();
@@ -60,6 +62,16 @@ impl Pace {
     fn list(&mut self) {
         let len = self.board.list(&self.store, &mut self.text).unwrap_or(0);
         self.count(1, len as u64);
+    }
+
+    fn check(&mut self) {
+        let board = &self.board;
+        let found = match check::check(&self.store, board.used as usize, board.store_axes, board.records) {
+            Verdict::Accepted => 1,
+            Verdict::Faulty(fault) => 2 + fault.letter as u64 + fault.place as u64,
+            Verdict::Unreadable => 0,
+        };
+        self.count(1, found);
     }
 
     fn convert_all(&mut self) {

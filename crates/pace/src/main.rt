@@ -1,10 +1,11 @@
 // `pace`: makes the calls that its input asks for and counts them, so that `bench/run` can measure the calls alone. It reads at most
-// 65,536 bytes. Byte 0 asks for a listing and byte 1 for 1,000 conversions of the sheet; any other is received, and clock calls follow
-// it until one answers nothing.
+// 65,536 bytes. Byte 0 asks for a listing, byte 1 for 1,000 conversions of the sheet and byte 2 for the check of the stored program; any
+// other is received, and clock calls follow it until one answers nothing.
 use board::Board;
 use engine::Answer;
 use libc::STDIN_FILENO;
 use libc::STDOUT_FILENO;
+use program::Verdict;
 use sheet::Axis;
 use sheet::Converted;
 use sheet::Rate;
@@ -68,6 +69,27 @@ fn receive(pace: Pace, byte: u8, store: &mut [u8]) -> Pace {
     }
 }
 
+// What a verdict adds to the sum.
+fn found(verdict: Verdict) -> u64 {
+    match verdict {
+        Verdict::Sound => 1,
+        Verdict::Fault(letter, place) => 2 + letter as u64 + place as u64,
+        Verdict::Unreadable => 0,
+    }
+}
+
+// The check of the stored program, as the end line makes it.
+fn check(pace: Pace, store: &[u8]) -> Pace {
+    let board = pace.board;
+    let e = board.engine;
+    let f = found(program::check(store, e.held));
+    Pace {
+        board,
+        calls: plus(pace.calls, 1),
+        sum: plus(pace.sum, f),
+    }
+}
+
 fn list(pace: Pace, store: &[u8], text: &mut [u8]) -> Pace {
     let board = pace.board;
     let listed = board.list(store, text);
@@ -123,6 +145,9 @@ fn take_byte(pace: Pace, byte: u8, store: &mut [u8], text: &mut [u8]) -> Pace {
     }
     if byte == 1 {
         return convert_all(pace);
+    }
+    if byte == 2 {
+        return check(pace, store);
     }
     let heard = receive(pace, byte, &mut *store);
     run(heard, store)

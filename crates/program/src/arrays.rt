@@ -59,12 +59,18 @@ pub(crate) fn mark_of(p: u16) -> u32
 pub(crate) fn outside(kinds: &[u8], offsets: &[u16], n: u16, p: u16) -> bool
     ensures { λ r. ⌜ r ≡ outside (turnIn (now (kinds .entry))) (farIn (now (offsets .entry))) n p ⌝ }
 {
-    let f = far(offsets, p);
-    is_turn(kinds, p) & ((f < 32768) | (mark_of(n) < f))
+    if is_turn(kinds, p) {
+        let f = far(offsets, p);
+        return (f < 32768) | (mark_of(n) < f);
+    }
+    false
 }
 
 pub(crate) fn early(kinds: &[u8], offsets: &[u16], p: u16) -> bool
     ensures { λ r. ⌜ r ≡ early (loopIn (now (kinds .entry))) (farIn (now (offsets .entry))) p ⌝ }
 {
-    is_loop(kinds, p) & (far(offsets, p) < 32768)
+    if is_loop(kinds, p) {
+        return far(offsets, p) < 32768;
+    }
+    false
 }

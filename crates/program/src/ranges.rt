@@ -24,7 +24,10 @@ pub(crate) fn place_of(m: u32) -> u32
 pub(crate) fn is_range(kinds: &[u8], offsets: &[u16], i: u16) -> bool
     ensures { λ r. ⌜ r ≡ ranged (loopIn (now (kinds .entry))) (farIn (now (offsets .entry))) i ⌝ }
 {
-    is_loop(kinds, i) & (far(offsets, i) <= mark_of(i))
+    if is_loop(kinds, i) {
+        return far(offsets, i) <= mark_of(i);
+    }
+    false
 }
 
 // The mark where the range of place `i` starts; where it has none, the one behind the place.
@@ -41,7 +44,10 @@ pub(crate) fn start_of(kinds: &[u8], offsets: &[u16], i: u16) -> u32
 fn reaches(kinds: &[u8], offsets: &[u16], i: u16, s: u32) -> bool
     ensures { λ r. ⌜ r ≡ reach (loopIn (now (kinds .entry))) (farIn (now (offsets .entry))) s i ⌝ }
 {
-    is_loop(kinds, i) & (far(offsets, i) < s)
+    if is_loop(kinds, i) {
+        return far(offsets, i) < s;
+    }
+    false
 }
 
 // Of the note of a place: the first loop behind it whose range starts before its own.

@@ -12,7 +12,11 @@ far-requires c κs = search needs
 
 returns : tie.Need-returns
 unfolding early
-returns c = cc
+returns c = rw (← c .before .before .is-loop .ensures, c .before .if1 .taken, ← c .far .ensures)
+
+returns-2 : tie.Need-returns-2
+unfolding early
+returns-2 c = rw (← c .before .is-loop .ensures, c .if1 .left)
 
 pub early-spec : {M : Type 1} → statement M
-early-spec = tie.close (tie.spec is-loop-requires far-requires returns)
+early-spec = tie.close (tie.spec is-loop-requires far-requires returns returns-2)

@@ -15,7 +15,12 @@ mark-of-requires c κs = search needs
 
 returns : tie.Need-returns
 unfolding ranged
-returns c = cc
+returns c = rw (← c .before .before .before .is-loop .ensures, c .before .before .if1 .taken, ← c .before .far .ensures, ← c .mark-of .ensures)
+
+returns-2 : tie.Need-returns-2
+unfolding ranged
+returns-2 c = rw (← c .before .is-loop .ensures, c .if1 .left)
 
 pub is-range-spec : {M : Type 1} → statement M
-is-range-spec = tie.close (tie.spec is-loop-requires far-requires mark-of-requires returns)
+is-range-spec =
+    tie.close (tie.spec is-loop-requires far-requires mark-of-requires returns returns-2)

@@ -4,6 +4,7 @@ pub mod FakesBytes
 pub mod FakesCore
 pub mod FakesCount
 pub mod FakesFollows
+pub mod FakesNamed
 pub mod FakesRoute
 pub mod FakesSpaces
 pub mod FakesStop
@@ -19,6 +20,7 @@ pub mod KeepsChain
 pub mod KeepsEnd
 pub mod KeepsEvents
 pub mod KeepsLines
+pub mod KeepsNamed
 pub mod KeepsNumbers
 pub mod KeepsOn
 pub mod KeepsPulses

@@ -1,6 +1,6 @@
 -- The machines of the fakes: 01's five ("How tight the statements are"), the fourth in both its readings, and others that the demands must
 -- shut out. Each is ours but for the one thing that it does wrong; the files Fakes.. of proofs/laws show which demand it fails.
-use Prim.Native.Nat.{ℕ, _+_}
+use Prim.Native.Nat.{ℕ, zero, suc, _+_}
 use mathlib.Core.Bool.{Bool, false, not, _&&_, _||_}
 use mathlib.Core.List.{List, [], _∷_, _++_}
 use lib.Dec.{eqb, ltb}
@@ -14,7 +14,13 @@ use Rattle.sheet.specs.declared.Converted.{Converted}
 use Rattle.sheet.specs.Chain.{results, chained, chainOf}
 use Rattle.motion.specs.declared.Counters.{Counters}
 use Rattle.motion.specs.Next.{pulseOf}
-use Rattle.record.specs.Places.{fetchOf}
+use Rattle.record.specs.declared.Record.{Record}
+use Rattle.record.specs.Places.{Records, recordsOf, fetchOf}
+use Rattle.record.specs.Places.Records.{are, none-are}
+use Rattle.program.specs.declared.Verdict.{Verdict}
+use Rattle.program.specs.declared.Verdict.the-variants.{Sound, Fault, Unreadable}
+use Rattle.program.specs.Check.{letter, faultFrom}
+use Rattle.program.specs.Program.{loopAt, turnAt, targetAt}
 use Rattle.line.specs.Spaces.{unspaced}
 use Rattle.engine.specs.declared.Answer.the-variants as answer
 use Rattle.engine.specs.declared.Job.{Job}
@@ -24,11 +30,13 @@ use Rattle.engine.specs.Tick.{ticked, runsOf}
 use Rattle.board.specs.declared.Board.{Board}
 use Rattle.board.specs.declared.Ticked.{Ticked}
 use Rattle.board.specs.State.{board, textOf, lineDone}
+use Rattle.board.specs.Storing.{namedFault}
 use Rattle.board.specs.Receive.{hearing, stopCode}
 use Rattle.board.specs.Calls.{Outcome, refused, answered, clocked, wentOn, receiving, clocking, fresh}
 use Rattle.course.specs.Walk.{noStore}
 use Rattle.promise.specs.Machine.{Machine, Lent, Heard, Clocked, lent, heardBy, clockedBy, ours}
 use Rattle.promise.specs.Demands.{idles, stores}
+use Rattle.promise.specs.Named.{faulty}
 use Rattle.promise.specs.Stop.{stoppable}
 use Rattle.promise.specs.Chain.{Chaining}
 use Rattle.promise.specs.Route.{comes}
@@ -190,6 +198,45 @@ lossy b o = (o .result .board, record { len = o .result .len; refusal = o .resul
 
 abbrev pub losesBytes : Machine
 losesBytes = hearsSo (λ v ports l b. lossy b (receiving v ports b (l .reply) (l .store)))
+
+-- ---- the fault that the end line names (02 §1)
+
+-- a reply, and both buffers else as given
+abbrev saysText : List ℕ → Lent → Heard
+saysText t l = record { len = length t; refusal = 0; after = lent (t ++ drop (length t) (l .reply)) (l .store) }
+
+abbrev toldOn : (List Record → Verdict) → Records → Verdict
+toldOn f (are l) = f l
+toldOn f none-are = Unreadable
+
+-- where ours names a fault, which is where a reply has six bytes, this one says another verdict on the program
+abbrev pub renamed : (List Record → Verdict) → Lent → Board → Board × Heard → Board × Heard
+renamed f l b x =
+    pick (eqb (x .1 .len) 6) (x .0, saysText (ch "G" ∷ namedFault (toldOn f (recordsOf (b .engine .held) (l .store)))) l) x
+
+abbrev renames : (List Record → Verdict) → Machine
+renames f = hearsSo (λ v ports l b. renamed f l b (ours .hear v ports l b))
+
+-- the board before: a single G, as for a store that is not readable
+abbrev pub bare : Machine
+bare = renames (λ l. Unreadable)
+
+-- it names the largest faulty place
+abbrev pub lastFault : (ℕ → ℕ) → ℕ → Verdict
+lastFault f zero = Sound
+lastFault f (suc k) = pick (eqb (f k) 0) (lastFault f k) (Fault (f k) k)
+
+abbrev pub largest : Machine
+largest = renames (λ l. lastFault (letter (loopAt l) (turnAt l) (targetAt l) (length l)) (length l))
+
+-- at one place it names the later letter
+abbrev pub laterLetter : List Record → ℕ → ℕ
+laterLetter l p =
+    pick (faulty l (ch "e") p) (ch "e")
+    (pick (faulty l (ch "d") p) (ch "d") (pick (faulty l (ch "c") p) (ch "c") (pick (faulty l (ch "b") p) (ch "b") (pick (faulty l (ch "a") p) (ch "a") 0))))
+
+abbrev pub later : Machine
+later = renames (λ l. faultFrom (laterLetter l) (length l) 0)
 
 -- ---- spaces after commas (02 §8)
 

@@ -37,13 +37,13 @@ abbrev pub Faultless : List Record → Type 0
 Faultless l = (p k : ℕ) → p < length l → faulty l k p ≡ false
 
 -- what the end line replies on a store, and what that says
-pub data EndReply (h : Held) (store : List ℕ) : List ℕ → Type 0 where
+pub data EndReply (h : Held) (store reply : List ℕ) : Type 0 where
   -- 0: it is readable, and no place has a fault
-  passed : (l : List Record) → recordsOf h store ≡ are l → Faultless l → EndReply h store (ch "0" ∷ [])
+  passed : (l : List Record) → recordsOf h store ≡ are l → Faultless l → reply ≡ ch "0" ∷ [] → EndReply h store reply
   -- six characters: the fault that is named
-  failed : (l : List Record) (letter p : ℕ) → recordsOf h store ≡ are l → Named l letter p → EndReply h store (ch "G" ∷ letter ∷ fourDigits p)
+  failed : (l : List Record) (letter p : ℕ) → recordsOf h store ≡ are l → Named l letter p → reply ≡ ch "G" ∷ letter ∷ fourDigits p → EndReply h store reply
   -- a single G: it is not readable
-  unreadable : recordsOf h store ≡ none-are → EndReply h store (ch "G" ∷ [])
+  unreadable : recordsOf h store ≡ none-are → reply ≡ ch "G" ∷ [] → EndReply h store reply
 
 -- any state, ports and buffers
 abbrev pub EndNames : Machine → Type 0

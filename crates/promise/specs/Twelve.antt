@@ -113,15 +113,15 @@ Four =
     let h = told "@01\r@0i\r3 0,5\r51\r51\r51\r51\r01,600\r9\r@0S\r" in
     (h .replies ≡ codes "000000000") × (h .board .engine .run .place ≡ 0) × (ticks 1 h .board .engine .run .place ≡ 5)
 
--- (5) in a two-record field, target 2 passes and 3 is G
+-- (5) in a two-record field, target 2 passes and 3 is G; 02 §1 names it: a at place 0
 abbrev pub Five : Type 0
 Five =
-    (told "@01\r@0i\r3 0,2\r51\r9\r" .replies ≡ codes "00000") × (told "@01\r@0i\r3 0,3\r51\r9\r" .replies ≡ codes "0000G")
+    (told "@01\r@0i\r3 0,2\r51\r9\r" .replies ≡ codes "00000") × (told "@01\r@0i\r3 0,3\r51\r9\r" .replies ≡ codes "0000Ga0000")
 
--- (6) `3 2,-1` directly after `3 25,-1` is G, `3 2,-2` is not
+-- (6) `3 2,-1` directly after `3 25,-1` is G, which 02 §1 names as c at place 2; `3 2,-2` is not
 abbrev pub Six : Type 0
 Six =
-    (told "@01\r@0i\r51\r3 25,-1\r3 2,-1\r9\r" .replies ≡ codes "00000G") × (told "@01\r@0i\r51\r3 25,-1\r3 2,-2\r9\r" .replies ≡ codes "000000")
+    (told "@01\r@0i\r51\r3 25,-1\r3 2,-1\r9\r" .replies ≡ codes "00000Gc0002") × (told "@01\r@0i\r51\r3 25,-1\r3 2,-2\r9\r" .replies ≡ codes "000000")
 
 -- (7) -2 reports FFFFFE
 abbrev pub Seven : Type 0

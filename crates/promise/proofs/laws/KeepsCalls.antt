@@ -60,6 +60,18 @@ module _ (v : ℕ) (ports : List ℕ) (b : Board) (reply store : List ℕ) where
       eqb-true (length store) 16384
       (long-by (ltb (length reply) 32) (not (sound b)) (answered (hearing v ports b store) reply) (eqb (length store) 16384) h)
 
+  sound-by : (x y : Bool) (o : Outcome) (z : Bool)
+      → pick x (refused 101 b reply store) (pick y (refused 102 b reply store) (pick (not z) (refused 103 b reply store) o)) .result .refusal ≡ 0 → z ≡ true
+  sound-by true y o z h = absurd (omega arith)
+  sound-by false true o z h = absurd (omega arith)
+  sound-by false false o true h = refl
+  sound-by false false o false h = absurd (omega arith)
+
+  -- in a state that 103 does not refuse
+  pub calm-sound : receiving v ports b reply store .result .refusal ≡ 0 → sound b ≡ true
+  unfolding receiving
+  calm-sound h = sound-by (ltb (length reply) 32) (not (eqb (length store) 16384)) (answered (hearing v ports b store) reply) (sound b) h
+
   kept-by : (x y z : Bool) (o : Outcome) → o .result .refusal ≡ 0
       → (pick x (refused 101 b reply store) (pick y (refused 102 b reply store) (pick z (refused 103 b reply store) o)) .result .refusal ≡ 0 → ⊥)
       → (pick x (refused 101 b reply store) (pick y (refused 102 b reply store) (pick z (refused 103 b reply store) o)) .result .board ≡ b)

@@ -21,7 +21,7 @@ use Rattle.engine.specs.declared.Job.the-variants as job
 use Rattle.engine.specs.State.{ceased, emptied}
 use Rattle.board.specs.declared.Board.{Board}
 use Rattle.board.specs.State.{board, noLine, textOf, Said, said, sound}
-use Rattle.board.specs.Storing.{endSaid, storedBy, storedSaid}
+use Rattle.board.specs.Storing.{namedFault, endSaid, storedBy, storedSaid}
 use Rattle.engine.specs.Kinds.Ear.{gathers}
 use Rattle.engine.specs.Kinds.{Ear}
 use Rattle.board.specs.Receive.{earBy, earOf, isStoring, returned, gathering, ordinary, hearing}
@@ -30,7 +30,7 @@ use Rattle.board.proofs.laws.Laws.{hearing-sound}
 use Rattle.promise.specs.Machine.{Lent, ours, Event, afterAll}
 use Rattle.promise.specs.Demands.{stores, isNine, endLine, EndAccepts, EndToEnd}
 use Rattle.promise.proofs.laws.KeepsCalls.{calm-store}
-use Rattle.promise.proofs.laws.KeepsReturn.{out-reply, out-board, out-one}
+use Rattle.promise.proofs.laws.KeepsReturn.{out-reply, out-board, out-all}
 use Rattle.promise.proofs.laws.KeepsLines.{nine-end}
 use Rattle.promise.proofs.laws.KeepsTrip.{listed-again}
 use Rattle.promise.proofs.laws.KeepsAxes.{always-written}
@@ -64,7 +64,7 @@ end-parts b e =
     (not-true (b .line .over) (g .0), s .0, not-true (b .standing) (s .1), f .1)
 
 module _ (b : Board) (ports store : List ℕ) (e : endLine b ≡ true) where
-  end-heard : hearing 13 ports b store ≡ endSaid b store
+  pub end-heard : hearing 13 ports b store ≡ endSaid b store
   unfolding hearing earOf gathering returned storedSaid
   end-heard =
       let j = b .engine .run .job in
@@ -80,7 +80,7 @@ module _ (b : Board) (ports store : List ℕ) (e : endLine b ≡ true) where
     where
       by : (x : Bool)
           → getD (pick x (said (board (ceased (b .engine)) (b .standing) noLine) (48 ∷ []) store)
-          (said (board (ceased (emptied (b .engine))) (b .standing) noLine) (71 ∷ []) store) .reply) 0 0 ≡ 48
+          (said (board (ceased (emptied (b .engine))) (b .standing) noLine) (71 ∷ namedFault (verdictOf (b .engine .held) store)) store) .reply) 0 0 ≡ 48
           → x ≡ true
       by true h = refl
       by false h = absurd (omega arith)
@@ -118,7 +118,7 @@ module _ (es : List Event) (ports : List ℕ) (l : Lent) (e : endLine (afterAll 
       × (accepted (here .engine .held) (l .store) ≡ true)
   ended =
       let s = end-said here ports (l .store) e z in
-      let o = out-one 13 ports l here h (board (ceased (here .engine)) (here .standing) noLine) 48 (l .store) (s .1) in
+      let o = out-all 13 ports l here h (board (ceased (here .engine)) (here .standing) noLine) (48 ∷ []) (l .store) (s .1) in
       (o .0, o .2, sound-accepted (here .engine .held) (l .store) (always-written es .1 .axes (end-parts here e .1)) (s .0))
 
 pub keeps-end-accepts : EndAccepts ours

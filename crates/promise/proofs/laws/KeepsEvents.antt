@@ -25,7 +25,7 @@ use Rattle.engine.specs.State.{withHeld, withJob, ceased, emptied, heard, heard
 use Rattle.board.specs.declared.Board.{Board}
 use Rattle.board.specs.State.{board, noLine, textOf, lineDone, Said, said}
 use Rattle.board.specs.Direct.{directSaid}
-use Rattle.board.specs.Storing.{recordOf, recordReply, recordSaid, endSaid, storedBy, storedSaid}
+use Rattle.board.specs.Storing.{recordOf, recordReply, recordSaid, namedFault, endSaid, storedBy, storedSaid}
 use Rattle.engine.specs.Kinds.Ear.{gathers, drops, waits}
 use Rattle.engine.specs.Kinds.{Ear}
 use Rattle.board.specs.Receive.{earBy, earOf, isStoring, returned, gathering, ordinary, hearing, holdsBy, stopped, endsBy, broken, resetSaid}
@@ -97,7 +97,7 @@ module _ (a : Axis) (b : Board) (ports store : List ℕ) where
   end-at : At (b .engine .at) (endSaid b store)
   end-at =
       pick-at (isSound (verdictOf (b .engine .held) store)) (b .engine .at) (said (board (ceased (b .engine)) (b .standing) noLine) (48 ∷ []) store)
-      (said (board (ceased (emptied (b .engine))) (b .standing) noLine) (71 ∷ []) store) refl refl
+      (said (board (ceased (emptied (b .engine))) (b .standing) noLine) (71 ∷ namedFault (verdictOf (b .engine .held) store)) store) refl refl
 
   stored-at : (k : Code) (d : Stored) → At (b .engine .at) (storedBy k d b store)
   stored-at code.Wrong d = refl

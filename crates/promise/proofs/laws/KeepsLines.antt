@@ -33,7 +33,7 @@ use Rattle.engine.specs.Tick.{runsBy, runsOf}
 use Rattle.board.specs.declared.Board.{Board}
 use Rattle.board.specs.State.{board, noLine, textOf, lineDone, Said, said}
 use Rattle.board.specs.Direct.{isWrong, heardStanding, needsAxes, countFits, axesFit, rangesFit, speedsFit, restsOutside, isStart, isOutside, first, replyOf, effectOf, acceptedSaid, directSaid, started-with}
-use Rattle.board.specs.Storing.{recordOf, recordReply, recordSaid, endSaid, storedBy, storedSaid}
+use Rattle.board.specs.Storing.{recordOf, recordReply, recordSaid, namedFault, endSaid, storedBy, storedSaid}
 use Rattle.engine.specs.Kinds.Ear.{gathers}
 use Rattle.board.specs.Receive.{earBy, earOf, isStoring, returned, gathering, ordinary, hearing}
 use Rattle.course.specs.Run.{runsNow}
@@ -43,7 +43,7 @@ use Rattle.promise.specs.Demands.{isIdle, isWaiting, idles, stores, isNi
 
 pub data Came (b : Board) (store : List ℕ) (x : Said) : Type 0 where
   refused : (c : ℕ) → (c ≡ 48 → ⊥) → endLine b ≡ false → x ≡ said (lineDone b) (c ∷ []) store → Came b store x
-  failed : endLine b ≡ true → x ≡ said (unstored b) (71 ∷ []) store → Came b store x
+  failed : endLine b ≡ true → x ≡ said (unstored b) (71 ∷ namedFault (verdictOf (b .engine .held) store)) store → Came b store x
   zeroed : (t : List ℕ) → x .reply ≡ 48 ∷ t → eqb (length (x .reply)) 1 || eqb (length (x .reply)) 3 || eqb (length (x .reply)) 19 ≡ true → Came b store x
   still : x .reply ≡ [] → Silent b (x .board) → Came b store x
 
@@ -199,7 +199,7 @@ module _ (b : Board) (store : List ℕ) (q : endLine b ≡ isNine (textOf (b .li
   end-came n = by (isSound (verdictOf (b .engine .held) store))
     where
       by : (z : Bool) → Came b store (pick z (said (board (ceased (b .engine)) (b .standing) noLine) (48 ∷ []) store)
-          (said (board (ceased (emptied (b .engine))) (b .standing) noLine) (71 ∷ []) store))
+          (said (board (ceased (emptied (b .engine))) (b .standing) noLine) (71 ∷ namedFault (verdictOf (b .engine .held) store)) store))
       by true = zeroed [] refl refl
       by false = failed (q ∙ n) refl
 

@@ -6,13 +6,15 @@ use mathlib.Core.List.{List, [], _∷_, _++_}
 use native.Mathlib.Omega.{arith}
 use borrow.Author.Tests.{eqb-true}
 use lib.Dec.{eqb}
-use lib.ListN.{length, take, drop}
+use lib.ListN.{length, getD, take, drop}
 use lib.Seq.{take-append-seam}
 use Rattle.count.specs.Pick.{pick}
 use Rattle.count.proofs.laws.Truth.{never}
+use Rattle.program.specs.Program.{verdictOf}
 use Rattle.board.specs.declared.Board.{Board}
 use Rattle.engine.specs.State.{ceased}
 use Rattle.board.specs.State.{board, gathered, withLine, lineDone, Said, said}
+use Rattle.board.specs.Storing.{namedFault}
 use Rattle.engine.specs.Kinds.Ear.{gathers, drops, waits}
 use Rattle.engine.specs.Kinds.{Ear}
 use Rattle.board.specs.Receive.{earOf, gathering, ordinary, hearing, holdsBy, stopped, endsBy, broken, resetSaid}
@@ -43,11 +45,11 @@ module _ (v : ℕ) (ports : List ℕ) (l : Lent) (s : Board) (h : receiving v po
   pub out-len : out .result .len ≡ length (heardSaid .reply)
   out-len = ap (λ (o : Outcome). o .result .len) out-so
 
-  -- a reply of one byte, and the store's bytes
-  pub out-one : (b′ : Board) (d : ℕ) (store : List ℕ) → heardSaid ≡ said b′ (d ∷ []) store
-      → (out .result .board ≡ b′) × (out .reply ≡ d ∷ drop 1 (l .reply)) × (out .store ≡ store)
-  out-one b′ d store q =
-      let r : out .reply ≡ d ∷ drop 1 (l .reply) =
+  -- the reply in its buffer, and the store's bytes
+  pub out-all : (b′ : Board) (t store : List ℕ) → heardSaid ≡ said b′ t store
+      → (out .result .board ≡ b′) × (out .reply ≡ t ++ drop (length t) (l .reply)) × (out .store ≡ store)
+  out-all b′ t store q =
+      let r : out .reply ≡ t ++ drop (length t) (l .reply) =
       ap (λ (o : Outcome). o .reply) out-so ∙ ap (λ (x : Said). x .reply ++ drop (length (x .reply)) (l .reply)) q in
       (out-board ∙ ap (λ (x : Said). x .board) q, r, ap (λ (o : Outcome). o .store) out-so ∙ ap (λ (x : Said). x .store) q)
 
@@ -61,24 +63,25 @@ module _ (ports : List ℕ) (l : Lent) (s : Board) (c : ℕ) (t : List ℕ) (h :
       → Untouched s (outcome .result .board) l (lent (outcome .reply) (outcome .store)) c t
   untouched (refused d n f q) e z =
       let r : d ∷ [] ≡ c ∷ t = sym (ap (λ (x : Said). x .reply) q) ∙ e in
-      let g : d ≡ c = cc in
-      let o = out-one 13 ports l s h (lineDone s) d (l .store) q in
+      let o = out-all 13 ports l s h (lineDone s) (d ∷ []) (l .store) q in
       record {
-        alone = let y : [] ≡ t = cc in sym y;
-        reply = o .1 ∙ ap (λ (x : ℕ). x ∷ drop 1 (l .reply)) g;
-        store = o .2;
+        alone = λ y. sym (ap (λ (x : List ℕ). drop 1 x) r);
         letter = λ y. never (sym f ∙ y);
+        named = λ y. never (sym f ∙ y);
+        reply = o .1 ∙ ap (λ (x : List ℕ). x ++ drop (length x) (l .reply)) r;
+        store = o .2;
         board = o .0 ∙ ap (λ (x : Bool). pick x (unstored s) (lineDone s)) (sym f);
       }
   untouched (failed f q) e z =
-      let r : 71 ∷ [] ≡ c ∷ t = sym (ap (λ (x : Said). x .reply) q) ∙ e in
-      let g : 71 ≡ c = cc in
-      let o = out-one 13 ports l s h (unstored s) 71 (l .store) q in
+      let r : 71 ∷ namedFault (verdictOf (s .engine .held) (l .store)) ≡ c ∷ t = sym (ap (λ (x : Said). x .reply) q) ∙ e in
+      let m : t ≡ namedFault (verdictOf (s .engine .held) (l .store)) = sym (ap (λ (x : List ℕ). drop 1 x) r) in
+      let o = out-all 13 ports l s h (unstored s) (71 ∷ namedFault (verdictOf (s .engine .held) (l .store))) (l .store) q in
       record {
-        alone = let y : [] ≡ t = cc in sym y;
-        reply = o .1 ∙ ap (λ (x : ℕ). x ∷ drop 1 (l .reply)) g;
+        alone = λ y. never (sym y ∙ f);
+        letter = λ y. sym (ap (λ (x : List ℕ). getD x 0 0) r);
+        named = λ y. rw m;
+        reply = o .1 ∙ ap (λ (x : List ℕ). x ++ drop (length x) (l .reply)) r;
         store = o .2;
-        letter = λ y. sym g;
         board = o .0 ∙ ap (λ (x : Bool). pick x (unstored s) (lineDone s)) (sym f);
       }
   untouched (zeroed u p n) e z =
@@ -103,7 +106,9 @@ keeps-silent-return ports l s h e = rw (out-board 13 ports l s h) (by (came s po
 
     by : Came s (l .store) (hearing 13 ports s (l .store)) → Silent s (hearing 13 ports s (l .store) .board)
     by (refused d m f q) = let r : length (hearing 13 ports s (l .store) .reply) ≡ 1 = ap (λ (x : Said). length (x .reply)) q in absurd (omega (arith, n))
-    by (failed f q) = let r : length (hearing 13 ports s (l .store) .reply) ≡ 1 = ap (λ (x : Said). length (x .reply)) q in absurd (omega (arith, n))
+    by (failed f q) =
+        let r : length (hearing 13 ports s (l .store) .reply) ≡ suc (length (namedFault (verdictOf (s .engine .held) (l .store)))) = ap (λ (x : Said). length (x .reply)) q in
+        absurd (omega (arith, n))
     by (zeroed u p m) = let r : length (hearing 13 ports s (l .store) .reply) ≡ suc (length u) = ap length p in absurd (omega (arith, n))
     by (still p m) = m
 
@@ -157,8 +162,8 @@ keeps-accepted-line v ports l s t h e = by (eqb v 13) refl
         let w : d ≡ 48 = cc in
         absurd (m w)
     long (failed f q) =
-        let y : 71 ∷ [] ≡ 48 ∷ t = sym (ap (λ (x : Said). x .reply) q) ∙ r in
-        let w : _≡_ {A = ℕ} 71 48 = cc in
+        let y : 71 ∷ namedFault (verdictOf (s .engine .held) (l .store)) ≡ 48 ∷ t = sym (ap (λ (x : Said). x .reply) q) ∙ r in
+        let w : _≡_ {A = ℕ} 71 48 = ap (λ (x : List ℕ). getD x 0 0) y in
         absurd (omega arith)
     long (zeroed u p m) = m
     long (still p m) =

@@ -33,7 +33,7 @@ use Rattle.engine.proofs.laws.Runs.{accepted-list}
 use Rattle.board.specs.declared.Board.{Board}
 use Rattle.board.specs.State.{board, noLine, said, sound}
 use Rattle.board.specs.Direct.{first}
-use Rattle.board.specs.Storing.{recordReply, recordSaid, storedSaid}
+use Rattle.board.specs.Storing.{recordReply, recordSaid, namedFault, storedSaid}
 use Rattle.board.specs.Receive.{earOf, returned, gathering, hearing}
 use Rattle.board.specs.Calls.{fresh, listing}
 use Rattle.board.proofs.laws.Hears.{sound-engine}
@@ -83,7 +83,7 @@ module _ (axes : ℕ) (h : Held) (store : List ℕ) where
   unfolding storedSaid
   end-said ports s =
       stored-here (57 ∷ []) ports (omega arith) ∙ ap (λ (d : Stored). storedSaid d (here (57 ∷ [])) store) stored-end
-      ∙ ap (λ (x : Bool). pick x (said (board (restingWith axes h) false noLine) (48 ∷ []) store) (said (board (restingWith axes nothingHeld) false noLine) (71 ∷ []) store)) s
+      ∙ ap (λ (x : Bool). pick x (said (board (restingWith axes h) false noLine) (48 ∷ []) store) (said (board (restingWith axes nothingHeld) false noLine) (71 ∷ namedFault (verdictOf h store)) store)) s
 
   -- room for one record more
   room-stored : (r : Record) → hasRoom h (length (encode r)) (length store) ≡ true

@@ -31,7 +31,7 @@ use Rattle.board.specs.declared.Line.{Line}
 use Rattle.board.specs.declared.Board.{Board}
 use Rattle.board.specs.State.{board, noLine, textOf, gathered, lineDone, Said, said}
 use Rattle.board.specs.Direct.{needsAxes, replyOf, effectOf, acceptedSaid, directSaid}
-use Rattle.board.specs.Storing.{recordReply, recordOf, storedBy, storedSaid}
+use Rattle.board.specs.Storing.{recordReply, recordOf, namedFault, storedBy, storedSaid}
 use Rattle.board.specs.Receive.{isStoring, returned, gathering}
 use Rattle.promise.specs.Stop.{restsBy}
 use Rattle.promise.proofs.laws.KeepsLines.{row-facts}
@@ -99,7 +99,7 @@ module _ (ports : List ℕ) (e : Engine) (l : Line) (store : List ℕ) (r : rest
       (said (lineDone b) (recordReply (e .held) k store ∷ []) store) (λ q. still q) (λ q. still q)
   stored-axed code.End d =
       pick-after (isSound (verdictOf (e .held) store)) (said (board (ceased e) false noLine) (48 ∷ []) store)
-      (said (board (ceased (emptied e)) false noLine) (71 ∷ []) store) (λ q. absurd (true≢false q)) (λ q. absurd (true≢false q))
+      (said (board (ceased (emptied e)) false noLine) (71 ∷ namedFault (verdictOf (e .held) store)) store) (λ q. absurd (true≢false q)) (λ q. absurd (true≢false q))
 
   return-axed : After (returned ports b store)
   unfolding returned storedSaid

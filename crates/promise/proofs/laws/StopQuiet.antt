@@ -21,7 +21,7 @@ use Rattle.board.specs.declared.Line.{Line}
 use Rattle.board.specs.declared.Board.{Board}
 use Rattle.board.specs.State.{board, noLine, textOf, gathered, lineDone, Said, said}
 use Rattle.board.specs.Direct.{replyOf, effectOf, acceptedSaid, directSaid}
-use Rattle.board.specs.Storing.{recordReply, recordOf, recordSaid, endSaid, storedBy, storedSaid}
+use Rattle.board.specs.Storing.{recordReply, recordOf, recordSaid, namedFault, endSaid, storedBy, storedSaid}
 use Rattle.board.specs.Receive.{isStoring, returned, gathering}
 use Rattle.promise.proofs.laws.StopBoard.{twinBoard, Clear, Fit, fit-of, gathered-short, left}
 
@@ -92,7 +92,7 @@ module _ (ports : List ℕ) (e : Engine) (l : Line) (store : List ℕ) where
       yes′ = said (board (ceased e) false noLine) (48 ∷ []) store
 
       no′ : Said
-      no′ = said (board (ceased (emptied e)) false noLine) (71 ∷ []) store
+      no′ = said (board (ceased (emptied e)) false noLine) (71 ∷ namedFault (verdictOf (e .held) store)) store
 
       by : (c : Bool) → Quiet (left (pick c yes′ no′)) (left (pick c yes′ no′))
       by true = quiet-of _ _

@@ -1,4 +1,4 @@
--- (3) to (6) of 01's list, computed on the definitions. Assumes nothing.
+-- (3) to (6) of 01's list and what 02 §1 names, computed on the definitions. Assumes nothing.
 use Prim.Native.Nat.{ℕ}
 use mathlib.Core.Bool.{false}
 use mathlib.Core.List.{List, [], _∷_}
@@ -62,3 +62,22 @@ pub overlap : (reply (other ∷ three 25 4294967295 ∷ three 2 4294967295 ∷ [
     × (reply (other ∷ three 25 4294967295 ∷ other ∷ three 2 4294967295 ∷ []) ≡ says 48 [])
 unfolding encodeAll encode numBytes bytes4 verdictOf recordsOf recordsFrom front wordsOf wordAt faultOf isCode countRight axesRight rangesRight speedsRight loopRight inOffset inBack inLoop inZero inSwitch signed within checkOf checked letter outside early overlaps crosses share around holders holds strays
 overlap = (refl, refl)
+
+-- ---- 02 §1: which record, and why
+
+-- `3 0,3`, `z0`, `3 1,-5`: the range that starts too early holds places 0 to 2 all the same, so the jump to the end place crosses it
+pub across : reply (three 0 3 ∷ other ∷ three 1 4294967291 ∷ []) ≡ says 71 (pos 101 ∷ pos 0 ∷ [])
+unfolding encodeAll encode numBytes bytes4 verdictOf recordsOf recordsFrom front wordsOf wordAt faultOf isCode countRight axesRight rangesRight speedsRight loopRight inOffset inBack inLoop inZero inSwitch signed within checkOf checked letter outside early overlaps crosses share around holders holds strays
+across = refl
+
+-- the smallest place of two, and the later loop of two whatever stands behind it
+pub smallest : (reply (other ∷ three 0 9 ∷ three 0 9 ∷ []) ≡ says 71 (pos 97 ∷ pos 1 ∷ []))
+    × (reply (other ∷ three 25 4294967295 ∷ three 2 4294967295 ∷ three 0 9 ∷ []) ≡ says 71 (pos 99 ∷ pos 2 ∷ []))
+unfolding encodeAll encode numBytes bytes4 verdictOf recordsOf recordsFrom front wordsOf wordAt faultOf isCode countRight axesRight rangesRight speedsRight loopRight inOffset inBack inLoop inZero inSwitch signed within checkOf checked letter outside early overlaps crosses share around holders holds strays
+smallest = (refl, refl)
+
+-- a jump out of eight ranges: too many hold it, which has the earlier letter; and a place that is no loop is named so too
+pub eight : (reply (three 0 9 ∷ three 1 4294967295 ∷ three 1 4294967294 ∷ three 1 4294967293 ∷ three 1 4294967292 ∷ three 1 4294967291 ∷ three 1 4294967290 ∷ three 1 4294967289 ∷ three 1 4294967288 ∷ []) ≡ says 71 (pos 100 ∷ pos 0 ∷ []))
+    × (reply (other ∷ three 1 4294967295 ∷ three 1 4294967294 ∷ three 1 4294967293 ∷ three 1 4294967292 ∷ three 1 4294967291 ∷ three 1 4294967290 ∷ three 1 4294967289 ∷ three 1 4294967288 ∷ []) ≡ says 71 (pos 100 ∷ pos 0 ∷ []))
+unfolding encodeAll encode numBytes bytes4 verdictOf recordsOf recordsFrom front wordsOf wordAt faultOf isCode countRight axesRight rangesRight speedsRight loopRight inOffset inBack inLoop inZero inSwitch signed within checkOf checked letter outside early overlaps crosses share around holders holds strays
+eight = (refl, refl)

@@ -1,11 +1,10 @@
 // `pace`: makes the calls that its input asks for and counts them, so that `bench/run` can measure the calls alone. It reads at most
-// 65,536 bytes. Byte 0 asks for a listing, byte 1 for 1,000 conversions of the sheet and byte 2 for the check of the stored program; any
-// other is received, and clock calls follow it until one answers nothing.
+// 65,536 bytes. Byte 0 asks for a listing, byte 1 for 1,000 conversions of the sheet and byte 2 for the end line of the stored program once
+// more; any other is received, and clock calls follow it until one answers nothing.
 use board::Board;
 use engine::Answer;
 use libc::STDIN_FILENO;
 use libc::STDOUT_FILENO;
-use program::Verdict;
 use sheet::Axis;
 use sheet::Converted;
 use sheet::Rate;
@@ -69,25 +68,25 @@ fn receive(pace: Pace, byte: u8, store: &mut [u8]) -> Pace {
     }
 }
 
-// What a verdict adds to the sum.
-fn found(verdict: Verdict) -> u64 {
-    match verdict {
-        Verdict::Sound => 1,
-        Verdict::Fault(letter, place) => 2 + letter as u64 + place as u64,
-        Verdict::Unreadable => 0,
+// The board as it was before the end line of its program.
+fn storing(pace: Pace) -> Pace {
+    let mut board = pace.board;
+    let e = board.engine;
+    let begun = e.store();
+    let engine = begun.set_held(e.held);
+    board.engine = engine;
+    Pace {
+        board,
+        calls: pace.calls,
+        sum: pace.sum,
     }
 }
 
-// The check of the stored program, as the end line makes it.
-fn check(pace: Pace, store: &[u8]) -> Pace {
-    let board = pace.board;
-    let e = board.engine;
-    let f = found(program::check(store, e.held));
-    Pace {
-        board,
-        calls: plus(pace.calls, 1),
-        sum: plus(pace.sum, f),
-    }
+// The end line once more, which has the stored program checked.
+fn check(pace: Pace, store: &mut [u8]) -> Pace {
+    let begun = storing(pace);
+    let nine = receive(begun, b'9', &mut *store);
+    receive(nine, b'\r', store)
 }
 
 fn list(pace: Pace, store: &[u8], text: &mut [u8]) -> Pace {

@@ -9,14 +9,13 @@ use Rattle.count.specs.Text.{fourDigits}
 use Rattle.record.specs.declared.Held.{Held}
 use Rattle.record.specs.declared.Record.{Record}
 use Rattle.record.specs.Fault.{countRight, axesRight, rangesRight, speedsRight, numbersReply}
-use Rattle.record.specs.Keep.{Storing, storeOf}
+use Rattle.record.specs.Keep.{storeOf}
 use Rattle.program.specs.declared.Verdict.{Verdict}
 use Rattle.program.specs.declared.Verdict.the-variants.{Sound, Fault, Unreadable}
 use Rattle.program.specs.Program.{verdictOf, isSound}
 use Rattle.line.specs.declared.Code.{Code}
 use Rattle.line.specs.declared.Code.the-variants as code
 use Rattle.line.specs.declared.Stored.{Stored}
-use Rattle.engine.specs.declared.Engine.{Engine}
 use Rattle.engine.specs.State.{withHeld, emptied, ceased}
 use Rattle.board.specs.declared.Board.{Board}
 use Rattle.board.specs.State.{board, noLine, lineDone, Said, said}

@@ -1,13 +1,10 @@
 // Numbers of 24 bits as counts, numbers of lines and records as words, their ranges and their text.
 ghost use mathlib.Core.Path.{_≡_};
-ghost use Prim.Native.Nat.{_<_, _≤_, _%_};
+ghost use Prim.Native.Nat.{_<_};
 ghost use lib.Dec.{ltb};
 ghost use lib.IntN.{pos};
-ghost use lib.ListN.{length};
 ghost use Rattle.count.specs.Pick.{pick};
-ghost use Rattle.count.specs.Numbers.{full, value, signed, word, withSign, in24, placed, added, far};
-ghost use Rattle.count.specs.Ranges.{inSpeed, inOffset, inBack, inLoop, inDelay, inCharacter, inSwitch, inPort, inByte, inZero};
-ghost use Rattle.count.specs.Text.{written, wrote, hexDigit, twos24, report, twoHex, digits, shown};
+ghost use Rattle.count.specs.Numbers.{full, value, signed, word, withSign, placed, added, far};
 
 mod movement;
 mod ranges;

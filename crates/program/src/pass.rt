@@ -1,11 +1,11 @@
 // The check as one pass over the places: the ranges that hold a place are counted on the way.
 ghost use mathlib.Core.Path.{_≡_};
-ghost use mathlib.Core.Bool.{true, false, cond};
+ghost use mathlib.Core.Bool.{false, cond};
 ghost use Prim.Native.Nat.{_≤_, _<_};
 ghost use lib.ListN.{length};
 ghost use Rattle.program.specs.work.Marks.{outside, strays, checked};
 ghost use Rattle.program.specs.work.Work.{loopIn, turnIn, farIn};
-ghost use Rattle.program.specs.work.Ranges.{ranged, opening, fuller, letterBy, Backs, Starts, Counts};
+ghost use Rattle.program.specs.work.Ranges.{opening, fuller, letterBy, Backs, Starts, Counts};
 use crate::Verdict;
 use crate::arrays::early;
 use crate::arrays::far;

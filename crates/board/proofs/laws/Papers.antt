@@ -1,10 +1,8 @@
 -- What a line while storing replies, by what is on paper: the end line by the check's verdict, any other by the line's shape. Assumes
 -- nothing.
-use mathlib.Core.Path.{_≡_, refl, sym, ap, _∙_}
-use mathlib.Core.Bool.{Bool, true, false}
+use mathlib.Core.Path.{_≡_, refl}
 use mathlib.Core.List.{List, [], _∷_}
 use Prim.Native.Nat.{ℕ}
-use lib.Dec.{eqb}
 use lib.IntN.{ℤ, pos, negsuc}
 use lib.ListN.{getD}
 use borrow.Author.Tests.{eq-eqb}
@@ -21,7 +19,7 @@ use Rattle.line.specs.Lines.{codePaper}
 use Rattle.engine.specs.State.{emptied, ceased}
 use Rattle.board.specs.declared.Board.{Board}
 use Rattle.board.specs.State.{board, noLine, said}
-use Rattle.board.specs.Storing.{recordOf, recordReply, recordSaid, namedFault, endSaid, storedBy}
+use Rattle.board.specs.Storing.{recordOf, recordReply, namedFault, endSaid, storedBy}
 
 -- the values of a verdict on paper, as they are sent: a letter, and a place as four digits
 abbrev pub whole : ℤ → ℕ

@@ -1,18 +1,18 @@
 -- Ranges as the code finds and counts them are those of the check: how many hold a place, counted from place to place; which loop is the
 -- first, from a place on, whose range starts before a mark; and what that says of overlaps and of two places. Assumes nothing.
 use Prim.Native.Nat.{ℕ, zero, suc, _+_, _-_, _*_, _≤_, _<_}
-use mathlib.Core.Bool.{Bool, true, false, cond, not, _&&_, _||_, Bool·beq}
+use mathlib.Core.Bool.{Bool, true, false, cond, _&&_, _||_}
 use mathlib.Core.Path.{_≡_, refl, sym, _∙_, ap, subst}
 use native.Mathlib.Omega.{arith}
 use native.Mathlib.Nat.{zero-add}
 use borrow.Author.Tests.{ltb-true, ltb-false, leb-true, leb-false, eqb-true, eqb-false, lt-ltb, le-ltb, le-leb, lt-leb, eq-eqb, ne-eqb}
 use lib.Dec.{ltb, leb, eqb}
 use Rattle.count.specs.Pick.{pick}
-use Rattle.count.proofs.laws.Truth.{never, and-parts, both}
+use Rattle.count.proofs.laws.Truth.{and-parts}
 use Rattle.program.specs.Check.{some, tally}
-use Rattle.program.specs.work.Marks.{mark, holds, meets, overlaps, holders, outside, early, strays, letter}
-use Rattle.program.specs.work.Ranges.{Firstly, fuller, upTo8, ranged, opening, startOf, opens, goesOn, reach, differ, letterBy}
-use Rattle.program.proofs.laws.Clean.{clean-of, holds-yes, holds-parts}
+use Rattle.program.specs.work.Marks.{mark, holds, holders, letter}
+use Rattle.program.specs.work.Ranges.{fuller, upTo8, ranged, opens, goesOn, letterBy}
+use Rattle.program.proofs.laws.Clean.{clean-of}
 
 -- ---- at some place, at how many
 

@@ -1,6 +1,6 @@
 -- `program::first_fault` meets its contract. Assumes nothing.
 use Prim.Native.Nat.{_+_, _-_, _≤_}
-use mathlib.Core.Path.{_≡_, sym, _∙_}
+use mathlib.Core.Path.{_≡_, _∙_}
 use native.Mathlib.Omega.{arith}
 use Rattle.program.specs.Check.{tally, faultFrom}
 use Rattle.program.specs.work.Marks.{letter, checked}

@@ -1,5 +1,4 @@
 -- `program::fuller` meets its contract. Assumes nothing.
-use mathlib.Core.Bool.{_&&_}
 use native.Mathlib.Omega.{arith}
 use lib.Dec.{ltb}
 use borrow.Author.Tests.{ltb-true}

@@ -3,7 +3,7 @@ use Prim.Native.Nat.{_-_, _≤_}
 use mathlib.Core.Path.{sym, _∙_}
 use native.Mathlib.Omega.{arith}
 use Rattle.program.specs.work.Work.{loopIn, farIn}
-use Rattle.program.specs.work.Ranges.{reach, Firstly, startOf}
+use Rattle.program.specs.work.Ranges.{reach}
 use Rattle.program.proofs.laws.Backs.{Passed, passed-none, first-hit, first-end, passed-on, entry-of}
 use borrow.Author.Needs.{needs}
 use Rattle.program.proofs.ranges.first_back.Statement.{statement}

@@ -8,12 +8,12 @@ use native.Mathlib.Omega.{arith}
 use borrow.Author.Tests.{ltb-true, ltb-false, leb-true, eqb-true, eqb-false, lt-ltb, le-ltb, le-leb, lt-leb}
 use lib.Dec.{ltb, leb, eqb}
 use Rattle.count.specs.Pick.{pick}
-use Rattle.count.proofs.laws.Truth.{never, and-parts, both, or-false}
+use Rattle.count.proofs.laws.Truth.{never, and-parts, and-false, both, or-false}
 use Rattle.program.specs.Check.{some}
 use Rattle.program.specs.work.Marks.{mark, holds, meets, overlaps, outside, strays}
 use Rattle.program.specs.work.Ranges.{Firstly, ranged, startOf, backOf, reach, differ, Backs}
 use Rattle.program.proofs.laws.Clean.{holds-yes}
-use Rattle.program.proofs.laws.Ranges.{and-no, some-none, some-one}
+use Rattle.program.proofs.laws.Ranges.{some-none, some-one}
 
 -- nowhere from k on, up to i
 pub record Passed (f : ℕ → Bool) (k i : ℕ) : Type 0 where
@@ -104,7 +104,7 @@ module _ (loop : ℕ → Bool) (far : ℕ → ℕ) where
     -- a range that starts at its own place or behind overlaps none before it
     pub over-none : p ≤ far p - 32768 → overlaps loop far p ≡ false
     unfolding meets
-    over-none h = over-so ∙ some-none p (λ i. meets loop far i (far p)) (λ i l. rw (lt-leb (far p) (mark i) (omega arith), and-no (loop i && ltb (far i) (far p))))
+    over-none h = over-so ∙ some-none p (λ i. meets loop far i (far p)) (λ i l. rw (lt-leb (far p) (mark i) (omega arith), and-false (loop i && ltb (far i) (far p))))
 
     pub over-first : (n r : ℕ) → p < n → Firstly (reach loop far (far p)) (far p - 32768) n r → ltb r p ≡ overlaps loop far p
     unfolding meets reach
@@ -112,7 +112,7 @@ module _ (loop : ℕ → Bool) (far : ℕ → ℕ) where
       where
         none : p ≤ r → (i : ℕ) → i < p → (c : Bool) → leb (far p) (mark i) ≡ c → (loop i && ltb (far i) (far p)) && leb (far p) (mark i) ≡ false
         none h i g true e = let d = leb-true (far p) (mark i) e in rw (f .none i (omega arith) (omega arith))
-        none h i g false e = rw (e, and-no (loop i && ltb (far i) (far p)))
+        none h i g false e = rw (e, and-false (loop i && ltb (far i) (far p)))
 
         by : (t : Bool) → ltb r p ≡ t → t ≡ overlaps loop far p
         by true e =
@@ -144,7 +144,7 @@ module _ (loop : ℕ → Bool) (far : ℕ → ℕ) where
 
   holds-late : (i m : ℕ) → mark i < m → holds loop far i m ≡ false
   unfolding holds
-  holds-late i m h = rw (lt-leb m (mark i) h, and-no (loop i && leb (far i) m))
+  holds-late i m h = rw (lt-leb m (mark i) h, and-false (loop i && leb (far i) m))
 
   holds-short : (i m : ℕ) → reach loop far (m + 1) i ≡ false → holds loop far i m ≡ false
   unfolding holds

@@ -8,7 +8,7 @@ use native.Mathlib.Nat.{zero-add}
 use borrow.Author.Tests.{ltb-true, ltb-false, leb-true, leb-false, eqb-true, eqb-false, lt-ltb, le-ltb, le-leb, lt-leb, eq-eqb, ne-eqb}
 use lib.Dec.{ltb, leb, eqb}
 use Rattle.count.specs.Pick.{pick}
-use Rattle.count.proofs.laws.Truth.{and-parts}
+use Rattle.count.proofs.laws.Truth.{and-parts, and-false}
 use Rattle.program.specs.Check.{some, tally}
 use Rattle.program.specs.work.Marks.{mark, holds, holders, letter}
 use Rattle.program.specs.work.Ranges.{fuller, upTo8, ranged, opens, goesOn, letterBy}
@@ -60,10 +60,6 @@ tally-at (suc k) p b l = at-go k p b (eqb k p) refl l (λ m. tally-at k p b m)
 
 -- ---- the ranges that hold a place: those that hold the place before it too, and those that start there
 
-pub and-no : (a : Bool) → a && false ≡ false
-and-no true = refl
-and-no false = refl
-
 -- a range from mark f to place i, and place p
 module _ (f p i : ℕ) where
   started : leb f (i + 32768) && eqb (f - 32768) p ≡ true → p ≤ i
@@ -94,12 +90,12 @@ module _ (f p i : ℕ) where
       rw (le-leb f (p + 32768) v, le-leb (p + 32768) (i + 32768) (omega arith), le-leb f (i + 32768) (omega arith), z, eq-eqb (f - 32768) p (omega arith))
 
   parts-late : p + 32768 < f → Parts
-  parts-late v = rw (lt-leb f (p + 32768) v, le-ltb (f - 32768) p (omega arith), ne-eqb (f - 32768) p (λ d. omega arith), and-no (leb f (i + 32768)))
+  parts-late v = rw (lt-leb f (p + 32768) v, le-ltb (f - 32768) p (omega arith), ne-eqb (f - 32768) p (λ d. omega arith), and-false (leb f (i + 32768)))
 
   parts-by : (a c : Bool) → leb f (p + 32768) ≡ a → leb p i ≡ c → Parts
   parts-by a false x y =
       let l = leb-false p i y in
-      rw (lt-leb (p + 32768) (i + 32768) (omega arith), y, not-started l, and-no (leb f (p + 32768)), and-no (leb f (i + 32768) && ltb (f - 32768) p))
+      rw (lt-leb (p + 32768) (i + 32768) (omega arith), y, not-started l, and-false (leb f (p + 32768)), and-false (leb f (i + 32768) && ltb (f - 32768) p))
   parts-by true true x y = parts-in (ltb (f - 32768) p) (leb-true p i y) (leb-true f (p + 32768) x) refl
   parts-by false true x y = parts-late (leb-false f (p + 32768) x)
 
@@ -115,11 +111,11 @@ module _ (f p i : ℕ) where
       rw (x, le-leb (p + 32768) (i + 32768) (omega arith), le-leb f (i + 32768) (omega arith), lt-ltb (f - 32768) (p + 1) (omega arith), le-leb (p + 1) i (omega arith), ne-eqb i p (λ d. omega arith))
   ends-on false x l =
       let v = leb-false f (p + 32768) x in
-      rw (x, le-ltb (f - 32768) (p + 1) (omega arith), ne-eqb i p (λ d. omega arith), and-no (leb f (i + 32768)))
+      rw (x, le-ltb (f - 32768) (p + 1) (omega arith), ne-eqb i p (λ d. omega arith), and-false (leb f (i + 32768)))
 
   ends-here : i ≡ p → Ends
   ends-here e =
-      rw (e, le-leb (p + 32768) (p + 32768) (omega arith), lt-leb (p + 1) p (omega arith), eq-eqb p p refl, and-no (leb f (p + 32768) && ltb (f - 32768) (p + 1)))
+      rw (e, le-leb (p + 32768) (p + 32768) (omega arith), lt-leb (p + 1) p (omega arith), eq-eqb p p refl, and-false (leb f (p + 32768) && ltb (f - 32768) (p + 1)))
       (by (leb f (p + 32768)))
     where
       by : (t : Bool) → cond {A = ℕ} (t && true) 1 0 ≡ 0 + cond (true && t) 1 0
@@ -128,7 +124,7 @@ module _ (f p i : ℕ) where
 
   ends-before : i < p → Ends
   ends-before l =
-      rw (lt-leb (p + 32768) (i + 32768) (omega arith), lt-leb (p + 1) i (omega arith), ne-eqb i p (λ d. omega arith), and-no (leb f (p + 32768)), and-no (leb f (i + 32768) && ltb (f - 32768) (p + 1)))
+      rw (lt-leb (p + 32768) (i + 32768) (omega arith), lt-leb (p + 1) i (omega arith), ne-eqb i p (λ d. omega arith), and-false (leb f (p + 32768)), and-false (leb f (i + 32768) && ltb (f - 32768) (p + 1)))
 
   ends-by : (b c : Bool) → eqb i p ≡ b → ltb p i ≡ c → Ends
   ends-by true c x y = ends-here (eqb-true i p x)
@@ -157,7 +153,7 @@ module _ (loop : ℕ → Bool) (far : ℕ → ℕ) where
           → cond {A = ℕ} ((t && leb (far i) (p + 32768)) && leb (p + 32768) (i + 32768)) 1 0
           ≡ cond (((t && leb (far i) (i + 32768)) && ltb (far i - 32768) (p + 1)) && leb (p + 1) i) 1 0 + cond (eqb i p && (t && leb (far i) (i + 32768))) 1 0
       by true = ends-by (far i) p i (eqb i p) (ltb p i) refl refl
-      by false = rw (and-no (eqb i p))
+      by false = rw (and-false (eqb i p))
 
   held-ends : (p i : ℕ) → cond {A = ℕ} (holds loop far i (mark p)) 1 0 ≡ cond (goesOn loop far (p + 1) i) 1 0 + cond (eqb i p && ranged loop far p) 1 0
   held-ends p i = held-own p i ∙ ap (λ (x : ℕ). cond (goesOn loop far (p + 1) i) 1 0 + x) (same (eqb i p) refl)
@@ -183,7 +179,7 @@ module _ (loop : ℕ → Bool) (far : ℕ → ℕ) where
     none-before = sym (tally-none n (λ i. (ranged loop far i && ltb (far i - 32768) 0) && leb 0 i) (λ i l. by i))
       where
         by : (i : ℕ) → (ranged loop far i && ltb (far i - 32768) 0) && leb 0 i ≡ false
-        by i = rw (le-ltb (far i - 32768) 0 (omega arith), and-no (ranged loop far i))
+        by i = rw (le-ltb (far i - 32768) 0 (omega arith), and-false (ranged loop far i))
 
 -- ---- eight stands for every greater number
 

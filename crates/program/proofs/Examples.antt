@@ -65,7 +65,7 @@ overlap = (refl, refl)
 
 -- ---- 02 §1: which record, and why
 
--- `3 0,3`, `z0`, `3 1,-5`: the range that starts too early holds places 0 to 2 all the same, so the jump to the end place crosses it
+-- `3 0,3`, `z1`, `3 1,-5`: the range that starts too early holds places 0 to 2 all the same, so the jump to the end place crosses it
 pub across : reply (three 0 3 ∷ other ∷ three 1 4294967291 ∷ []) ≡ says 71 (pos 101 ∷ pos 0 ∷ [])
 unfolding encodeAll encode numBytes bytes4 verdictOf recordsOf recordsFrom front wordsOf wordAt faultOf isCode countRight axesRight rangesRight speedsRight loopRight inOffset inBack inLoop inZero inSwitch signed within checkOf checked letter outside early overlaps crosses share around holders holds strays
 across = refl

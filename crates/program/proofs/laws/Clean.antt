@@ -8,10 +8,10 @@ use borrow.Author.Tests.{ltb-false, leb-true, eqb-true, eqb-false, le-leb}
 use lib.Dec.{ltb, leb, eqb}
 use Rattle.count.specs.Pick.{pick}
 use Rattle.count.proofs.laws.Truth.{never, or-false, and-parts, both}
-use Rattle.program.specs.declared.Verdict.{Verdict}
-use Rattle.program.specs.declared.Verdict.the-variants.{Sound, Fault}
+use Rattle.program.specs.declared.Verdict.the-variants.{Sound}
 use Rattle.program.specs.work.Marks.{mark, holds, meets, overlaps, holders, strays, outside, early, letter, checked}
-use Rattle.program.specs.Check.{some, tally, faultFrom}
+use Rattle.program.specs.Check.{some, tally}
+use Rattle.program.proofs.laws.First.{Told, told}
 use Rattle.program.proofs.laws.Flow.{Flow}
 use Rattle.program.proofs.laws.Flow as flow
 
@@ -34,23 +34,6 @@ none-of (suc k) f e i h = let d = or-false e in none-go f (eqb i k) refl (d .0) 
 
 -- ---- a check that finds nothing finds nothing at each place
 module _ (loop turn : ℕ → Bool) (far : ℕ → ℕ) (n : ℕ) where
-  fine-go : (q : Bool) (k p i l : ℕ) {v : Verdict} → eqb l 0 ≡ q → pick q v (Fault l p) ≡ Sound → (l ≡ 0) × (v ≡ Sound)
-  fine-go true k p i l e d = (eqb-true l 0 e, d)
-  fine-go false k p i l e d = let z : _≡_ {A = ℕ} 0 1 = cc in absurd (omega arith)
-
-  at-or-behind : {p i : ℕ} → (i ≡ p → ⊥) → p ≤ i → suc p ≤ i
-  at-or-behind d h = omega arith
-
-  fine-at : (k p : ℕ) → faultFrom (letter loop turn far n) k p ≡ Sound → (i : ℕ) → p ≤ i → i < p + k → letter loop turn far n i ≡ 0
-  fine-at zero p e i g h = absurd (omega arith)
-  fine-at (suc k) p e i g h =
-      let d = fine-go (eqb (letter loop turn far n p) 0) k p i (letter loop turn far n p) refl e in
-      go (eqb i p) refl (d .0) (λ m. fine-at k (suc p) (d .1) i m (omega arith))
-    where
-      go : (q : Bool) → eqb i p ≡ q → letter loop turn far n p ≡ 0 → (suc p ≤ i → letter loop turn far n i ≡ 0) → letter loop turn far n i ≡ 0
-      go true q z f = subst (λ (j : ℕ). letter loop turn far n j ≡ 0) (sym (eqb-true _ _ q)) z
-      go false q z f = f (at-or-behind (eqb-false _ _ q) g)
-
   pub record Clean (p : ℕ) : Type 0 where
     pub inside : outside turn far n p ≡ false
     pub late : early loop far p ≡ false
@@ -75,7 +58,7 @@ module _ (loop turn : ℕ → Bool) (far : ℕ → ℕ) (n : ℕ) where
   -- EVERY PLACE IS CLEAN
   pub clean : checked loop turn far n ≡ Sound → (p : ℕ) → p < n → Clean p
   unfolding checked
-  clean e p h = clean-of p (fine-at n 0 e p (omega arith) (omega arith))
+  clean e p h = clean-of p (subst (Told (letter loop turn far n) n 0) e (told (letter loop turn far n) n 0) p (omega arith) (omega arith))
 
 -- ---- the counts agree: `holders` counts up, `tally` down
 pub up : ℕ → ℕ → (ℕ → Bool) → ℕ

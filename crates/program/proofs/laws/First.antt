@@ -12,13 +12,48 @@ use Rattle.program.specs.declared.Verdict.the-variants.{Sound, Fault, Un
 use Rattle.count.specs.Pick.{pick}
 use Rattle.program.specs.Check.{outside, early, overlaps, holders, strays, letter, faultFrom, checked}
 
+-- ---- of any faults of places, a letter or 0
+
+-- what is told of k places from p on: none has a fault; or which one is the first that has
+abbrev pub Told : (ℕ → ℕ) → ℕ → ℕ → Verdict → Type 0
+Told f k p Sound = (i : ℕ) → p ≤ i → i < p + k → f i ≡ 0
+Told f k p Unreadable = ⊥
+Told f k p (Fault a q) = (p ≤ q) × (q < p + k) × (f q ≡ a) × (a ≡ 0 → ⊥) × ((i : ℕ) → p ≤ i → i < q → f i ≡ 0)
+
+-- a place without a fault in front
+one-more : (f : ℕ → ℕ) (p q : ℕ) → f p ≡ 0 → ((i : ℕ) → suc p ≤ i → i < q → f i ≡ 0) → (i : ℕ) → p ≤ i → i < q → f i ≡ 0
+one-more f p q e s i g u = go (eqb i p) refl
+  where
+    beyond : {p i : ℕ} → (i ≡ p → ⊥) → p ≤ i → suc p ≤ i
+    beyond d h = omega arith
+
+    go : (b : Bool) → eqb i p ≡ b → f i ≡ 0
+    go true b = subst (λ (j : ℕ). f j ≡ 0) (sym (eqb-true _ _ b)) e
+    go false b = s i (beyond (eqb-false _ _ b) g) u
+
+told-up : (f : ℕ → ℕ) (k p : ℕ) (v : Verdict) → f p ≡ 0 → Told f k (suc p) v → Told f (suc k) p v
+told-up f k p Sound e t = one-more f p (p + suc k) e (λ i g u. t i g (omega arith))
+told-up f k p Unreadable e t = t
+told-up f k p (Fault a q) e (g, h, l, z, s) = (omega arith, omega arith, l, z, one-more f p q e s)
+
+told-go : (f : ℕ → ℕ) (b : Bool) (k p : ℕ) → eqb (f p) 0 ≡ b → Told f k (suc p) (faultFrom f k (suc p))
+    → Told f (suc k) p (pick b (faultFrom f k (suc p)) (Fault (f p) p))
+told-go f true k p e t = told-up f k p (faultFrom f k (suc p)) (eqb-true _ _ e) t
+told-go f false k p e t = (omega arith, omega arith, refl, eqb-false _ _ e, (λ i g u. absurd (omega arith)))
+
+pub told : (f : ℕ → ℕ) (k p : ℕ) → Told f k p (faultFrom f k p)
+told f zero p = λ i g h. absurd (omega arith)
+told f (suc k) p = told-go f (eqb (f p) 0) k p refl (told f k (suc p))
+
+-- ---- of the check
+
 module _ (loop turn : ℕ → Bool) (target : ℕ → ℤ) (n : ℕ) where
   -- no fault among k places from p on
   none : (k p : ℕ) → ((i : ℕ) → p ≤ i → i < p + k → letter loop turn target n i ≡ 0) → faultFrom (letter loop turn target n) k p ≡ Sound
   none zero p h = refl
   none (suc k) p h = rw (h p (omega arith) (omega arith)) (none k (suc p) (λ i g f. h i (omega arith) (omega arith)))
 
-  -- SOUND if no place has a fault (and only then: `clean` of Clean)
+  -- SOUND if no place has a fault (and only then: `told`)
   pub sound-if : ((i : ℕ) → i < n → letter loop turn target n i ≡ 0) → checked loop turn target n ≡ Sound
   unfolding checked
   sound-if h = none n 0 (λ i g f. h i (omega arith))
@@ -30,37 +65,11 @@ module _ (loop turn : ℕ → Bool) (target : ℕ → ℤ) (n : ℕ) where
     pub a-fault : a ≡ 0 → ⊥
     pub smallest : (i : ℕ) → i < p → letter loop turn target n i ≡ 0
 
-  abbrev Told : ℕ → ℕ → Verdict → Type 0
-  Told k p Sound = Unit
-  Told k p Unreadable = ⊥
-  Told k p (Fault a q) = (p ≤ q) × (q < p + k) × (letter loop turn target n q ≡ a) × (a ≡ 0 → ⊥) × ((i : ℕ) → p ≤ i → i < q → letter loop turn target n i ≡ 0)
-
-  told-up : (k p : ℕ) (v : Verdict) → letter loop turn target n p ≡ 0 → Told k (suc p) v → Told (suc k) p v
-  told-up k p Sound e t = tt
-  told-up k p Unreadable e t = t
-  told-up k p (Fault a q) e (g, h, l, z, s) = (omega arith, omega arith, l, z, (λ i f u. go (eqb i p) i refl f u))
-    where
-      beyond : {p i : ℕ} → (i ≡ p → ⊥) → p ≤ i → suc p ≤ i
-      beyond d h = omega arith
-
-      go : (b : Bool) (i : ℕ) → eqb i p ≡ b → p ≤ i → i < q → letter loop turn target n i ≡ 0
-      go true i b f u = subst (λ (j : ℕ). letter loop turn target n j ≡ 0) (sym (eqb-true _ _ b)) e
-      go false i b f u = s i (beyond (eqb-false _ _ b) f) u
-
-  told-go : (b : Bool) (k p : ℕ) → eqb (letter loop turn target n p) 0 ≡ b → Told k (suc p) (faultFrom (letter loop turn target n) k (suc p))
-      → Told (suc k) p (pick b (faultFrom (letter loop turn target n) k (suc p)) (Fault (letter loop turn target n p) p))
-  told-go true k p e t = told-up k p (faultFrom (letter loop turn target n) k (suc p)) (eqb-true _ _ e) t
-  told-go false k p e t = (omega arith, omega arith, refl, eqb-false _ _ e, (λ i f u. absurd (omega arith)))
-
-  told : (k p : ℕ) → Told k p (faultFrom (letter loop turn target n) k p)
-  told zero p = tt
-  told (suc k) p = told-go (eqb (letter loop turn target n p) 0) k p refl (told k (suc p))
-
   -- A FAULT is that of the smallest place
   pub first : (a p : ℕ) → checked loop turn target n ≡ Fault a p → First a p
   unfolding checked
   first a p e =
-      let t = subst (Told n 0) e (told n 0) in
+      let t = subst (Told (letter loop turn target n) n 0) e (told (letter loop turn target n) n 0) in
       record { in-field = omega (arith, t .1); its-letter = t .2; a-fault = t .3; smallest = (λ i h. t .4 i (omega arith) h) }
 
   -- ---- the earlier letter

@@ -1,11 +1,11 @@
 -- Ours has `EndNames`: the end line names the smallest faulty place and of its faults the earliest letter. What has no fault is accepted, and
 -- nothing else is. Assumes nothing.
-use Prim.Native.Nat.{ℕ, zero, suc, _+_, _≤_, _<_}
+use Prim.Native.Nat.{ℕ, _≤_, _<_}
 use mathlib.Core.Path.{_≡_, refl, sym, ap, _∙_, subst}
 use mathlib.Core.Bool.{Bool, true, false, _&&_, _||_}
 use mathlib.Core.List.{List, [], _∷_}
 use native.Mathlib.Omega.{arith}
-use borrow.Author.Tests.{eqb-true, eqb-false, ne-eqb, le-ltb}
+use borrow.Author.Tests.{ne-eqb, le-ltb}
 use lib.Dec.{ltb, eqb}
 use lib.ListN.{length, getD, take, drop}
 use Rattle.count.specs.Pick.{pick}
@@ -18,9 +18,9 @@ use Rattle.record.specs.Places.{Records, recordsOf}
 use Rattle.record.specs.Places.Records.{are, none-are}
 use Rattle.program.specs.declared.Verdict.{Verdict}
 use Rattle.program.specs.declared.Verdict.the-variants.{Sound, Fault, Unreadable}
-use Rattle.program.specs.Check.{outside, early, overlaps, holders, strays, letter, faultFrom, checked}
+use Rattle.program.specs.Check.{outside, early, overlaps, holders, strays, letter, checked}
 use Rattle.program.specs.Program.{loopAt, turnAt, targetAt, checkOf, verdictOn, verdictOf, isSound, passes, passing, axesSet, accepted}
-use Rattle.program.proofs.laws.First.{first, sound-if}
+use Rattle.program.proofs.laws.First.{Told, told, first, sound-if}
 use Rattle.engine.proofs.laws.Facts.{facts}
 use Rattle.board.specs.declared.Board.{Board}
 use Rattle.board.specs.State.{Said, said}
@@ -127,35 +127,10 @@ module _ (l : List Record) (p : ℕ) where
 
 -- ---- what a verdict says
 
-abbrev Meant : (ℕ → ℕ) → ℕ → ℕ → Verdict → Type 0
-Meant f k p Sound = (i : ℕ) → p ≤ i → i < p + k → f i ≡ 0
-Meant f k p (Fault a q) = Unit
-Meant f k p Unreadable = ⊥
-
-meant-up : (f : ℕ → ℕ) (k p : ℕ) (v : Verdict) → f p ≡ 0 → Meant f k (suc p) v → Meant f (suc k) p v
-meant-up f k p Sound z m = λ i g h. by (eqb i p) i refl g h
-  where
-    behind : {p i : ℕ} → (i ≡ p → ⊥) → p ≤ i → suc p ≤ i
-    behind d g = omega arith
-
-    by : (b : Bool) (i : ℕ) → eqb i p ≡ b → p ≤ i → i < p + suc k → f i ≡ 0
-    by true i e g h = subst (λ (j : ℕ). f j ≡ 0) (sym (eqb-true i p e)) z
-    by false i e g h = m i (behind (eqb-false i p e) g) (omega arith)
-meant-up f k p (Fault a q) z m = tt
-meant-up f k p Unreadable z m = m
-
-meant-by : (f : ℕ → ℕ) (k p : ℕ) (b : Bool) (v : Verdict) → eqb (f p) 0 ≡ b → Meant f k (suc p) v → Meant f (suc k) p (pick b v (Fault (f p) p))
-meant-by f k p true v e m = meant-up f k p v (eqb-true (f p) 0 e) m
-meant-by f k p false v e m = tt
-
-meant : (f : ℕ → ℕ) (k p : ℕ) → Meant f k p (faultFrom f k p)
-meant f zero p = λ i g h. absurd (omega arith)
-meant f (suc k) p = meant-by f k p (eqb (f p) 0) (faultFrom f k (suc p)) refl (meant f k (suc p))
-
 module _ (l : List Record) where
-  meaning : (v : Verdict) → checkOf l ≡ v → Meant (letter (loopAt l) (turnAt l) (targetAt l) (length l)) (length l) 0 v
+  meaning : (v : Verdict) → checkOf l ≡ v → Told (letter (loopAt l) (turnAt l) (targetAt l) (length l)) (length l) 0 v
   unfolding checkOf checked
-  meaning v e = subst (Meant (letter (loopAt l) (turnAt l) (targetAt l) (length l)) (length l) 0) e (meant (letter (loopAt l) (turnAt l) (targetAt l) (length l)) (length l) 0)
+  meaning v e = subst (Told (letter (loopAt l) (turnAt l) (targetAt l) (length l)) (length l) 0) e (told (letter (loopAt l) (turnAt l) (targetAt l) (length l)) (length l) 0)
 
   -- SOUND: no place has a fault, and the other way about
   faultless : checkOf l ≡ Sound → Faultless l

@@ -3,10 +3,10 @@
 use Prim.Native.Nat.{ℕ}
 use mathlib.Core.Bool.{Bool, true, false, not, _&&_, _||_}
 use mathlib.Core.List.{List, []}
-use lib.Dec.{ltb, eqb}
+use lib.Dec.{ltb, leb, eqb}
 use lib.IntN.{ℤ, pos, _+ℤ_}
 use lib.ListN.{length, getD}
-use Rattle.count.specs.Sizes.{mostRecords}
+use Rattle.count.specs.Sizes.{storeBytes, mostRecords}
 use Rattle.count.specs.Chars.{ch}
 use Rattle.count.specs.Pick.{pick}
 use Rattle.count.specs.Ranges.{nth}
@@ -56,7 +56,7 @@ isSound Sound = true
 isSound (Fault a p) = false
 isSound Unreadable = false
 
--- ---- an accepted program: written under axes 1, 3 or 7, readable, and its check passes
+-- ---- an accepted program: at most 16,384 bytes and 1,000 records in use, written under axes 1, 3 or 7, readable, and its check passes
 
 unfoldable pub passes : List Record → Bool
 passes l = isSound (checkOf l)
@@ -68,5 +68,9 @@ abbrev pub passing : Records → Bool
 passing (are l) = passes l
 passing none-are = false
 
+-- more in use is a state that every call refuses (103)
+unfoldable pub sized : Held → Bool
+sized h = leb (h .used) storeBytes && leb (h .records) mostRecords
+
 unfoldable pub accepted : Held → List ℕ → Bool
-accepted h s = axesSet (h .axes) && passing (recordsOf h s)
+accepted h s = sized h && (axesSet (h .axes) && passing (recordsOf h s))

@@ -4,3 +4,4 @@ pub mod Work
 pub mod Target
 pub mod Decode
 pub mod Ranges
+pub mod Edges

@@ -1,9 +1,12 @@
 // The check at the end line, from the bytes of a store: each record is read once, into the arrays of the call.
 ghost use mathlib.Core.Path.{_≡_};
-ghost use lib.ListN.{length, take};
+ghost use Prim.Native.Nat.{_≤_};
+ghost use lib.ListN.{length, take, replicate};
+ghost use Rattle.count.specs.Pick.{pick};
+ghost use Rattle.record.specs.Places.{recordsOf};
 ghost use Rattle.program.specs.work.Aims.{aimOf};
 ghost use Rattle.program.specs.Program.{verdictOf};
-ghost use Rattle.program.specs.work.Decode.{kindOf, clip, kept};
+ghost use Rattle.program.specs.work.Decode.{kindOf, clip, kept, noted, unread, arraysOn};
 use crate::Verdict;
 use crate::pass::check_arrays;
 use record::Held;
@@ -64,6 +67,30 @@ fn offset_of(item: Record) -> u16
     0
 }
 
+// The records of a part in use, each read once: what each place is, and its offset. Whether it is readable, as at most 1,000 records.
+pub(crate) fn decode(store: &[u8], held: Held, kinds: &mut [u8], offsets: &mut [u16]) -> bool
+    requires { ⌜ (held .records ≤ 1000) × (now kinds ≡ replicate 1000 0) × (now offsets ≡ replicate 1000 0) ⌝ }
+    ensures { λ r. ⌜ pick r (noted (now (kinds .exit)) (now (offsets .exit))) unread ≡ arraysOn (recordsOf held (now (store .entry))) ⌝ }
+{
+    let mut at: usize = 0;
+    let mut i: usize = 0;
+    let mut left = held.records;
+    while 0 < left {
+        let f = record_at(store, held, at);
+        let len = f.len;
+        if len == 0 {
+            return false;
+        }
+        let item = f.item;
+        kinds[i] = kind_of(item);
+        offsets[i] = offset_of(item);
+        at = at + (len as usize);
+        i = i + 1;
+        left = left - 1;
+    }
+    in_use(store, held.used) <= at
+}
+
 // The check of a store's part in use.
 pub fn check(store: &[u8], held: Held) -> Verdict
     ensures { λ r. ⌜ r ≡ verdictOf held (now (store .entry)) ⌝ }
@@ -74,24 +101,8 @@ pub fn check(store: &[u8], held: Held) -> Verdict
     }
     let mut kinds = [0u8; 1000];
     let mut offsets = [0u16; 1000];
-    let mut at: usize = 0;
-    let mut i: usize = 0;
-    let mut left = n;
-    while 0 < left {
-        let f = record_at(store, held, at);
-        let len = f.len;
-        if len == 0 {
-            return Verdict::Unreadable;
-        }
-        let item = f.item;
-        kinds[i] = kind_of(item);
-        offsets[i] = offset_of(item);
-        at = at + (len as usize);
-        i = i + 1;
-        left = left - 1;
+    if decode(store, held, &mut kinds, &mut offsets) {
+        return check_arrays(&kinds, &offsets, n);
     }
-    if at < in_use(store, held.used) {
-        return Verdict::Unreadable;
-    }
-    check_arrays(&kinds, &offsets, n)
+    Verdict::Unreadable
 }

@@ -1,10 +1,13 @@
 // Programs: the check at the end line, and where a record sends a run.
+mod accepting;
 mod arrays;
 mod ending;
 mod pass;
 mod ranges;
 mod running;
 
+pub use accepting::accepts;
+pub use accepting::axes_set;
 pub use ending::check;
 pub use running::onward;
 
@@ -13,6 +16,13 @@ pub enum Verdict {
     Sound,
     Fault(u8, u16),
     Unreadable,
+}
+
+// Whether a program is accepted; and of an accepted one, whether a jump or wait leads to its end place, and whether a range starts at place 0.
+pub struct Acceptance {
+    pub accepted: bool,
+    pub out: bool,
+    pub first: bool,
 }
 
 // An open loop: its place, and the goes back still to make.

@@ -1,15 +1,15 @@
 -- The check of a store computes whether its program is accepted (01, "Running a program", paragraph 2, the sentence on `9`); and an accepted
 -- store's list of records is an accepted list. Assumes nothing.
 use Prim.Native.Nat.{ℕ, zero, suc, _≤_, _<_}
-use mathlib.Core.Bool.{Bool, true, false}
+use mathlib.Core.Bool.{Bool, true, false, _&&_}
 use mathlib.Core.List.{List, [], _∷_}
 use mathlib.Core.Path.{_≡_, refl, sym, _∙_, ap, subst}
 use native.Mathlib.Omega.{arith}
-use borrow.Author.Tests.{le-ltb}
+use borrow.Author.Tests.{le-ltb, le-leb}
 use lib.Dec.{ltb}
 use lib.ListN.{length, drop}
 use Rattle.count.specs.Pick.{pick}
-use Rattle.count.proofs.laws.Truth.{never, and-parts}
+use Rattle.count.proofs.laws.Truth.{never, and-parts, and-false}
 use Rattle.record.specs.declared.Held.{Held}
 use Rattle.record.specs.declared.Record.{Record}
 use Rattle.record.specs.Bytes.{Fetch, Got, End, Wrong, front, lengthOf, isRight}
@@ -17,7 +17,7 @@ use Rattle.record.specs.Places.{inUse, Records, are, none-are, onto, then, reco
 use Rattle.record.proofs.laws.Walk.{front-stands}
 use Rattle.program.specs.declared.Verdict.{Verdict}
 use Rattle.program.specs.declared.Verdict.the-variants.{Sound, Unreadable}
-use Rattle.program.specs.Program.{recordIn, verdictOn, verdictOf, isSound, passes, axesSet, passing, accepted}
+use Rattle.program.specs.Program.{recordIn, verdictOn, verdictOf, isSound, passes, axesSet, sized, passing, accepted}
 use Rattle.program.proofs.laws.Run.{Accepted}
 
 -- ---- the check computes it
@@ -27,24 +27,23 @@ unfolding passes
 on-same (are l) = refl
 on-same none-are = refl
 
+sized-so : (h : Held) → h .used ≤ 16384 → h .records ≤ 1000 → sized h ≡ true
+unfolding sized
+sized-so h u l = rw (le-leb (h .used) 16384 u, le-leb (h .records) 1000 l)
+
 -- under axes 1, 3 or 7
-pub computed : (h : Held) (s : List ℕ) → axesSet (h .axes) ≡ true → h .records ≤ 1000 → accepted h s ≡ isSound (verdictOf h s)
+pub computed : (h : Held) (s : List ℕ) → axesSet (h .axes) ≡ true → h .used ≤ 16384 → h .records ≤ 1000 → accepted h s ≡ isSound (verdictOf h s)
 unfolding accepted verdictOf
-computed h s a l = rw (a, le-ltb 1000 (h .records) l) (on-same (recordsOf h s))
+computed h s a u l = rw (sized-so h u l, a, le-ltb 1000 (h .records) l) (on-same (recordsOf h s))
 
 -- under axes 0 no program is accepted, whatever the check says
 pub not-under-0 : (h : Held) (s : List ℕ) → h .axes ≡ 0 → accepted h s ≡ false
 unfolding accepted
-not-under-0 h s e = rw e
-
-sound-by : (b : Bool) (v : Verdict) → pick b Unreadable v ≡ Sound → v ≡ Sound
-sound-by true v e = let z : _≡_ {A = ℕ} 0 1 = cc in absurd (omega arith)
-sound-by false v e = e
+not-under-0 h s e = ap (λ (b : Bool). sized h && (b && passing (recordsOf h s))) (ap axesSet e) ∙ and-false (sized h)
 
 -- a store that the check finds sound is accepted under these axes
-pub sound-accepted : (h : Held) (s : List ℕ) → axesSet (h .axes) ≡ true → verdictOf h s ≡ Sound → accepted h s ≡ true
-unfolding accepted verdictOf
-sound-accepted h s a v = rw a (on-same (recordsOf h s) ∙ ap isSound (sound-by (ltb 1000 (h .records)) (verdictOn (recordsOf h s)) v))
+pub sound-accepted : (h : Held) (s : List ℕ) → axesSet (h .axes) ≡ true → h .used ≤ 16384 → h .records ≤ 1000 → verdictOf h s ≡ Sound → accepted h s ≡ true
+sound-accepted h s a u l v = computed h s a u l ∙ ap isSound v
 
 -- ---- a readable store has as many records as it says
 
@@ -100,9 +99,16 @@ rights axes (suc k) s = rights-then axes k s (front axes s) refl (rights axes k)
 
 -- ---- an accepted store
 
-passing-list : (h : Held) (s : List ℕ) (l : List Record) → recordsOf h s ≡ are l → accepted h s ≡ true → passes l ≡ true
+-- what is asked of it
+pub accepted-parts : (h : Held) (s : List ℕ) → accepted h s ≡ true → (sized h ≡ true) × (axesSet (h .axes) ≡ true) × (passing (recordsOf h s) ≡ true)
 unfolding accepted
-passing-list h s l e a = ap passing (sym e) ∙ and-parts (axesSet (h .axes)) (passing (recordsOf h s)) a .1
+accepted-parts h s a =
+    let d = and-parts (sized h) (axesSet (h .axes) && passing (recordsOf h s)) a in
+    let e = and-parts (axesSet (h .axes)) (passing (recordsOf h s)) (d .1) in
+    (d .0, e .0, e .1)
+
+passing-list : (h : Held) (s : List ℕ) (l : List Record) → recordsOf h s ≡ are l → accepted h s ≡ true → passes l ≡ true
+passing-list h s l e a = ap passing (sym e) ∙ accepted-parts h s a .2
 
 -- its list of records is accepted under its axes
 pub accepted-list : (h : Held) (s : List ℕ) (l : List Record) → recordsOf h s ≡ are l → accepted h s ≡ true → Accepted (h .axes) l
@@ -118,8 +124,7 @@ pub record Holds (h : Held) (s : List ℕ) : Type 0 where
   pub program : Accepted (h .axes) items
 
 no-list : (h : Held) (s : List ℕ) → recordsOf h s ≡ none-are → accepted h s ≡ true → passing none-are ≡ true
-unfolding accepted
-no-list h s e a = ap passing (sym e) ∙ and-parts (axesSet (h .axes)) (passing (recordsOf h s)) a .1
+no-list h s e a = ap passing (sym e) ∙ accepted-parts h s a .2
 
 holds-by : (h : Held) (s : List ℕ) (x : Records) → recordsOf h s ≡ x → accepted h s ≡ true → Holds h s
 holds-by h s (are l) e a = record { items = l; reads = e; count = records-count h s l e; program = accepted-list h s l e a }

@@ -1,0 +1,107 @@
+// A second program put behind a first: everything is tested before anything is written.
+ghost use mathlib.Core.Path.{_≡_};
+ghost use mathlib.Core.List.{_++_};
+ghost use Prim.Native.Nat.{_+_, _≤_};
+ghost use lib.ListN.{length, take, drop};
+ghost use Rattle.program.specs.Program.{axesSet};
+ghost use Rattle.join.specs.Join.{axesBeside, counted, storesRight, axesRight, roomRight, refusalOf, both, joining, joinOf};
+use crate::Joined;
+use program::accepts;
+use record::Held;
+
+// The axes that a program counts as of beside another: an empty one has the other's, where that one is not empty.
+fn axes_beside(held: Held, other: Held) -> u8
+    ensures { λ r. ⌜ r ≡ axesBeside held other ⌝ }
+{
+    if (held.records == 0) & (other.records != 0) {
+        return other.axes;
+    }
+    held.axes
+}
+
+// A program under the axes that it counts as of.
+fn counted(held: Held, other: Held) -> Held
+    ensures { λ r. ⌜ r ≡ counted held other ⌝ }
+{
+    Held {
+        used: held.used,
+        records: held.records,
+        axes: axes_beside(held, other),
+    }
+}
+
+// 3: whether both are of the same axes, and of allowed ones.
+fn axes_right(first: Held, second: Held) -> bool
+    ensures { λ r. ⌜ r ≡ axesRight first second ⌝ }
+{
+    let axes = axes_beside(first, second);
+    (axes == axes_beside(second, first)) & program::axes_set(axes)
+}
+
+// 6: whether there is room for both.
+fn room_right(first: Held, second: Held) -> bool
+    ensures { λ r. ⌜ r ≡ roomRight first second ⌝ }
+{
+    let records = (first.records as u32) + (second.records as u32);
+    let used = (first.used as u32) + (second.used as u32);
+    (records <= 1000) & (used <= 16384)
+}
+
+// The first refusal that applies, or 0. Each store is read once.
+fn refusal_of(first: Held, store: &[u8], second: Held, other: &[u8]) -> u16
+    ensures { λ r. ⌜ r ≡ refusalOf first (now (store .entry)) second (now (other .entry)) ⌝ }
+{
+    if (store.len() != 16384) | (other.len() != 16384) {
+        return 102;
+    }
+    if !axes_right(first, second) {
+        return 51; // 3
+    }
+    let a = accepts(store, counted(first, second));
+    let b = accepts(other, counted(second, first));
+    if !(a.accepted & b.accepted) | (a.out & b.first) {
+        return 71; // G
+    }
+    if !room_right(first, second) {
+        return 54; // 6
+    }
+    0
+}
+
+// The bytes of a part at byte `at`.
+fn put_bytes(store: &mut [u8], at: usize, part: &[u8])
+    requires { ⌜ at + length (now part) ≤ length (now store) ⌝ }
+    ensures { λ r. ⌜ now (store .exit) ≡ take at (now (store .entry)) ++ now (part .entry) ++ drop (at + length (now (part .entry))) (now (store .entry)) ⌝ }
+{
+    let mut i = 0;
+    while i < part.len() {
+        let b = part[i];
+        store[at + i] = b;
+        i = i + 1;
+    }
+}
+
+// The second program put behind the first, whose store is the destination.
+pub fn join(first: Held, store: &mut [u8], second: Held, other: &[u8]) -> Joined
+    ensures { λ r. ⌜ joining r (now (store .exit)) ≡ joinOf first (now (store .entry)) second (now (other .entry)) ⌝ }
+{
+    let refusal = refusal_of(first, &store[..], second, other);
+    if refusal != 0 {
+        return Joined {
+            refusal,
+            held: first,
+        };
+    }
+    let at = first.used as usize;
+    let n = second.used as usize;
+    put_bytes(store, at, &other[..n]);
+    let held = Held {
+        used: (at + n) as u16,
+        records: first.records + second.records,
+        axes: axes_beside(first, second),
+    };
+    Joined {
+        refusal: 0,
+        held,
+    }
+}

@@ -1,0 +1,13 @@
+// Joining two programs: the second's bytes behind the first's, in the first's store.
+
+mod join;
+
+pub use join::join;
+
+use record::Held;
+
+// The refusal, or 0; and the joined program, or with a refusal the first as it was.
+pub struct Joined {
+    pub refusal: u16,
+    pub held: Held,
+}

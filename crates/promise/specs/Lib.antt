@@ -5,6 +5,7 @@ pub mod Steps
 pub mod Named
 pub mod Spaces
 pub mod Chain
+pub mod Join
 pub mod Stop
 pub mod Three
 pub mod Route

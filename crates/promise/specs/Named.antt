@@ -1,10 +1,11 @@
 -- 02 §1, of any machine: the end line says which record is at fault, and why.
-use Prim.Native.Nat.{ℕ, _<_}
+use Prim.Native.Nat.{ℕ, _≤_, _<_}
 use mathlib.Core.Path.{_≡_}
 use mathlib.Core.Bool.{Bool, true, false, _&&_, _||_}
 use mathlib.Core.List.{List, [], _∷_}
 use lib.Dec.{ltb, eqb}
 use lib.ListN.{length}
+use Rattle.count.specs.Sizes.{storeBytes, mostRecords}
 use Rattle.count.specs.Chars.{ch}
 use Rattle.count.specs.Text.{fourDigits}
 use Rattle.record.specs.declared.Held.{Held}
@@ -51,8 +52,11 @@ EndNames m =
     (ports : List ℕ) (l : Lent) (s : m .State) → endLine (m .board s) ≡ true → hears m (ch "\r") ports l s .refusal ≡ 0
     → EndReply (m .board s .engine .held) (l .store) (replied (hears m (ch "\r") ports l s))
 
--- a program is accepted exactly if it was written under axes 1, 3 or 7, is readable, and no place has a fault
+-- a program is accepted exactly if at most 16,384 bytes and 1,000 records are in use, it was written under axes 1, 3 or 7, is readable, and
+-- no place has a fault
 pub record Right (h : Held) (store : List ℕ) : Type 0 where
+  pub bytes : h .used ≤ storeBytes
+  pub records : h .records ≤ mostRecords
   pub axes : axesSet (h .axes) ≡ true
   pub items : List Record
   pub reads : recordsOf h store ≡ are items

@@ -12,6 +12,7 @@ pub mod First
 pub mod Accepting
 pub mod Right
 pub mod Marks
+pub mod Edges
 pub mod Decode
 pub mod Target
 pub mod Papers

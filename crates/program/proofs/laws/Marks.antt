@@ -59,13 +59,13 @@ le-marks a b = by (ltb a 32768) (ltb b 32768) refl refl
         let m = ltb-false b 32768 q in
         rw (sub-pos a 32768 l, sub-pos b 32768 m) (same-test (a - 32768) (b - 32768) a b (λ h. omega arith) (λ h. omega arith))
 
-le-by : (a b : ℕ) (x y : ℤ) → x ≡ subℕ a 32768 → y ≡ subℕ b 32768 → leZ x y ≡ leb a b
+pub le-by : (a b : ℕ) (x y : ℤ) → x ≡ subℕ a 32768 → y ≡ subℕ b 32768 → leZ x y ≡ leb a b
 le-by a b x y p q = rw (p, q) (le-marks a b)
 
 pub mark-is : (p : ℕ) → pos p ≡ subℕ (mark p) 32768
 mark-is p = sym (sub-pos (mark p) 32768 (omega arith) ∙ ap pos (omega arith))
 
-some-same : (k : ℕ) (f g : ℕ → Bool) → ((i : ℕ) → i < k → f i ≡ g i) → some k f ≡ some k g
+pub some-same : (k : ℕ) (f g : ℕ → Bool) → ((i : ℕ) → i < k → f i ≡ g i) → some k f ≡ some k g
 some-same zero f g h = refl
 some-same (suc k) f g h = rw (h k (omega arith), some-same k f g (λ i l. h i (omega arith)))
 
@@ -223,7 +223,7 @@ module _ (l : List Record) where
   unfolding aimOf
   loops-same = fun-ext (λ i. loop-is (eqb (recordIn l i .code) 51) (eqb (recordIn l i .code) 50) (eqb (getD (recordIn l i .words) 0 0) 0) (getD (recordIn l i .words) 0 0) (shift (nth (recordIn l i .words) 1)))
 
-  turns-same : program.turnAt l ≡ turnAt l
+  pub turns-same : program.turnAt l ≡ turnAt l
   unfolding aimOf
   turns-same = fun-ext (λ i. turn-is (recordIn l i .code) (eqb (recordIn l i .code) 51) (eqb (recordIn l i .code) 50) (eqb (getD (recordIn l i .words) 0 0) 0) (getD (recordIn l i .words) 0 0) (shift (nth (recordIn l i .words) 1)) refl refl)
 

@@ -100,8 +100,5 @@ pub fn join(first: Held, store: &mut [u8], second: Held, other: &[u8]) -> Joined
         records: first.records + second.records,
         axes: axes_beside(first, second),
     };
-    Joined {
-        refusal: 0,
-        held,
-    }
+    Joined { refusal: 0, held }
 }

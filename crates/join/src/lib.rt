@@ -3,7 +3,6 @@
 mod join;
 
 pub use join::join;
-
 use record::Held;
 
 // The refusal, or 0; and the joined program, or with a refusal the first as it was.

@@ -1,6 +1,8 @@
 -- No second outcome satisfies the contract of an exported function: of any two results that the contract itself allows for the same
 -- arguments each is the other. Assumes nothing.
 use mathlib.Core.Path.{_≡_, sym, _∙_}
+use Rattle.program.proofs.accepting.accepts.Reads as accepts
+use Rattle.program.proofs.accepting.axes_set.Reads as axes-set
 use Rattle.program.proofs.ending.check.Reads as check
 use Rattle.program.proofs.running.onward.Reads as onward
 
@@ -9,3 +11,9 @@ check-one κs a r r′ s s′ p q = p ∙ sym q
 
 pub onward-one : (κs : _) (a : _) (r r′ : _) (s s′ : _) → onward.Post κs a r s → onward.Post κs a r′ s′ → r ≡ r′
 onward-one κs a r r′ s s′ p q = p ∙ sym q
+
+pub accepts-one : (κs : _) (a : _) (r r′ : _) (s s′ : _) → accepts.Post κs a r s → accepts.Post κs a r′ s′ → r ≡ r′
+accepts-one κs a r r′ s s′ p q = p ∙ sym q
+
+pub axes-set-one : (κs : _) (a : _) (r r′ : _) (s s′ : _) → axes-set.Post κs a r s → axes-set.Post κs a r′ s′ → r ≡ r′
+axes-set-one κs a r r′ s s′ p q = p ∙ sym q

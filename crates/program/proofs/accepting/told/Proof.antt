@@ -1,12 +1,8 @@
+-- `program::accepting::told` meets its contract. Assumes nothing.
+use mathlib.Core.Path.{_∙_}
 use borrow.Author.Needs.{needs}
 use Rattle.program.proofs.accepting.told.Statement.{statement}
 use Rattle.program.proofs.accepting.told.Tie as tie
-use Rattle.program.proofs.accepting.told.Reads as reads
-use Rattle.program.proofs.accepting.told.Lts as lts
-use Rattle.program.proofs.accepting.leads.Reads as leads-reads
-use Rattle.program.proofs.accepting.refused.Reads as refused-reads
-use Rattle.program.proofs.arrays.mark_of.Reads as mark-of-reads
-use Rattle.program.proofs.pass.check_arrays.Reads as check-arrays-reads
 
 check-arrays-requires : tie.Need-check-arrays-requires
 check-arrays-requires c κs = search needs
@@ -39,13 +35,19 @@ refused-requires-2 : tie.Need-refused-requires-2
 refused-requires-2 c κs = search needs
 
 returns : tie.Need-returns
-returns c = ?
+returns c =
+    let m = c .before .before .before .before in
+    rw (← m .before .before .check-arrays .ensures, m .enum-told .given .1, c .before .before .leads .ensures, c .leads2 .ensures, c .before .before .before .mark-of .ensures, c .before .mark-of2 .ensures)
 
 returns-2 : tie.Need-returns-2
-returns-2 c = ?
+returns-2 c =
+    let m = c .before .before .before in
+    c .refused .ensures ∙ rw (← m .check-arrays .ensures, c .before .enum-told2 .given .1)
 
 returns-3 : tie.Need-returns-3
-returns-3 c = ?
+returns-3 c =
+    let m = c .before .before .before in
+    c .refused2 .ensures ∙ rw (← m .check-arrays .ensures, c .before .enum-told3 .given .1)
 
 pub told-spec : {M : Type 1} → statement M
 told-spec =

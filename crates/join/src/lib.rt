@@ -1,8 +1,8 @@
 // Joining two programs: the second's bytes behind the first's, in the first's store.
 
-mod join;
+mod joining;
 
-pub use join::join;
+pub use joining::join;
 use record::Held;
 
 // The refusal, or 0; and the joined program, or with a refusal the first as it was.

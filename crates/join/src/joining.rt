@@ -1,10 +1,9 @@
 // A second program put behind a first: everything is tested before anything is written.
 ghost use mathlib.Core.Path.{_≡_};
-ghost use mathlib.Core.List.{_++_};
 ghost use Prim.Native.Nat.{_+_, _≤_};
-ghost use lib.ListN.{length, take, drop};
-ghost use Rattle.program.specs.Program.{axesSet};
-ghost use Rattle.join.specs.Join.{axesBeside, counted, storesRight, axesRight, roomRight, refusalOf, both, joining, joinOf};
+ghost use lib.ListN.{length};
+ghost use lib.Seq.{paste};
+ghost use Rattle.join.specs.Join.{axesBeside, counted, axesRight, roomRight, refusalOf, joining, joinOf};
 use crate::Joined;
 use program::accepts;
 use record::Held;
@@ -68,14 +67,14 @@ fn refusal_of(first: Held, store: &[u8], second: Held, other: &[u8]) -> u16
     0
 }
 
-// The bytes of a part at byte `at`.
-fn put_bytes(store: &mut [u8], at: usize, part: &[u8])
-    requires { ⌜ at + length (now part) ≤ length (now store) ⌝ }
-    ensures { λ r. ⌜ now (store .exit) ≡ take at (now (store .entry)) ++ now (part .entry) ++ drop (at + length (now (part .entry))) (now (store .entry)) ⌝ }
+// The first `n` bytes of another store at byte `at`.
+fn put_bytes(store: &mut [u8], at: usize, other: &[u8], n: usize)
+    requires { ⌜ (at + n ≤ length (now store)) × (n ≤ length (now other)) ⌝ }
+    ensures { λ r. ⌜ now (store .exit) ≡ paste (now (store .entry)) at (now (other .entry)) n ⌝ }
 {
     let mut i = 0;
-    while i < part.len() {
-        let b = part[i];
+    while i < n {
+        let b = other[i];
         store[at + i] = b;
         i = i + 1;
     }
@@ -94,7 +93,7 @@ pub fn join(first: Held, store: &mut [u8], second: Held, other: &[u8]) -> Joined
     }
     let at = first.used as usize;
     let n = second.used as usize;
-    put_bytes(store, at, &other[..n]);
+    put_bytes(&mut *store, at, other, n);
     let held = Held {
         used: (at + n) as u16,
         records: first.records + second.records,

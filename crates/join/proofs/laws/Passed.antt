@@ -1,0 +1,53 @@
+-- What a join that is not refused has passed, test by test; and what one that is refused gives back. Assumes nothing.
+use Prim.Native.Nat.{ℕ, _+_, _≤_}
+use mathlib.Core.Bool.{Bool, true, false, not, _||_}
+use mathlib.Core.List.{List}
+use mathlib.Core.Path.{_≡_, refl}
+use native.Mathlib.Omega.{arith}
+use borrow.Author.Tests.{eqb-true, leb-true, ne-eqb}
+use lib.Dec.{leb, eqb}
+use lib.ListN.{length}
+use Rattle.count.specs.Pick.{pick}
+use Rattle.count.proofs.laws.Truth.{and-parts}
+use Rattle.record.specs.declared.Held.{Held}
+use Rattle.join.specs.Join.{storesRight, axesRight, bothAccepted, entersRange, roomRight, refusalOf, both, endToEnd, joining, answer, joinOf}
+
+module _ (a : Held) (s : List ℕ) (b : Held) (t : List ℕ) where
+  pub record Passed : Type 0 where
+    pub stores : storesRight s t ≡ true
+    pub axes : axesRight a b ≡ true
+    pub accepted : bothAccepted a s b t ≡ true
+    pub apart : entersRange a s b t ≡ false
+    pub room : roomRight a b ≡ true
+
+  passed-by : (v w x y z : Bool) → storesRight s t ≡ v → axesRight a b ≡ w → bothAccepted a s b t ≡ x → entersRange a s b t ≡ y → roomRight a b ≡ z
+      → pick {A = ℕ} (not v) 102 (pick (not w) 51 (pick (not x || y) 71 (pick (not z) 54 0))) ≡ 0 → Passed
+  passed-by true true true false true p q r u v e = record { stores = p; axes = q; accepted = r; apart = u; room = v }
+  passed-by true true true false false p q r u v e = absurd (omega arith)
+  passed-by true true true true z p q r u v e = absurd (omega arith)
+  passed-by true true false y z p q r u v e = absurd (omega arith)
+  passed-by true false x y z p q r u v e = absurd (omega arith)
+  passed-by false w x y z p q r u v e = absurd (omega arith)
+
+  pub passed : refusalOf a s b t ≡ 0 → Passed
+  unfolding refusalOf
+  passed e = passed-by (storesRight s t) (axesRight a b) (bothAccepted a s b t) (entersRange a s b t) (roomRight a b) refl refl refl refl refl e
+
+  module _ (p : Passed) where
+    pub long : (length s ≡ 16384) × (length t ≡ 16384)
+    unfolding storesRight
+    long = let d = and-parts (eqb (length s) 16384) (eqb (length t) 16384) (p .stores) in (eqb-true _ _ (d .0), eqb-true _ _ (d .1))
+
+    pub few : (a .records + b .records ≤ 1000) × (a .used + b .used ≤ 16384)
+    unfolding roomRight
+    few = let d = and-parts (leb (a .records + b .records) 1000) (leb (a .used + b .used) 16384) (p .room) in (leb-true _ _ (d .0), leb-true _ _ (d .1))
+
+  -- ---- the outcome
+
+  pub refused : {r : ℕ} → r ≡ refusalOf a s b t → (r ≡ 0 → ⊥) → joining (answer r a) s ≡ joinOf a s b t
+  unfolding joinOf
+  refused e n = rw (← e, ne-eqb _ 0 n)
+
+  pub joined : refusalOf a s b t ≡ 0 → joining (answer 0 (both a b)) (endToEnd a s b t) ≡ joinOf a s b t
+  unfolding joinOf
+  joined e = rw e

@@ -13,6 +13,8 @@ pub mod Accepting
 pub mod Right
 pub mod Marks
 pub mod Edges
+pub mod Part
+pub mod Append
 pub mod Decode
 pub mod Target
 pub mod Papers

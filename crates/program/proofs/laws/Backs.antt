@@ -1,18 +1,18 @@
 -- The first loop, from a place on, whose range starts before a mark: how the code finds it, and what it says of ranges that overlap and of
 -- two places that a range parts. Assumes nothing.
 use Prim.Native.Nat.{ℕ, _+_, _-_, _≤_, _<_}
-use mathlib.Core.Bool.{Bool, true, false, not, _&&_, _||_, Bool·beq}
+use mathlib.Core.Bool.{Bool, true, false, not, _&&_, Bool·beq}
 use mathlib.Core.List.{List}
 use mathlib.Core.Path.{_≡_, refl, sym, _∙_, ap, subst, fun-ext}
 use native.Mathlib.Omega.{arith}
 use borrow.Author.Tests.{ltb-true, ltb-false, leb-true, eqb-true, eqb-false, lt-ltb, le-ltb, le-leb, lt-leb}
 use lib.Dec.{ltb, leb, eqb}
 use Rattle.count.specs.Pick.{pick}
-use Rattle.count.proofs.laws.Truth.{never, and-parts, and-false, both, or-false}
+use Rattle.count.proofs.laws.Truth.{never, and-parts, and-false, both}
 use Rattle.program.specs.Check.{some}
 use Rattle.program.specs.work.Marks.{mark, holds, meets, overlaps, outside, strays}
 use Rattle.program.specs.work.Ranges.{Firstly, ranged, startOf, backOf, reach, differ, Backs}
-use Rattle.program.proofs.laws.Clean.{holds-yes}
+use Rattle.program.proofs.laws.Clean.{target-of, holds-yes, holds-late, holds-short}
 use Rattle.program.proofs.laws.Ranges.{some-none, some-one}
 
 -- nowhere from k on, up to i
@@ -142,22 +142,13 @@ module _ (loop : ℕ → Bool) (far : ℕ → ℕ) where
 
   -- ---- what a range holds
 
-  holds-late : (i m : ℕ) → mark i < m → holds loop far i m ≡ false
-  unfolding holds
-  holds-late i m h = rw (lt-leb m (mark i) h, and-false (loop i && leb (far i) m))
-
-  holds-short : (i m : ℕ) → reach loop far (m + 1) i ≡ false → holds loop far i m ≡ false
-  unfolding holds
-  holds-short i m e = by (loop i) refl
-    where
-      by : (b : Bool) → loop i ≡ b → (b && leb (far i) m) && leb m (mark i) ≡ false
-      by true d = let g = reach-not (m + 1) i e d in rw (lt-leb (far i) m (omega arith))
-      by false d = refl
+  short-so : (i m : ℕ) → reach loop far (m + 1) i ≡ false → holds loop far i m ≡ false
+  short-so i m e = holds-short loop far i m (λ d. let g = reach-not (m + 1) i e d in omega arith)
 
   holds-reach : (i m : ℕ) → reach loop far (m + 1) i ≡ true → m ≤ mark i → holds loop far i m ≡ true
   holds-reach i m e h = let d = reach-parts (m + 1) i e in let g = d .1 in holds-yes loop far i m (d .0) (omega arith) h
 
-  differ-so : {x y : Bool} (a b i : ℕ) → holds loop far i a ≡ x → holds loop far i b ≡ y → differ loop far a b i ≡ not (Bool·beq x y)
+  pub differ-so : {x y : Bool} (a b i : ℕ) → holds loop far i a ≡ x → holds loop far i b ≡ y → differ loop far a b i ≡ not (Bool·beq x y)
   unfolding differ
   differ-so a b i e f = rw (e, f)
 
@@ -179,16 +170,16 @@ module _ (loop : ℕ → Bool) (far : ℕ → ℕ) where
     part-first r f l m =
         let g = f .from in
         sym (some-one n r (differ loop far (mark lo) (mark hi)) (omega arith)
-        (differ-so (mark lo) (mark hi) r (holds-reach r (mark lo) (f .hit (omega arith)) (omega arith)) (holds-late r (mark hi) (omega arith))))
+        (differ-so (mark lo) (mark hi) r (holds-reach r (mark lo) (f .hit (omega arith)) (omega arith)) (holds-late loop far r (mark hi) (omega arith))))
 
     pub alike-start : (r : ℕ) → Firstly (reach loop far (mark lo + 1)) lo n r → hi ≤ r → Alike n lo hi hi
     alike-start r f l = record { so-far = λ i a b. by (ltb i lo) i refl a }
       where
         by : (t : Bool) (i : ℕ) → ltb i lo ≡ t → i < hi → differ loop far (mark lo) (mark hi) i ≡ false
-        by true i e a = let g = ltb-true i lo e in differ-so (mark lo) (mark hi) i (holds-late i (mark lo) (omega arith)) (holds-late i (mark hi) (omega arith))
+        by true i e a = let g = ltb-true i lo e in differ-so (mark lo) (mark hi) i (holds-late loop far i (mark lo) (omega arith)) (holds-late loop far i (mark hi) (omega arith))
         by false i e a =
             let g = ltb-false i lo e in
-            differ-so (mark lo) (mark hi) i (holds-short i (mark lo) (f .none i g (omega arith))) (holds-late i (mark hi) (omega arith))
+            differ-so (mark lo) (mark hi) i (short-so i (mark lo) (f .none i g (omega arith))) (holds-late loop far i (mark hi) (omega arith))
 
     module _ (k i : ℕ) (g : hi ≤ k) (f : Firstly (reach loop far (mark hi + 1)) k n i) {near : Bool} (e : near ≡ reach loop far (mark lo + 1) i) where
       -- a range that holds the second and starts behind the first
@@ -198,7 +189,7 @@ module _ (loop : ℕ → Bool) (far : ℕ → ℕ) where
           let l = ltb-true i n (d .0) in
           let c = f .from in
           let z : reach loop far (mark lo + 1) i ≡ false = sym e ∙ off near (d .1) in
-          sym (some-one n i (differ loop far (mark lo) (mark hi)) l (differ-so (mark lo) (mark hi) i (holds-short i (mark lo) z) (holds-reach i (mark hi) (f .hit l) (omega arith))))
+          sym (some-one n i (differ loop far (mark lo) (mark hi)) l (differ-so (mark lo) (mark hi) i (short-so i (mark lo) z) (holds-reach i (mark hi) (f .hit l) (omega arith))))
         where
           off : (x : Bool) → not x ≡ true → x ≡ false
           off true y = never y
@@ -225,7 +216,7 @@ module _ (loop : ℕ → Bool) (far : ℕ → ℕ) where
           by true v j x y b c = a .so-far j (ltb-true j k x) c
           by false true j x y b c =
               let z = f .none j (ltb-false j k x) (ltb-true j i y) in
-              differ-so (mark lo) (mark hi) j (holds-short j (mark lo) (reach-less (mark lo + 1) (mark hi + 1) j (omega arith) z)) (holds-short j (mark hi) z)
+              differ-so (mark lo) (mark hi) j (short-so j (mark lo) (reach-less (mark lo + 1) (mark hi + 1) j (omega arith) z)) (short-so j (mark hi) z)
           by false false j x y b c =
               let d = same (ltb-false j i y) b in
               subst (λ (q : ℕ). differ loop far (mark lo) (mark hi) q ≡ false) (sym d) (here (subst (λ (q : ℕ). q < n) d c))
@@ -238,16 +229,8 @@ module _ (loop : ℕ → Bool) (far : ℕ → ℕ) where
 -- as the code asks: b is whether place p is one, f the mark where it leads to, k the place of that mark; that is a place of the field, or
 -- the end place
 module _ (turn : ℕ → Bool) (far : ℕ → ℕ) (n p : ℕ) {b : Bool} (e : b ≡ turn p) (t : b ≡ true) (o : outside turn far n p ≡ false) where
-  inside-parts : (32768 ≤ far p) × (far p ≤ mark n)
-  unfolding outside
-  inside-parts =
-      let z : turn p ≡ true = sym e ∙ t in
-      let y : ltb (far p) 32768 || ltb (mark n) (far p) ≡ false = rw z at o in
-      let d = or-false y in
-      (ltb-false (far p) 32768 (d .0), ltb-false (mark n) (far p) (d .1))
-
   pub target-in : {f k : ℕ} → f ≡ far p → k ≡ f - 32768 → (mark k ≡ far p) × (k ≤ n)
-  target-in g h = let d = inside-parts in let a = d .0 in let c = d .1 in (omega arith, omega arith)
+  target-in g h = let d = target-of turn far n p o (sym e ∙ t) in let a = d .0 in let c = d .1 in (omega arith, omega arith)
 
 module _ (loop turn : ℕ → Bool) (far : ℕ → ℕ) (n p : ℕ) {b : Bool} (e : b ≡ turn p) where
   pub stray-off : b ≡ false → false ≡ strays loop turn far n p

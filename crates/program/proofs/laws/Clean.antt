@@ -4,10 +4,11 @@ use mathlib.Core.Bool.{Bool, true, false, cond, not, _&&_, Bool·beq}
 use mathlib.Core.Path.{_≡_, refl, sym, _∙_, subst}
 use native.Mathlib.Omega.{arith}
 use native.Mathlib.Nat.{zero-add}
-use borrow.Author.Tests.{ltb-false, leb-true, eqb-true, eqb-false, le-leb}
+use borrow.Author.Tests.{ltb-false, leb-true, eqb-true, eqb-false, le-leb, lt-leb}
 use lib.Dec.{ltb, leb, eqb}
 use Rattle.count.specs.Pick.{pick}
 use Rattle.count.proofs.laws.Truth.{never, or-false, and-parts, both}
+use Rattle.count.proofs.laws.Truth.{and-false as and-off}
 use Rattle.program.specs.declared.Verdict.the-variants.{Sound}
 use Rattle.program.specs.work.Marks.{mark, holds, meets, overlaps, holders, strays, outside, early, letter, checked}
 use Rattle.program.specs.Check.{some, tally}
@@ -31,6 +32,16 @@ none-go f false e z g h = let n = eqb-false _ _ e in g (below h n)
 pub none-of : (k : ℕ) (f : ℕ → Bool) → some k f ≡ false → (i : ℕ) → i < k → f i ≡ false
 none-of zero f e i h = absurd (omega arith)
 none-of (suc k) f e i h = let d = or-false e in none-go f (eqb i k) refl (d .0) (none-of k f (d .1) i) h
+
+-- a target lies between place 0 and the end place
+pub target-of : (turn : ℕ → Bool) (far : ℕ → ℕ) (n p : ℕ) → outside turn far n p ≡ false → turn p ≡ true → (32768 ≤ far p) × (far p ≤ mark n)
+unfolding outside
+target-of turn far n p e t = let d = or-false (and-false e t) in (ltb-false _ _ (d .0), ltb-false _ _ (d .1))
+
+-- a range starts at place 0 or behind it
+pub start-of : (loop : ℕ → Bool) (far : ℕ → ℕ) (p : ℕ) → early loop far p ≡ false → loop p ≡ true → 32768 ≤ far p
+unfolding early
+start-of loop far p e t = ltb-false _ _ (and-false e t)
 
 -- ---- a check that finds nothing finds nothing at each place
 module _ (loop turn : ℕ → Bool) (far : ℕ → ℕ) (n : ℕ) where
@@ -59,6 +70,11 @@ module _ (loop turn : ℕ → Bool) (far : ℕ → ℕ) (n : ℕ) where
   pub clean : checked loop turn far n ≡ Sound → (p : ℕ) → p < n → Clean p
   unfolding checked
   clean e p h = clean-of p (subst (Told (letter loop turn far n) n 0) e (told (letter loop turn far n) n 0) p (omega arith) (omega arith))
+
+  -- and then its letter is 0
+  pub letter-of : (p : ℕ) → Clean p → letter loop turn far n p ≡ 0
+  unfolding letter
+  letter-of p c = rw (c .inside, c .late, c .apart, c .seven, c .same)
 
 -- ---- the counts agree: `holders` counts up, `tally` down
 pub up : ℕ → ℕ → (ℕ → Bool) → ℕ
@@ -92,6 +108,19 @@ module _ (loop : ℕ → Bool) (far : ℕ → ℕ) where
   pub holds-yes : (i m : ℕ) → loop i ≡ true → far i ≤ m → m ≤ mark i → holds loop far i m ≡ true
   unfolding holds
   holds-yes i m k g h = both (both k (le-leb _ _ g)) (le-leb _ _ h)
+
+  -- a range that ends before mark m, or starts behind it, does not hold it
+  pub holds-late : (i m : ℕ) → mark i < m → holds loop far i m ≡ false
+  unfolding holds
+  holds-late i m h = rw (lt-leb m (mark i) h, and-off (loop i && leb (far i) m))
+
+  pub holds-short : (i m : ℕ) → (loop i ≡ true → m < far i) → holds loop far i m ≡ false
+  unfolding holds
+  holds-short i m f = go (loop i) refl
+    where
+      go : (b : Bool) → loop i ≡ b → (b && leb (far i) m) && leb m (mark i) ≡ false
+      go true e = let h = f e in rw (lt-leb (far i) m h)
+      go false e = refl
 
   pub holds-parts : (i m : ℕ) → holds loop far i m ≡ true → (far i ≤ m) × (m ≤ mark i)
   unfolding holds

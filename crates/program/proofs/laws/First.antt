@@ -45,18 +45,18 @@ pub told : (f : ℕ → ℕ) (k p : ℕ) → Told f k p (faultFrom f k p)
 told f zero p = λ i g h. absurd (omega arith)
 told f (suc k) p = told-go f (eqb (f p) 0) k p refl (told f k (suc p))
 
+-- no fault among k places from p on
+pub none : (f : ℕ → ℕ) (k p : ℕ) → ((i : ℕ) → p ≤ i → i < p + k → f i ≡ 0) → faultFrom f k p ≡ Sound
+none f zero p h = refl
+none f (suc k) p h = rw (h p (omega arith) (omega arith)) (none f k (suc p) (λ i g u. h i (omega arith) (omega arith)))
+
 -- ---- of the check
 
 module _ (loop turn : ℕ → Bool) (target : ℕ → ℤ) (n : ℕ) where
-  -- no fault among k places from p on
-  none : (k p : ℕ) → ((i : ℕ) → p ≤ i → i < p + k → letter loop turn target n i ≡ 0) → faultFrom (letter loop turn target n) k p ≡ Sound
-  none zero p h = refl
-  none (suc k) p h = rw (h p (omega arith) (omega arith)) (none k (suc p) (λ i g f. h i (omega arith) (omega arith)))
-
   -- SOUND if no place has a fault (and only then: `told`)
   pub sound-if : ((i : ℕ) → i < n → letter loop turn target n i ≡ 0) → checked loop turn target n ≡ Sound
   unfolding checked
-  sound-if h = none n 0 (λ i g f. h i (omega arith))
+  sound-if h = none (letter loop turn target n) n 0 (λ i g f. h i (omega arith))
 
   -- what a fault found says
   pub record First (a p : ℕ) : Type 0 where

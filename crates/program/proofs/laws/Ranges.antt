@@ -39,7 +39,7 @@ tally-plus : (k : ℕ) (f g h : ℕ → Bool) → ((i : ℕ) → cond {A = ℕ} 
 tally-plus zero f g h e = refl
 tally-plus (suc k) f g h e = omega (arith, e k, tally-plus k f g h e)
 
-tally-none : (k : ℕ) (f : ℕ → Bool) → ((i : ℕ) → i < k → f i ≡ false) → tally k f ≡ 0
+pub tally-none : (k : ℕ) (f : ℕ → Bool) → ((i : ℕ) → i < k → f i ≡ false) → tally k f ≡ 0
 tally-none zero f h = refl
 tally-none (suc k) f h = let z = tally-none k f (λ i l. h i (omega arith)) in rw (h k (omega arith)) (omega arith)
 

@@ -7,16 +7,16 @@ use native.Mathlib.Omega.{arith}
 use borrow.Author.Tests.{ltb-true, ltb-false, leb-true}
 use lib.Dec.{ltb, leb, T}
 use lib.ListN.{length}
-use Rattle.count.proofs.laws.Truth.{or-false, and-parts}
+use Rattle.count.proofs.laws.Truth.{and-parts}
 use Rattle.record.specs.declared.Record.{Record}
 use Rattle.program.specs.declared.Verdict.the-variants.{Sound}
-use Rattle.program.specs.work.Marks.{mark, holds, meets, overlaps, holders, strays, outside, early}
+use Rattle.program.specs.work.Marks.{mark, holds, meets, overlaps, holders, strays}
 use Rattle.program.specs.work.Aims.{Aim, goes, jumps, waits, loops, offsetOf, aimAt, loopAt, turnAt, farAt, markedOf}
 use Rattle.program.specs.work.Aims as aims
 use Rattle.program.proofs.laws.Flow.{Flow, Ahead, Jump, Wait, Round, Halt}
 use Rattle.program.proofs.laws.Flow as flow
 use Rattle.program.proofs.laws.Nest.{is-true, Secure}
-use Rattle.program.proofs.laws.Clean.{and-false, none-of, up-tally, holders-up, holds-yes, holds-parts, meets-no, level, Clean, clean}
+use Rattle.program.proofs.laws.Clean.{and-false, none-of, up-tally, holders-up, holds-yes, holds-parts, meets-no, level, Clean, clean, target-of, start-of}
 
 -- where a record at place i goes
 abbrev pub placed : ℕ → Aim → Flow
@@ -122,13 +122,11 @@ module _ (l : List Record) (back : Back l) (fine : markedOf l ≡ Sound) where
 
   -- a target lies between place 0 and the end place
   pub target-in : (p : ℕ) → p < length l → turnAt l p ≡ true → (32768 ≤ farAt l p) × (farAt l p ≤ mark (length l))
-  unfolding outside
-  target-in p h t = let d = or-false (and-false (cleans p h .inside) t) in (ltb-false _ _ (d .0), ltb-false _ _ (d .1))
+  target-in p h t = target-of (turnAt l) (farAt l) (length l) p (cleans p h .inside) t
 
   -- a loop goes back to place 0 or behind it
   pub start-in : (p : ℕ) → p < length l → loopAt l p ≡ true → (32768 ≤ farAt l p) × (farAt l p < mark p)
-  unfolding early
-  start-in p h t = let b = back p h t in (ltb-false _ _ (and-false (cleans p h .late) t), omega arith)
+  start-in p h t = let b = back p h t in (start-of (loopAt l) (farAt l) p (cleans p h .late) t, omega arith)
 
   pub secure : Secure (flowAt l) (length l)
   secure = record { bounded = λ i k. loop-in i k .0; own = own; nest = nest; jump = jump; wait = wait; few = few }

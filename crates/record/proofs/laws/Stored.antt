@@ -216,16 +216,20 @@ pub fetched-right : (h : Held) (s : List ℕ) (place : ℕ) {r : Record} → Bel
 unfolding fetchOf
 fetched-right h s place b e = spot-right (spotOf h s place) h s b e
 
--- ---- storing a record puts it behind the list
+-- ---- a list behind another; storing a record puts it behind the list
+
+pub encode-append : (l m : List Record) → encodeAll (l ++ m) ≡ encodeAll l ++ encodeAll m
+unfolding encodeAll
+encode-append [] m = refl
+encode-append (x ∷ l) m = rw (encode-append l m) (sym (append-assoc (encode x) (encodeAll l) (encodeAll m)))
 
 pub encode-behind : (l : List Record) (r : Record) → encodeAll (l ++ r ∷ []) ≡ encodeAll l ++ encode r
 unfolding encodeAll
-encode-behind [] r = append-nil (encode r)
-encode-behind (x ∷ l) r = rw (encode-behind l r) (sym (append-assoc (encode x) (encodeAll l) (encode r)))
+encode-behind l r = encode-append l (r ∷ []) ∙ ap (λ (t : List ℕ). encodeAll l ++ t) (append-nil (encode r))
 
-pub right-behind : (axes : ℕ) (l : List Record) (r : Record) → AllRight axes l → RightOne axes r → AllRight axes (l ++ r ∷ [])
-right-behind axes [] r f g = (g, tt)
-right-behind axes (x ∷ l) r f g = (f .0, right-behind axes l r (f .1) g)
+pub right-append : (axes : ℕ) (l m : List Record) → AllRight axes l → AllRight axes m → AllRight axes (l ++ m)
+right-append axes [] m f g = g
+right-append axes (x ∷ l) m f g = (f .0, right-append axes l m (f .1) g)
 
 -- what an accepted record leaves: its list, and the bytes before and beyond it as they were
 pub record Appended (h : Held) (r : Record) (s : List ℕ) (l : List Record) (k : Storing) : Type 0 where
@@ -255,7 +259,7 @@ module _ (h : Held) (r : Record) (s : List ℕ) where
       take-at (t ++ encode r) (drop (h .used + n) s) (h .used + n) c ∙ rw (encode-behind, ← f .bytes) in
       record {
         list = list-readable then-held then-bytes (l ++ r ∷ [])
-            record { bytes = u; count = length-append l (r ∷ []) ∙ rw (f .count); right = right-behind (h .axes) l r (f .right) g };
+            record { bytes = u; count = length-append l (r ∷ []) ∙ rw (f .count); right = right-append (h .axes) l (r ∷ []) (f .right) (g, tt) };
         before = rw append-assoc (take-at t (encode r ++ drop (h .used + n) s) (h .used) a);
         beyond = drop-at (t ++ encode r) (drop (h .used + n) s) (h .used + n) c;
         long = length-append (t ++ encode r) (drop (h .used + n) s) ∙ omega arith;

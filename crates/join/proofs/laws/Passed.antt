@@ -1,16 +1,20 @@
--- What a join that is not refused has passed, test by test; and what one that is refused gives back. Assumes nothing.
+-- What a join that is not refused has passed, test by test; what G says of two accepted programs; and what a refused join gives back.
+-- Assumes nothing.
 use Prim.Native.Nat.{ℕ, _+_, _≤_}
 use mathlib.Core.Bool.{Bool, true, false, not, _||_}
 use mathlib.Core.List.{List}
-use mathlib.Core.Path.{_≡_, refl}
+use mathlib.Core.Path.{_≡_, refl, sym, _∙_, ap}
 use native.Mathlib.Omega.{arith}
-use borrow.Author.Tests.{eqb-true, leb-true, ne-eqb}
+use borrow.Author.Tests.{eqb-true, eqb-false, leb-true, ne-eqb}
 use lib.Dec.{leb, eqb}
 use lib.ListN.{length}
 use Rattle.count.specs.Pick.{pick}
-use Rattle.count.proofs.laws.Truth.{and-parts}
+use Rattle.count.proofs.laws.Truth.{never, and-parts}
+use Rattle.count.proofs.laws.Truth.{both as true-both}
 use Rattle.record.specs.declared.Held.{Held}
-use Rattle.join.specs.Join.{storesRight, axesRight, bothAccepted, entersRange, roomRight, refusalOf, both, endToEnd, joining, answer, joinOf}
+use Rattle.program.specs.Program.{axesSet}
+use Rattle.program.specs.Program as program
+use Rattle.join.specs.Join.{axesBeside, counted, storesRight, axesRight, bothAccepted, entersRange, roomRight, refusalOf, both, endToEnd, Joining, joining, answer, joinOf}
 
 module _ (a : Held) (s : List ℕ) (b : Held) (t : List ℕ) where
   pub record Passed : Type 0 where
@@ -33,6 +37,10 @@ module _ (a : Held) (s : List ℕ) (b : Held) (t : List ℕ) where
   unfolding refusalOf
   passed e = passed-by (storesRight s t) (axesRight a b) (bothAccepted a s b t) (entersRange a s b t) (roomRight a b) refl refl refl refl refl e
 
+  same-axes : axesRight a b ≡ true → (axesBeside a b ≡ axesBeside b a) × (axesSet (axesBeside a b) ≡ true)
+  unfolding axesRight
+  same-axes e = let d = and-parts (eqb (axesBeside a b) (axesBeside b a)) (axesSet (axesBeside a b)) e in (eqb-true _ _ (d .0), d .1)
+
   module _ (p : Passed) where
     pub long : (length s ≡ 16384) × (length t ≡ 16384)
     unfolding storesRight
@@ -41,6 +49,30 @@ module _ (a : Held) (s : List ℕ) (b : Held) (t : List ℕ) where
     pub few : (a .records + b .records ≤ 1000) × (a .used + b .used ≤ 16384)
     unfolding roomRight
     few = let d = and-parts (leb (a .records + b .records) 1000) (leb (a .used + b .used) 16384) (p .room) in (leb-true _ _ (d .0), leb-true _ _ (d .1))
+
+    pub alike : (axesBeside a b ≡ axesBeside b a) × (axesSet (axesBeside a b) ≡ true)
+    alike = same-axes (p .axes)
+
+    pub each : (program.accepted (counted a b) s ≡ true) × (program.accepted (counted b a) t ≡ true)
+    unfolding bothAccepted
+    each = and-parts (program.accepted (counted a b) s) (program.accepted (counted b a) t) (p .accepted)
+
+  -- ---- G of two accepted programs: they are of the same axes, and a jump or wait leads into a range
+
+  enters-by : (v w x y z : Bool) → pick {A = ℕ} (not v) 102 (pick (not w) 51 (pick (not x || y) 71 (pick (not z) 54 0))) ≡ 71 → x ≡ true → (w ≡ true) × (y ≡ true)
+  enters-by true true x true z e f = (refl, refl)
+  enters-by true true true false true e f = absurd (omega arith)
+  enters-by true true true false false e f = absurd (omega arith)
+  enters-by true true false false z e f = never f
+  enters-by true false x y z e f = absurd (omega arith)
+  enters-by false w x y z e f = absurd (omega arith)
+
+  pub enters : refusalOf a s b t ≡ 71 → program.accepted (counted a b) s ≡ true → program.accepted (counted b a) t ≡ true
+      → (axesBeside a b ≡ axesBeside b a) × (entersRange a s b t ≡ true)
+  unfolding refusalOf bothAccepted
+  enters e p q =
+      let d = enters-by (storesRight s t) (axesRight a b) (bothAccepted a s b t) (entersRange a s b t) (roomRight a b) e (true-both p q) in
+      (same-axes (d .0) .0, d .1)
 
   -- ---- the outcome
 
@@ -51,3 +83,11 @@ module _ (a : Held) (s : List ℕ) (b : Held) (t : List ℕ) where
   pub joined : refusalOf a s b t ≡ 0 → joining (answer 0 (both a b)) (endToEnd a s b t) ≡ joinOf a s b t
   unfolding joinOf
   joined e = rw e
+
+  -- the refusal that is answered
+  pub refusal-is : joinOf a s b t .joined .refusal ≡ refusalOf a s b t
+  refusal-is = by (eqb (refusalOf a s b t) 0) refl
+    where
+      by : (q : Bool) → eqb (refusalOf a s b t) 0 ≡ q → joinOf a s b t .joined .refusal ≡ refusalOf a s b t
+      by true e = let z = eqb-true (refusalOf a s b t) 0 e in ap (λ (j : Joining). j .joined .refusal) (sym (joined z)) ∙ sym z
+      by false e = ap (λ (j : Joining). j .joined .refusal) (sym (refused refl (eqb-false (refusalOf a s b t) 0 e)))

@@ -94,9 +94,11 @@ pub fn join(first: Held, store: &mut [u8], second: Held, other: &[u8]) -> Joined
     let at = first.used as usize;
     let n = second.used as usize;
     put_bytes(&mut *store, at, other, n);
+    let used = (at + n) as u16;
+    let records = first.records + second.records;
     let held = Held {
-        used: (at + n) as u16,
-        records: first.records + second.records,
+        used,
+        records,
         axes: axes_beside(first, second),
     };
     Joined { refusal: 0, held }

@@ -30,19 +30,19 @@ put-bytes-requires c κs =
     let p = passed (a .first) (a .store .now) (a .second) (a .other .now) z in
     (omega (arith, few (a .first) (a .store .now) (a .second) (a .other .now) p .1, long (a .first) (a .store .now) (a .second) (a .other .now) p .0), omega (arith, few (a .first) (a .store .now) (a .second) (a .other .now) p .1, long (a .first) (a .store .now) (a .second) (a .other .now) p .1))
 
-add-t15 : tie.Need-add-t15
-add-t15 c = search needs
+add-used : tie.Need-add-used
+add-used c = search needs
 
-cast-t16 : tie.Need-cast-t16
-cast-t16 c =
+cast-used : tie.Need-cast-used
+cast-used c =
     let i = c .before .before .before .before .before .before in
     let a = i .before .before .before .before .before .args in
     let z = sym (i .before .refusal-of .ensures) ∙ i .if1 .left in
     let p = passed (a .first) (a .store .now) (a .second) (a .other .now) z in
     omega (arith, few (a .first) (a .store .now) (a .second) (a .other .now) p .1)
 
-add-t17 : tie.Need-add-t17
-add-t17 c =
+add-records : tie.Need-add-records
+add-records c =
     let i = c .before .before .before .before .before .before .before .before in
     let a = i .before .before .before .before .before .args in
     let z = sym (i .before .refusal-of .ensures) ∙ i .if1 .left in
@@ -74,9 +74,9 @@ join-spec =
     cast-at
     cast-n
     put-bytes-requires
-    add-t15
-    cast-t16
-    add-t17
+    add-used
+    cast-used
+    add-records
     axes-beside-requires
     same-length-2
     returns-2)

@@ -17,6 +17,19 @@ pub(crate) struct WholeRead {
     pub at: usize,
 }
 
+// A number of 16 bits, or that there is none, and where it ends.
+pub(crate) struct NumberRead {
+    pub right: bool,
+    pub value: u16,
+    pub at: usize,
+}
+
+// Whether the bytes could be read, and where they end.
+pub(crate) struct BytesRead {
+    pub right: bool,
+    pub at: usize,
+}
+
 // Where the field that starts at a place ends.
 pub(crate) fn end_of(line: &[u8], from: usize) -> usize
     requires { ⌜ from ≤ length (now line) ⌝ }
@@ -66,4 +79,35 @@ pub(crate) fn whole_behind(line: &[u8], at: usize) -> WholeRead
         value,
         at: end,
     }
+}
+
+// The next field as a number from 0 to `most`.
+pub(crate) fn number_behind(line: &[u8], at: usize, most: u16) -> NumberRead
+    ensures { λ r. ⌜ r .value ≤ most ⌝ }
+{
+    let read = whole_behind(line, at);
+    let value = read.value;
+    if (value < 0) | ((most as i64) < value) {
+        return NumberRead {
+            right: false,
+            value: 0,
+            at: read.at,
+        };
+    }
+    NumberRead {
+        right: read.right,
+        value: value as u16,
+        at: read.at,
+    }
+}
+
+// The next field as bytes, which then stand at the front of those lent.
+pub(crate) fn bytes_behind(line: &[u8], at: usize, bytes: &mut [u8]) -> BytesRead {
+    if line.len() <= at {
+        return BytesRead { right: false, at };
+    }
+    let from = at + 1;
+    let end = end_of(line, from);
+    let right = reader::read_bytes(&line[from..end], bytes);
+    BytesRead { right, at: end }
 }

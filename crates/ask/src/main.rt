@@ -5,6 +5,7 @@ use libc::STDOUT_FILENO;
 
 mod chain;
 mod fields;
+mod joins;
 mod show;
 
 // The bytes of the longest line that is read. The buffer has one more, for a carriage return behind it.
@@ -25,6 +26,9 @@ fn answer(line: &[u8]) -> bool {
     let end = fields::end_of(line, 0);
     if check::same(&line[..end], b"chain") {
         return chain::answer(line, end);
+    }
+    if check::same(&line[..end], b"join") {
+        return joins::answer(line, end);
     }
     show::unread()
 }

@@ -2,6 +2,7 @@
 ghost use Prim.Native.Nat.{_≤_};
 ghost use lib.ListN.{length};
 use libc::STDOUT_FILENO;
+use record::Held;
 
 // The answer to a line that cannot be read.
 pub(crate) fn unread() -> bool {
@@ -55,4 +56,72 @@ pub(crate) fn chained(refusal: u16, steps: &[i32]) -> bool {
         i = i + 1;
     }
     write_line(&text, at)
+}
+
+// A digit of a byte in small letters.
+fn hex_digit(n: u8) -> u8
+    requires { ⌜ n ≤ 15 ⌝ }
+{
+    if n < 10 {
+        return b'0' + n;
+    }
+    b'a' + (n - 10)
+}
+
+// A byte at a place of the text.
+fn put_pair(text: &mut [u8], at: usize, b: u8)
+    requires { ⌜ at + 2 ≤ length (now text) ⌝ }
+{
+    text[at] = hex_digit(b / 16);
+    text[at + 1] = hex_digit(b % 16);
+}
+
+// Bytes behind the text so far, with a space before them, or `-` for none; answers where the text goes on, which is where it was if there
+// is no room.
+fn put_bytes(text: &mut [u8], at: usize, bytes: &[u8]) -> usize
+    requires { ⌜ at ≤ length (now text) ⌝ }
+    ensures { λ r. ⌜ r ≤ length (now (text .entry)) ⌝ }
+{
+    let n = bytes.len();
+    let room = text.len() - at;
+    if (room < 3) | ((room - 1) / 2 < n) {
+        return at;
+    }
+    put_space(&mut *text, at);
+    let from = at + 1;
+    if n == 0 {
+        text[from] = b'-';
+        return from + 1;
+    }
+    let mut i = 0;
+    while i < n {
+        put_pair(&mut *text, from + 2 * i, bytes[i]);
+        i = i + 1;
+    }
+    from + 2 * n
+}
+
+// The refusal of a join: its character, or the number of any other.
+pub(crate) fn refused(refusal: u16) -> bool {
+    if refusal == 51 {
+        return io::write_all(STDOUT_FILENO, b"3\n");
+    }
+    if refusal == 71 {
+        return io::write_all(STDOUT_FILENO, b"G\n");
+    }
+    if refusal == 54 {
+        return io::write_all(STDOUT_FILENO, b"6\n");
+    }
+    chained(refusal, &[])
+}
+
+// 0 and the joined program, whose bytes in use are lent: at most 16,384 of them.
+pub(crate) fn joined(held: Held, bytes: &[u8]) -> bool {
+    let mut text = [0u8; 32832];
+    let refusal = put_behind(&mut text, 0, 0);
+    let used = put_behind(&mut text, refusal, held.used as i32);
+    let records = put_behind(&mut text, used, held.records as i32);
+    let axes = put_behind(&mut text, records, held.axes as i32);
+    let end = put_bytes(&mut text, axes, bytes);
+    write_line(&text, end)
 }

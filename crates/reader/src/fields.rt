@@ -10,6 +10,7 @@ ghost use Rattle.reader.specs.Reader.{isDigit};
 ghost use Rattle.reader.specs.Fields.{fieldEnd, noWhole, signedWhole, wholeOf, isHex, noBits, bitsOf};
 ghost use Rattle.reader.specs.work.Sizes.{sizeFrom, sizedWhole};
 use super::hex_number;
+use super::hex_value;
 use super::is_digit;
 
 // Whether a field is a whole number, and the number, or 0.
@@ -183,6 +184,48 @@ fn all_hex(field: &[u8]) -> bool
         i = i + 1;
     }
     true
+}
+
+// Bytes of two digits each, which then stand at the front of those lent, or `-` for none. Everything is tested before anything is written.
+pub fn read_bytes(field: &[u8], bytes: &mut [u8]) -> bool {
+    if is_dash(field) {
+        return true;
+    }
+    if !pairs_right(field, bytes.len()) {
+        return false;
+    }
+    put_pairs(field, bytes);
+    true
+}
+
+fn is_dash(field: &[u8]) -> bool {
+    if field.len() != 1 {
+        return false;
+    }
+    field[0] == 45
+}
+
+// Whether a field is of pairs of digits, and of no more than there is room for.
+fn pairs_right(field: &[u8], room: usize) -> bool {
+    let n = field.len();
+    if (n == 0) | (n % 2 != 0) | (room < n / 2) {
+        return false;
+    }
+    all_hex(field)
+}
+
+fn byte_at(field: &[u8], at: usize) -> u8 {
+    (hex_value(field[at]) * 16 + hex_value(field[at + 1])) as u8
+}
+
+fn put_pairs(field: &[u8], bytes: &mut [u8]) {
+    let n = field.len() / 2;
+    let mut i = 0;
+    while i < n {
+        let b = byte_at(field, 2 * i);
+        bytes[i] = b;
+        i = i + 1;
+    }
 }
 
 // The float of a pattern. Every pattern of not-a-number gives the same.

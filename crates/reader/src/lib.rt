@@ -13,6 +13,7 @@ pub use fields::field_end;
 pub use fields::float;
 pub use fields::magnitude;
 pub use fields::read_bits;
+pub use fields::read_bytes;
 pub use fields::read_whole;
 
 // A number of the text as a word of 32 bits, and where the text goes on.
@@ -85,7 +86,7 @@ pub fn next_numbers(text: &[u8], from: usize, words: &mut [u32]) -> usize
 }
 
 // The value of a hexadecimal digit; any other byte counts as 0.
-fn hex_value(b: u8) -> u64
+pub(crate) fn hex_value(b: u8) -> u64
     ensures { λ r. ⌜ (r ≡ hexValue b) × (r ≤ 15) ⌝ }
 {
     if b < 48 {

@@ -1,13 +1,15 @@
 -- No second answer meets the contract of an exported function: the text, the place and how many numbers are asked for decide what is read
 -- and where the text goes on. Assumes nothing.
-use mathlib.Core.Path.{_≡_, sym, _∙_}
+use mathlib.Core.Path.{_≡_, sym, ap, _∙_}
 use denote.Ref.{now}
+use Rattle.reader.specs.Fields.{Given}
 use Rattle.reader.proofs.next_number.Reads as next-number
 use Rattle.reader.proofs.next_numbers.Reads as next-numbers
 use Rattle.reader.proofs.hex_number.Reads as hex-number
 use Rattle.reader.proofs.fields.field_end.Reads as field-end
 use Rattle.reader.proofs.fields.read_whole.Reads as read-whole
 use Rattle.reader.proofs.fields.read_bits.Reads as read-bits
+use Rattle.reader.proofs.fields.read_bytes.Reads as read-bytes
 use Rattle.reader.proofs.fields.float.Reads as float
 use Rattle.reader.proofs.fields.magnitude.Reads as magnitude
 
@@ -31,6 +33,13 @@ read-whole-one κs a r r′ s s′ p q = p ∙ sym q
 
 pub read-bits-one : (κs : _) (a : _) (r r′ : _) (s s′ : _) → read-bits.Post κs a r s → read-bits.Post κs a r′ s′ → r ≡ r′
 read-bits-one κs a r r′ s s′ p q = p ∙ sym q
+
+-- the second parameter, `bytes: &mut [u8]`, as it is left
+abbrev read-bytes-bytes : {X A B : Type 0} → A × (X × B) → X
+read-bytes-bytes s = s .1 .0
+
+pub read-bytes-one : (κs : _) (a : _) (r r′ : _) (s s′ : _) → read-bytes.Post κs a r s → read-bytes.Post κs a r′ s′ → (r ≡ r′) × (now (read-bytes-bytes s) ≡ now (read-bytes-bytes s′))
+read-bytes-one κs a r r′ s s′ p q = (ap (λ (x : Given). x .right) (p ∙ sym q), ap (λ (x : Given). x .bytes) (p ∙ sym q))
 
 pub float-one : (κs : _) (a : _) (r r′ : _) (s s′ : _) → float.Post κs a r s → float.Post κs a r′ s′ → r ≡ r′
 float-one κs a r r′ s s′ p q = p ∙ sym q

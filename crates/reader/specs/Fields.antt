@@ -1,8 +1,8 @@
--- The fields of a line of questions: words parted by one space each, of which some are whole numbers and some the bits of a float. The paper knows no such line; this
--- is ours alone (D165).
-use Prim.Native.Nat.{ℕ, _+_, _-_, _*_}
+-- The fields of a line of questions: words parted by one space each, of which some are whole numbers, some the bits of a float and some the bytes of a store. The paper
+-- knows no such line; this is ours alone (D165).
+use Prim.Native.Nat.{ℕ, _+_, _-_, _*_, _/_, _%_}
 use mathlib.Core.Bool.{Bool, true, false, _&&_, _||_}
-use mathlib.Core.List.{List, [], _∷_}
+use mathlib.Core.List.{List, [], _∷_, _++_}
 use lib.Dec.{leb, eqb}
 use lib.IntN.{ℤ, pos, negsuc}
 use lib.ListN.{length, drop}
@@ -11,7 +11,7 @@ use Rattle.count.specs.Pick.{pick, every}
 use Rattle.count.specs.Numbers.{within, withSign}
 use Rattle.reader.specs.declared.fields.Whole.{Whole}
 use Rattle.reader.specs.declared.fields.Bits.{Bits}
-use Rattle.reader.specs.Reader.{isDigit, withHex}
+use Rattle.reader.specs.Reader.{isDigit, hexValue, withHex}
 
 -- the bytes before the next space, or all of them if there is none
 unfoldable pub fieldLength : List ℕ → ℕ
@@ -59,3 +59,40 @@ noBits = record { right = false; word = 0 }
 
 unfoldable pub bitsOf : List ℕ → Bits
 bitsOf s = pick (eqb (length s) 16 && every isHex s) (record { right = true; word = withHex s 0 }) noBits
+
+-- ---- bytes: two hexadecimal digits each, with small letters, or `-` for none
+
+unfoldable pub isDash : List ℕ → Bool
+isDash [] = false
+isDash (b ∷ []) = eqb b (ch "-")
+isDash (b ∷ c ∷ s) = false
+
+-- at least one pair of digits, at most so many, and nothing else
+unfoldable pub arePairs : List ℕ → ℕ → Bool
+arePairs s most =
+    let n = length s / 2 in
+    leb 1 n && leb n most && eqb (length s % 2) 0 && every isHex s
+
+-- the byte of two digits, the higher one first
+abbrev pub byteOf : ℕ → ℕ → ℕ
+byteOf high low = hexValue high * 16 + hexValue low
+
+-- the byte of each pair
+unfoldable pub pairs : List ℕ → List ℕ
+pairs [] = []
+pairs (b ∷ []) = []
+pairs (b ∷ c ∷ s) = byteOf b c ∷ pairs s
+
+-- whether the field is right, and the lent bytes afterwards
+pub record Given : Type 0 where
+  pub right : Bool
+  pub bytes : List ℕ
+
+abbrev pub given : Bool → List ℕ → Given
+given right bytes = record { right = right; bytes = bytes }
+
+-- the lent bytes hold the field's at their front, and behind that what they held; with `-` and with a wrong field they stay as found
+unfoldable pub bytesOf : List ℕ → List ℕ → Given
+bytesOf s bytes =
+    pick (isDash s) (given true bytes)
+    (pick (arePairs s (length bytes)) (given true (pairs s ++ drop (length (pairs s)) bytes)) (given false bytes))

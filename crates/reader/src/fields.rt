@@ -1,13 +1,14 @@
 // The fields of a line of questions, parted by one space each.
 ghost use mathlib.Core.Path.{_≡_};
 ghost use mathlib.Core.Bool.{true, false};
-ghost use Prim.Native.Nat.{_-_, _≤_};
+ghost use mathlib.Core.List.{_++_};
+ghost use Prim.Native.Nat.{_-_, _/_, _≤_};
 ghost use lib.IntN.{natAbs};
-ghost use lib.ListN.{length};
+ghost use lib.ListN.{length, drop};
 ghost use lib.Ieee.{binary64, ofBits};
 ghost use Rattle.count.specs.Pick.{every};
 ghost use Rattle.reader.specs.Reader.{isDigit};
-ghost use Rattle.reader.specs.Fields.{fieldEnd, noWhole, signedWhole, wholeOf, isHex, noBits, bitsOf};
+ghost use Rattle.reader.specs.Fields.{fieldEnd, noWhole, signedWhole, wholeOf, isHex, noBits, bitsOf, isDash, arePairs, byteOf, pairs, given, bytesOf};
 ghost use Rattle.reader.specs.work.Sizes.{sizeFrom, sizedWhole};
 use super::hex_number;
 use super::hex_value;
@@ -187,42 +188,53 @@ fn all_hex(field: &[u8]) -> bool
 }
 
 // Bytes of two digits each, which then stand at the front of those lent, or `-` for none. Everything is tested before anything is written.
-pub fn read_bytes(field: &[u8], bytes: &mut [u8]) -> bool {
+pub fn read_bytes(field: &[u8], bytes: &mut [u8]) -> bool
+    ensures { λ r. ⌜ given r (now (bytes .exit)) ≡ bytesOf (now (field .entry)) (now (bytes .entry)) ⌝ }
+{
     if is_dash(field) {
         return true;
     }
-    if !pairs_right(field, bytes.len()) {
+    if !are_pairs(field, bytes.len()) {
         return false;
     }
     put_pairs(field, bytes);
     true
 }
 
-fn is_dash(field: &[u8]) -> bool {
+fn is_dash(field: &[u8]) -> bool
+    ensures { λ r. ⌜ r ≡ isDash (now (field .entry)) ⌝ }
+{
     if field.len() != 1 {
         return false;
     }
     field[0] == 45
 }
 
-// Whether a field is of pairs of digits, and of no more than there is room for.
-fn pairs_right(field: &[u8], room: usize) -> bool {
-    let n = field.len();
-    if (n == 0) | (n % 2 != 0) | (room < n / 2) {
-        return false;
-    }
-    all_hex(field)
+// Whether a field is of pairs of digits, and of no more than `most`.
+fn are_pairs(field: &[u8], most: usize) -> bool
+    ensures { λ r. ⌜ r ≡ arePairs (now (field .entry)) most ⌝ }
+{
+    let n = field.len() / 2;
+    (1 <= n) & (n <= most) & (field.len() % 2 == 0) & all_hex(field)
 }
 
-fn byte_at(field: &[u8], at: usize) -> u8 {
-    (hex_value(field[at]) * 16 + hex_value(field[at + 1])) as u8
+// The byte of two digits.
+fn byte_of(high: u8, low: u8) -> u8
+    ensures { λ r. ⌜ r ≡ byteOf high low ⌝ }
+{
+    (hex_value(high) * 16 + hex_value(low)) as u8
 }
 
-fn put_pairs(field: &[u8], bytes: &mut [u8]) {
+// The bytes of all pairs, at the front of those lent.
+fn put_pairs(field: &[u8], bytes: &mut [u8])
+    requires { ⌜ length (now field) / 2 ≤ length (now bytes) ⌝ }
+    ensures { λ r. ⌜ now (bytes .exit) ≡ pairs (now (field .entry)) ++ drop (length (pairs (now (field .entry)))) (now (bytes .entry)) ⌝ }
+{
     let n = field.len() / 2;
     let mut i = 0;
     while i < n {
-        let b = byte_at(field, 2 * i);
+        let at = 2 * i;
+        let b = byte_of(field[at], field[at + 1]);
         bytes[i] = b;
         i = i + 1;
     }

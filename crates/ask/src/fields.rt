@@ -94,9 +94,10 @@ pub(crate) fn number_behind(line: &[u8], at: usize, most: u16) -> NumberRead
             at: read.at,
         };
     }
+    let small = value as u16;
     NumberRead {
         right: read.right,
-        value: value as u16,
+        value: small,
         at: read.at,
     }
 }

@@ -1,5 +1,5 @@
 // What is printed. Each function says whether its last write went well.
-ghost use Prim.Native.Nat.{_≤_};
+ghost use Prim.Native.Nat.{_+_, _*_, _≤_};
 ghost use lib.ListN.{length};
 use libc::STDOUT_FILENO;
 use record::Held;
@@ -9,9 +9,9 @@ pub(crate) fn unread() -> bool {
     io::write_all(STDOUT_FILENO, b"?\n")
 }
 
-fn put_space(text: &mut [u8], at: usize) {
+fn put_at(text: &mut [u8], at: usize, b: u8) {
     if at < text.len() {
-        text[at] = b' ';
+        text[at] = b;
     }
 }
 
@@ -25,7 +25,7 @@ fn put_behind(text: &mut [u8], at: usize, v: i32) -> usize
     }
     let from = at + 1;
     let word = count::word_of(v < 0, reader::magnitude(v));
-    put_space(&mut *text, at);
+    put_at(&mut *text, at, b' ');
     let k = count::put_word(&mut text[from..], word);
     if k <= 11 {
         return from + k;
@@ -34,15 +34,16 @@ fn put_behind(text: &mut [u8], at: usize, v: i32) -> usize
 }
 
 // The text without the space in front, and a line feed behind.
-fn write_line(text: &[u8], at: usize) -> bool {
+fn write_line(text: &mut [u8], at: usize) -> bool {
     if at < 1 {
         return false;
     }
-    if text.len() < at {
+    if text.len() <= at {
         return false;
     }
-    io::write_all(STDOUT_FILENO, &text[1..at]);
-    io::write_all(STDOUT_FILENO, b"\n")
+    put_at(&mut *text, at, b'\n');
+    let end = at + 1;
+    io::write_all(STDOUT_FILENO, &text[1..end])
 }
 
 // A refusal, or 0 and the numbers delivered. A chain has at most 1,000, of at most eleven bytes and a space before each.
@@ -55,7 +56,7 @@ pub(crate) fn chained(refusal: u16, steps: &[i32]) -> bool {
         at = next;
         i = i + 1;
     }
-    write_line(&text, at)
+    write_line(&mut text, at)
 }
 
 // A digit of a byte in small letters.
@@ -72,8 +73,20 @@ fn hex_digit(n: u8) -> u8
 fn put_pair(text: &mut [u8], at: usize, b: u8)
     requires { ⌜ at + 2 ≤ length (now text) ⌝ }
 {
-    text[at] = hex_digit(b / 16);
-    text[at + 1] = hex_digit(b % 16);
+    put_at(&mut *text, at, hex_digit(b / 16));
+    put_at(&mut *text, at + 1, hex_digit(b % 16));
+}
+
+// Bytes from a place of the text on.
+fn put_pairs(text: &mut [u8], at: usize, bytes: &[u8])
+    requires { ⌜ at + 2 * length (now bytes) ≤ length (now text) ⌝ }
+{
+    let mut i = 0;
+    while i < bytes.len() {
+        let place = at + 2 * i;
+        put_pair(&mut *text, place, bytes[i]);
+        i = i + 1;
+    }
 }
 
 // Bytes behind the text so far, with a space before them, or `-` for none; answers where the text goes on, which is where it was if there
@@ -82,22 +95,21 @@ fn put_bytes(text: &mut [u8], at: usize, bytes: &[u8]) -> usize
     requires { ⌜ at ≤ length (now text) ⌝ }
     ensures { λ r. ⌜ r ≤ length (now (text .entry)) ⌝ }
 {
-    let n = bytes.len();
     let room = text.len() - at;
-    if (room < 3) | ((room - 1) / 2 < n) {
+    let n = bytes.len();
+    if room < 2 {
         return at;
     }
-    put_space(&mut *text, at);
     let from = at + 1;
+    put_at(&mut *text, at, b' ');
     if n == 0 {
-        text[from] = b'-';
+        put_at(&mut *text, from, b'-');
         return from + 1;
     }
-    let mut i = 0;
-    while i < n {
-        put_pair(&mut *text, from + 2 * i, bytes[i]);
-        i = i + 1;
+    if (room - 1) / 2 < n {
+        return at;
     }
+    put_pairs(&mut *text, from, bytes);
     from + 2 * n
 }
 
@@ -123,5 +135,5 @@ pub(crate) fn joined(held: Held, bytes: &[u8]) -> bool {
     let records = put_behind(&mut text, used, held.records as i32);
     let axes = put_behind(&mut text, records, held.axes as i32);
     let end = put_bytes(&mut text, axes, bytes);
-    write_line(&text, end)
+    write_line(&mut text, end)
 }

@@ -29,11 +29,26 @@ answer-requires c κs = search needs
 returns-2 : tie.Need-returns-2
 returns-2 c = search needs
 
-unread-requires-2 : tie.Need-unread-requires-2
-unread-requires-2 c κs = search needs
+slice-aggregate-same-3 : tie.Need-slice-aggregate-same-3
+slice-aggregate-same-3 c = sym (length-take-le _ _ (c .before .before .before .before .before .end-of .ensures .1))
+
+slice-aggregate-same-4 : tie.Need-slice-aggregate-same-4
+slice-aggregate-same-4 c = search needs
+
+same-requires-2 : tie.Need-same-requires-2
+same-requires-2 c κs = search needs
+
+answer-requires-2 : tie.Need-answer-requires-2
+answer-requires-2 c κs = search needs
 
 returns-3 : tie.Need-returns-3
 returns-3 c = search needs
+
+unread-requires-2 : tie.Need-unread-requires-2
+unread-requires-2 c κs = search needs
+
+returns-4 : tie.Need-returns-4
+returns-4 c = search needs
 
 pub answer-spec : {M : Type 1} → statement M
 answer-spec =
@@ -47,5 +62,10 @@ answer-spec =
     same-requires
     answer-requires
     returns-2
+    slice-aggregate-same-3
+    slice-aggregate-same-4
+    same-requires-2
+    answer-requires-2
+    returns-3
     unread-requires-2
-    returns-3)
+    returns-4)

@@ -1,5 +1,5 @@
 // The fields of a question, one behind the other. `at` is where the last one ended: at the space before the next, or at the line's end.
-ghost use Prim.Native.Nat.{_≤_, _<_};
+ghost use Prim.Native.Nat.{_≤_};
 ghost use lib.ListN.{length};
 ghost use Rattle.ask.specs.work.Onward.{Onward};
 

@@ -1,7 +1,6 @@
 // `ask`: answers questions, one on each line of its standard input, with one line each (trial/README.md, ask). A line that cannot be read is
 // answered `?`.
 use libc::STDIN_FILENO;
-use libc::STDOUT_FILENO;
 
 mod chain;
 mod fields;

@@ -9,6 +9,7 @@ pub(crate) fn unread() -> bool {
     io::write_all(STDOUT_FILENO, b"?\n")
 }
 
+// A byte at a place of the text, if it has that place.
 fn put_at(text: &mut [u8], at: usize, b: u8) {
     if at < text.len() {
         text[at] = b;
@@ -69,7 +70,7 @@ fn hex_digit(n: u8) -> u8
     b'a' + (n - 10)
 }
 
-// A byte at a place of the text.
+// The two digits of a byte from a place of the text on.
 fn put_pair(text: &mut [u8], at: usize, b: u8)
     requires { ⌜ at + 2 ≤ length (now text) ⌝ }
 {
@@ -77,7 +78,7 @@ fn put_pair(text: &mut [u8], at: usize, b: u8)
     put_at(&mut *text, at + 1, hex_digit(b % 16));
 }
 
-// Bytes from a place of the text on.
+// The digits of all bytes from a place of the text on.
 fn put_pairs(text: &mut [u8], at: usize, bytes: &[u8])
     requires { ⌜ at + 2 * length (now bytes) ≤ length (now text) ⌝ }
 {

@@ -8,17 +8,15 @@ use native.Mathlib.Omega.{arith}
 use lib.Dec.{eqb}
 use lib.ListN.{length}
 use Rattle.count.specs.Pick.{pick}
-use Rattle.count.proofs.laws.Truth.{and-right}
 use Rattle.motion.specs.declared.Move.{Move}
 use Rattle.motion.specs.declared.Next.{Next}
 use Rattle.motion.specs.declared.Next.the-variants as next
 use Rattle.record.specs.declared.Held.{Held}
 use Rattle.record.specs.declared.Record.{Record}
 use Rattle.record.specs.Bytes.{Fetch}
-use Rattle.record.specs.Places.{Records, recordsOf, fetchOf}
-use Rattle.record.specs.Places.Records.{are, none-are}
-use Rattle.record.proofs.laws.Stored.{fetch-element}
-use Rattle.program.specs.Program.{passes, passing, axesSet, accepted}
+use Rattle.record.specs.Places.{recordsOf, fetchOf}
+use Rattle.record.specs.Places.Records.{are}
+use Rattle.program.specs.Program.{accepted}
 use Rattle.program.proofs.laws.Run.{Accepted}
 use Rattle.program.proofs.laws.Discipline.{Disciplined, begins}
 use Rattle.engine.specs.declared.Answer.the-variants as answer
@@ -28,8 +26,7 @@ use Rattle.engine.specs.declared.Engine.{Engine}
 use Rattle.engine.specs.declared.Told.{Told}
 use Rattle.engine.specs.State.{withRun, withJob, running, started, heardBy, heard}
 use Rattle.engine.specs.Tick.{Rule, Fetching, told, finished, fetched, movingOn, tickedBy, ticked, runsBy, runsOf, listFetch}
-use Rattle.engine.proofs.laws.Work.{stood}
-use Rattle.program.proofs.laws.Accepting.{records-count}
+use Rattle.program.proofs.laws.Accepting.{records-count, accepted-holds}
 use Rattle.engine.proofs.laws.Fetches.{same-fetch}
 use Rattle.engine.proofs.laws.Accepted.{JobFair, OnList, NoG, Fair, call-fair, list-end}
 
@@ -140,23 +137,9 @@ module _ (l : List Record) (rule : Rule) (e : Engine) (p : e .run .place ≡ len
 
 -- ---- on the store
 
-accepted-by : (h : Held) (s : List ℕ) (x : Records) → recordsOf h s ≡ x → passing x ≡ true → (l : List Record) × (recordsOf h s ≡ are l) × (passes l ≡ true)
-accepted-by h s (are l) e p = (l, e, p)
-accepted-by h s none-are e p = let z : _≡_ {A = ℕ} 0 1 = cc in absurd (omega arith)
-
 -- the list of an accepted store is an accepted list
 pub accepted-list : (h : Held) (s : List ℕ) → accepted h s ≡ true → (l : List Record) × (recordsOf h s ≡ are l) × Accepted (h .axes) l
-unfolding accepted
-accepted-list h s e =
-    let x = accepted-by h s (recordsOf h s) refl (and-right (axesSet (h .axes)) (passing (recordsOf h s)) e) in
-    let l = x .0 in (
-      l,
-      x .1,
-      record {
-        right = λ i p. stood h s i (fetch-element h s i l (x .1) (omega (arith, records-count h s l (x .1)))) .right;
-        passing = x .2;
-      },
-    )
+accepted-list h s e = let d = accepted-holds h s e in (d .items, d .reads, d .program)
 
 -- AN ACCEPTED PROGRAM NEVER ENDS WITH G: on its store, unaltered
 pub never-G-stored : (h : Held) (s : List ℕ) → accepted h s ≡ true → (rule : Rule) (xs : List Event) (e : Engine) → e .held ≡ h

@@ -12,10 +12,11 @@ import os
 import sys
 
 import chains
+import joins
 
 ROOT = os.path.dirname(os.path.dirname(os.path.dirname(os.path.abspath(__file__))))
 FOLDER = os.path.join(ROOT, "crates", "ask")
-PARTS = [chains]
+PARTS = [chains, joins]
 LONGEST = 70000
 QUESTION, ANSWER = f"chain {chains.BITS} 3 333 333 333", "0 33 34 33"
 
@@ -45,6 +46,8 @@ def shapes():
     yield QUESTION + "\r\n", ANSWER
     yield "\r\n", "?"
     yield f"chain {chains.BITS} 0\r\n", "0"
+    yield joins.QUESTION + "\r\n", joins.ANSWER
+    yield joins.QUESTION + "\r\r\n", "?"
     for length, end, answer in ((LONGEST, "\n", "105"), (LONGEST, "\r\n", "105"), (LONGEST + 1, "\n", "?")):
         text = of_length(length)
         assert len(text) == length

@@ -1,0 +1,144 @@
+"""Wrong readings of the request (02, §4), each with one clause of the rule changed, and whether joins tell them from it: for
+tests/vectors/joins.py.
+"""
+from join_rule import MANY, NUMBERS, ROOM, Join, is_accepted, repeated, targets
+
+OF_EACH = 2
+
+
+class EmptyByBytes(Join):
+    def empty(self, part):
+        return part.used == 0
+
+
+class EmptyByItsAxes(Join):
+    def axes(self, part, other):
+        return part.axes
+
+
+class TwoEmptyPass(Join):
+    def same_axes(self, first, second):
+        return super().same_axes(first, second) or (self.empty(first) and self.empty(second))
+
+
+class AxesOfTheFirst(Join):
+    def result(self, first, second):
+        return super().result(first, second)._replace(axes=first.axes)
+
+
+class AnyAxes(Join):
+    def allowed(self, axes):
+        return axes in (*NUMBERS, 0, 2, 4, 5, 6)
+
+    def programs_wrong(self, first, second):
+        return super().programs_wrong(first, second) if self.axes(first, second) in NUMBERS else ""
+
+
+class AxesMayDiffer(Join):
+    def same_axes(self, first, second):
+        return True
+
+
+class FirstAccepted(Join):
+    def both_accepted(self, first, second):
+        return is_accepted(first)
+
+
+class SecondAccepted(Join):
+    def both_accepted(self, first, second):
+        return is_accepted(second)
+
+
+class ResultAccepted(Join):
+    def both_accepted(self, first, second):
+        return is_accepted(first + second)
+
+
+class JumpsAlone(Join):
+    def leads_out(self, records):
+        return len(records) in targets(records, "3").values()
+
+
+class WaitsAlone(Join):
+    def leads_out(self, records):
+        return len(records) in targets(records, "2").values()
+
+
+class LastRecordToo(Join):
+    def leads_out(self, records):
+        return any(to >= len(records) - 1 for to in targets(records).values())
+
+
+class AnyLoop(Join):
+    def starts_first(self, records):
+        return bool(repeated(records))
+
+
+class FirstLoopAlone(Join):
+    def starts_first(self, records):
+        return any(min(held) == 0 for held in list(repeated(records).values())[:1])
+
+
+class NeverEnters(Join):
+    def enters(self, first, second):
+        return False
+
+
+class TheOtherWayRound(Join):
+    def enters(self, first, second):
+        return self.leads_out(second) and self.starts_first(first)
+
+
+class FewerRecords(Join):
+    def has_room(self, first, second):
+        return first.records + second.records < MANY and first.used + second.used <= ROOM
+
+
+class FewerBytes(Join):
+    def has_room(self, first, second):
+        return first.records + second.records <= MANY and first.used + second.used < ROOM
+
+
+class RecordsAlone(Join):
+    def has_room(self, first, second):
+        return first.records + second.records <= MANY
+
+
+class BytesAlone(Join):
+    def has_room(self, first, second):
+        return first.used + second.used <= ROOM
+
+
+class SecondInFront(Join):
+    def put(self, first, second):
+        return super().put(second, first)
+
+
+class BehindWhatIsGiven(Join):
+    def put(self, first, second):
+        return (first.store + second.store)[: first.used + second.used]
+
+
+class AllThatIsGiven(Join):
+    def put(self, first, second):
+        return super().put(first, second) + second.store[second.used :]
+
+
+class ProgramsBeforeAxes(Join):
+    order = (Join.programs_wrong, Join.axes_wrong, Join.room_wrong)
+
+
+class RoomBeforePrograms(Join):
+    order = (Join.axes_wrong, Join.room_wrong, Join.programs_wrong)
+
+
+class RoomBeforeAxes(Join):
+    order = (Join.room_wrong, Join.axes_wrong, Join.programs_wrong)
+
+
+def tell_apart(rows):
+    """Stops if fewer lines than OF_EACH tell a slip from the rule."""
+    for slip in Join.__subclasses__():
+        found = sum(slip().answer(*parts) != answer for parts, answer in rows)
+        if found < OF_EACH:
+            raise SystemExit(f"only {found} joins tell {slip.__name__} from the rule")

@@ -1,4 +1,5 @@
-# What the check at the end line of a program has found, in words. Behind replies.awk, for told.awk, which tells of every stored record.
+# What the check at the end line of a program has found, in words. Behind replies.awk, for told.awk, stored.awk and join.awk, which tell of
+# every stored record.
 #
 # Kept: line_of[place], the line of the file that stored the record; back_to[place] of a loop, the first place of its range;
 #   leads_to[place] of a jump or a wait. What a record says is read from its line; one that was sent byte by byte is in neither.
@@ -17,7 +18,11 @@ function record_at(place) {
     return "record " place (place in line_of ? " (line " line_of[place] ")" : "")
 }
 
-# What is wrong at the record that is named.
+# The record that a reply names, and what is wrong there.
+function fails(reply) {
+    return meaning("G", 1) " at " record_at(substr(reply, 3) + 0) ": " fault_at(substr(reply, 2, 1))
+}
+
 function fault_at(letter) {
     if (letter == "a") return "it leads outside the program"
     if (letter == "b") return "its loop starts before the first record"

@@ -33,3 +33,16 @@ function fault(letter) {
     if (letter == "d") return "more than seven loops"
     return "jump across a loop"
 }
+
+# What a 5 means, and which space was refused in a line that otherwise looks like one of the board.
+function misshapen(line, storing) {
+    return meaning("5", storing) spaces(line, storing)
+}
+
+function spaces(line, storing) {
+    if (line ~ /[ \t]$/) return ": a space stands at its end"
+    if (line !~ (storing ? "^[0mnz3512][-0-9, ]*$" : "^@0[AaMmSsnNzPbBik]?[-0-9, ]*$")) return ""
+    if (line ~ / ,/) return ": a space stands before a comma"
+    if (line ~ /  /) return ": two spaces stand together"
+    return ""
+}

@@ -1,20 +1,11 @@
-# A program of the user's as a script for `calls` (trial/README.md), and its lines for whoever shows what came of them.
-# The environment's NAME: how messages call the file; -v lines=FILE: gets `number text` of each line that is sent. Lines end with a line feed, a
-# carriage return or both; a byte order mark, comments (#) and empty lines are passed over. Words between the lines: docs/MANUAL.md.
-# The status is 3 if something is wrong with the file.
+# A program of the user's as a script for `calls` (trial/README.md), and its lines for whoever shows what came of them. Behind lines.awk.
+# The environment's NAME: how messages call the file; -v lines=FILE: gets `number text` of each line that is sent. Comments (#) and empty
+# lines are passed over. Words between the lines: docs/MANUAL.md. The status is 3 if something is wrong with the file.
 BEGIN {
-    for (i = 1; i < 256; i++) code[sprintf("%c", i)] = i
     control["stop"] = 253
     control["reset"] = 254
     control["break"] = 255
     limit = 100000
-}
-NR == 1 { sub(/^\357\273\277/, "") }
-{
-    sub(/\r$/, "")
-    n = split($0, part, "\r")
-    if (n == 0) number++
-    for (i = 1; i <= n; i++) take(++number, part[i])
 }
 END {
     if (wrong) exit 3

@@ -88,19 +88,10 @@ function explain(sent, more) {
 
 function reason(sent) {
     if (sent == "F") return text[current] ~ /^(break|byte 0*255)/ ? "ended" : "stopped, and stands"
-    if (names_fault(sent)) return meaning("G", 1) " at " record_at(substr(sent, 3) + 0) ": " fault_at(substr(sent, 2, 1))
+    if (names_fault(sent)) return fails(sent)
     if (sent == "G" && storing) return meaning(sent, storing) ", and the store is empty now"
-    if (sent == "5" && text[current] ~ /[ \t]$/) return meaning(sent, storing) ": a space stands at its end"
-    if (sent == "5" && !headed) return meaning(sent, storing) spaces(text[current])
+    if (sent == "5" && (!headed || text[current] ~ /[ \t]$/)) return misshapen(text[current], storing) # else only the rest of the line was read
     return meaning(sent, storing)
-}
-
-# Which space is refused in a line that otherwise looks like one of the board. Where something stands under the line already, only its rest was read.
-function spaces(line) {
-    if (line !~ (storing ? "^[0mnz3512][-0-9, ]*$" : "^@0[AaMmSsnNzPbBik]?[-0-9, ]*$")) return ""
-    if (line ~ / ,/) return ": a space stands before a comma"
-    if (line ~ /  /) return ": two spaces stand together"
-    return ""
 }
 
 function hex(digits, i, n) {

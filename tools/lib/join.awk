@@ -11,8 +11,8 @@ FNR == NR {
 {
     answers++
     if ($0 ~ /^0 [0-9]+ [0-9]+ [137] (-|[0-9a-f]+)$/ && length($5) == ($2 == 0 ? 1 : 2 * $2)) listing()
-    else if ($0 == "G") refuse(enters(), "nothing may lead into a loop: put a record in front of it, as 5 0, a delay of nothing")
-    else if ($0 == "6") refuse(no_room(), "make a loop of what repeats, or leave the two as two programs")
+    else if ($0 == "G" && enters()) refuse(into_a_loop(), "nothing may lead into a loop: put a record in front of it, as 5 0, a delay of nothing")
+    else if ($0 == "6" && (records > 1000 || used > 16384)) refuse(no_room(), "make a loop of what repeats, or leave the two as two programs")
     else answers = 2
 }
 END {
@@ -40,13 +40,17 @@ function thousands(n) {
     return n < 1000 ? n : int(n / 1000) "," sprintf("%03d", n % 1000)
 }
 
-# Both are accepted, so what leads to the end place of the first would lead into a loop of the second.
-function enters(from, into, place, count) {
+# Whether a jump or a wait of the first leads to its end place, where a loop of the second would start; the first of each is kept.
+function enters(place, count) {
     count = take(first)
-    for (place = count - 1; place >= 0; place--) if (place in leads_to && leads_to[place] == count) from = record_at(place)
+    for (place = count - 1; place >= 0; place--) if (place in leads_to && leads_to[place] == count) out = record_at(place)
     count = take(second)
-    for (place = count - 1; place >= 0; place--) if (place in back_to && back_to[place] == 0) into = loop_at(place)
-    return "in " ENVIRON["FIRST"] " " from " leads to the end place, and there " ENVIRON["SECOND"] " begins with " into
+    for (place = count - 1; place >= 0; place--) if (place in back_to && back_to[place] == 0) loop = loop_at(place)
+    return out != "" && loop != ""
+}
+
+function into_a_loop() {
+    return "in " ENVIRON["FIRST"] " " out " leads to the end place, and there " ENVIRON["SECOND"] " begins with " loop
 }
 
 # Keeps the records of a program in the place of those before; their number.

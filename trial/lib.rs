@@ -5,6 +5,7 @@ pub mod board;
 pub mod by_value;
 pub mod chain;
 pub mod check;
+pub mod join;
 pub mod line;
 pub mod lister;
 pub mod motion;

@@ -46,6 +46,26 @@ pub fn word(text: &str) -> Option<u64> {
     (text.len() == 16 && text.bytes().all(right)).then(|| u64::from_str_radix(text, 16).ok())?
 }
 
+/// Bytes of two hexadecimal digits each, small letters.
+pub fn bytes(text: &str) -> Option<Vec<u8>> {
+    let digit = |b| match b {
+        b'0'..=b'9' => Some(b - b'0'),
+        b'a'..=b'f' => Some(b - b'a' + 10),
+        _ => None,
+    };
+    let digits: Vec<u8> = text.bytes().map(digit).collect::<Option<_>>()?;
+    let pairs = digits.chunks_exact(2);
+    pairs.remainder().is_empty().then(|| pairs.map(|pair| pair[0] << 4 | pair[1]).collect())
+}
+
+/// Appends two hexadecimal digits of each byte, small letters.
+pub fn push_bytes(out: &mut Vec<u8>, bytes: &[u8]) {
+    const DIGITS: &[u8; 16] = b"0123456789abcdef";
+    for &byte in bytes {
+        out.extend([DIGITS[(byte >> 4) as usize], DIGITS[(byte & 15) as usize]]);
+    }
+}
+
 /// Writes the low `text.len()` hexadecimal digits of `v`, in capitals.
 pub fn write_hexadecimal(text: &mut [u8], v: u32) {
     let mut left = v;

@@ -1,7 +1,9 @@
 //! The questions of `ask`: how a line is read, and its answer. See README.md.
 
 use trial::chain::{chain, LONGEST};
-use trial::number::{push_decimal, whole, word};
+use trial::join::{join, Part};
+use trial::number::{bytes, push_bytes, push_decimal, whole, word};
+use trial::record::STORE;
 use trial::sheet::Axis;
 
 /// The longest line that can be read.
@@ -31,6 +33,9 @@ fn answer(line: &[u8]) -> Option<Vec<u8>> {
     match fields[..] {
         ["chain", lead, steps, gear, n, ref distances @ ..] => {
             chain_answer(axis(lead, steps, gear)?, n, distances)
+        }
+        ["join", used, records, axes, hex, ref second @ ..] => {
+            join_answer([used, records, axes, hex], second.try_into().ok()?)
         }
         _ => None,
     }
@@ -62,6 +67,41 @@ fn listed(numbers: &[i32]) -> Vec<u8> {
     for &v in numbers {
         text.push(b' ');
         push_decimal(&mut text, v.into());
+    }
+    text
+}
+
+/// Both stores have the right length, so that each refusal is a character.
+fn join_answer(first: [&str; 4], second: [&str; 4]) -> Option<Vec<u8>> {
+    let (first, mut store) = part(first)?;
+    let (second, other) = part(second)?;
+    Some(match join(&mut store, first, &other, second) {
+        Ok(joined) => in_store(joined, &store),
+        Err(refusal) => vec![refusal],
+    })
+}
+
+/// A part of a join, and its store.
+fn part([used, records, axes, hex]: [&str; 4]) -> Option<(Part, Vec<u8>)> {
+    let field = |text, most| number(text).filter(|v| (0..=most).contains(v));
+    let (used, records) = (field(used, 65_535)? as u32, field(records, 65_535)? as u32);
+    Some((Part { used, records, axes: field(axes, 255)? as u8 }, store(hex)?))
+}
+
+/// What is not given of a store is 0.
+fn store(hex: &str) -> Option<Vec<u8>> {
+    let given = if hex == "-" { Vec::new() } else { bytes(hex).filter(|given| !given.is_empty())? };
+    let mut store = vec![0; STORE];
+    store.get_mut(..given.len())?.copy_from_slice(&given);
+    Some(store)
+}
+
+/// A program and its bytes in use, behind the 0 of no refusal.
+fn in_store(part: Part, store: &[u8]) -> Vec<u8> {
+    let mut text = format!("0 {} {} {} ", part.used, part.records, part.axes).into_bytes();
+    match &store[..part.used as usize] {
+        [] => text.push(b'-'),
+        used => push_bytes(&mut text, used),
     }
     text
 }

@@ -1,4 +1,4 @@
-//! Lines for `ask` that cannot be read, or only just.
+//! Lines for `ask` that cannot be read, or only just: chains, and what is the same for every question.
 
 use crate::rng::Rng;
 
@@ -41,40 +41,44 @@ fn pattern(rng: &mut Rng, fields: &mut [String]) {
 fn number(rng: &mut Rng, fields: &mut [String]) {
     let last = fields.len() as i64 - 1;
     let at = if rng.once_in(2) { 4 } else { rng.between(4, last) };
-    fields[at as usize] = rng
-        .pick(&[
-            "9223372036854775807",
-            "9223372036854775808",
-            "-9223372036854775808",
-            "-9223372036854775809",
-            "9999999999999999999",
-            "-9999999999999999999",
-            "18446744073709551617",
-            "0000000000000000001",
-            "-0000000000000000001",
-            "00000000000000000001",
-            "-00000000000000000001",
-            "00000000000000000000",
-            "+1",
-            "-1",
-            "-0",
-            "-",
-            "--1",
-            "1-",
-            "1.0",
-            "1e3",
-            "1,000",
-            "1_000",
-            "0x1",
-            "a",
-            "",
-            "\u{663}",
-        ])
-        .to_string();
+    fields[at as usize] = odd_number(rng);
+}
+
+/// A number at the ends of 64 bits or of 19 digits, or a text that is none.
+pub fn odd_number(rng: &mut Rng) -> String {
+    rng.pick(&[
+        "9223372036854775807",
+        "9223372036854775808",
+        "-9223372036854775808",
+        "-9223372036854775809",
+        "9999999999999999999",
+        "-9999999999999999999",
+        "18446744073709551617",
+        "0000000000000000001",
+        "-0000000000000000001",
+        "00000000000000000001",
+        "-00000000000000000001",
+        "00000000000000000000",
+        "+1",
+        "-1",
+        "-0",
+        "-",
+        "--1",
+        "1-",
+        "1.0",
+        "1e3",
+        "1,000",
+        "1_000",
+        "0x1",
+        "a",
+        "",
+        "\u{663}",
+    ])
+    .to_string()
 }
 
 /// One field fewer or one more.
-fn missing(rng: &mut Rng, fields: &mut Vec<String>) {
+pub fn missing(rng: &mut Rng, fields: &mut Vec<String>) {
     let at = rng.below(fields.len() as u64) as usize;
     match rng.below(4) {
         0 => fields.truncate(rng.between(1, 4) as usize),
@@ -85,7 +89,7 @@ fn missing(rng: &mut Rng, fields: &mut Vec<String>) {
 }
 
 /// A space too many, or something else where one belongs.
-fn spaces(rng: &mut Rng, fields: &[String]) -> Vec<u8> {
+pub fn spaces(rng: &mut Rng, fields: &[String]) -> Vec<u8> {
     let at = rng.between(1, fields.len() as i64 - 1) as usize;
     let (head, tail) = (fields[..at].join(" "), fields[at..].join(" "));
     match rng.below(6) {
@@ -99,7 +103,7 @@ fn spaces(rng: &mut Rng, fields: &[String]) -> Vec<u8> {
 }
 
 /// One byte more, fewer or another.
-fn odd_byte(rng: &mut Rng, fields: &[String]) -> Vec<u8> {
+pub fn odd_byte(rng: &mut Rng, fields: &[String]) -> Vec<u8> {
     let mut line = fields.join(" ").into_bytes();
     let at = rng.below(line.len() as u64) as usize;
     let byte = rng.pick(b" -+0159afAFx\t\r\0\x7f\x80\xa0\xb1\xff");

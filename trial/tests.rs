@@ -3,6 +3,10 @@
 
 mod damage;
 mod gen_fault;
+mod gen_join;
+mod gen_part;
+mod gen_room;
+mod gen_spoil;
 mod host;
 mod program;
 mod questions;
@@ -16,6 +20,7 @@ mod test_check;
 mod test_fault;
 mod test_host;
 mod test_join;
+mod test_join_random;
 mod test_lines;
 mod test_movement;
 mod test_quiet;

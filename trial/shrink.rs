@@ -1,6 +1,7 @@
 //! `shrink KIND ONE OTHER`: shortens an input on which two programs differ, and shows what is left.
 
 mod shrink_ask;
+mod shrink_join;
 
 use std::io::{self, Read, Write};
 use std::process::{Command, Stdio};
@@ -31,11 +32,7 @@ impl Pair<'_> {
 
     /// Leaves out ever smaller runs of parts as long as the programs still differ on what is put together
     /// from the rest.
-    fn shorten<'b>(
-        &self,
-        mut parts: Vec<&'b [u8]>,
-        together: impl Fn(&[&'b [u8]]) -> Vec<u8>,
-    ) -> io::Result<Vec<u8>> {
+    fn shorten<T: Copy>(&self, mut parts: Vec<T>, together: impl Fn(&[T]) -> Vec<u8>) -> io::Result<Vec<u8>> {
         let mut run = parts.len().div_ceil(2);
         while run > 0 {
             let mut at = 0;
@@ -51,6 +48,17 @@ impl Pair<'_> {
             run /= 2;
         }
         Ok(together(&parts))
+    }
+
+    /// Leaves out what a question of `ask` can do without.
+    fn shorten_question(&self, line: &[u8]) -> io::Result<Vec<u8>> {
+        if let Some((join, pieces)) = shrink_join::parts(line) {
+            if self.differ(&join.with(&pieces))? {
+                return self.shorten(pieces, |pieces| join.with(pieces));
+            }
+        }
+        let (question, fields) = shrink_ask::parts(line);
+        self.shorten(fields, |fields| question.with(fields))
     }
 
     fn show(&self, input: &[u8]) -> io::Result<()> {
@@ -77,10 +85,7 @@ fn main() -> io::Result<()> {
     let lines = pair.shorten(input.split_inclusive(|&b| b == end).collect(), |lines| lines.concat())?;
     let shortest = match kind.as_str() {
         "walk" if lines.len() < 2_000 => pair.shorten(lines.chunks(1).collect(), |bytes| bytes.concat())?,
-        "ask" => {
-            let (question, fields) = shrink_ask::parts(&lines);
-            pair.shorten(fields, |fields| question.with(fields))?
-        }
+        "ask" => pair.shorten_question(&lines)?,
         _ => lines,
     };
     pair.show(&shortest)

@@ -12,6 +12,7 @@ mod program;
 mod questions;
 mod rng;
 mod script;
+mod shrink_join;
 mod spaces;
 mod test_ask;
 mod test_ask_join;
@@ -28,6 +29,7 @@ mod test_random;
 mod test_run;
 mod test_script;
 mod test_sheet;
+mod test_shrink;
 mod test_spaces;
 mod test_stop;
 

@@ -2,12 +2,15 @@
 """A slow third opinion on the program `ask`: reads its lines as trial/README.md, "ask", says and prints the same answers.
 
 A float is an exact fraction here, from its bits by hand, and each operation is rounded to the nearest one by hand too. Whole
-numbers have no bounds, so that nothing can overflow.
+numbers have no bounds, so that nothing can overflow. A program is a list of its records, the range of a loop the set of its
+places, and the check compares such sets.
 """
 import os
 import re
+import struct
 import sys
 from fractions import Fraction
+from itertools import combinations
 
 sys.path.insert(0, os.path.join(os.path.dirname(os.path.abspath(__file__)), os.pardir, "vectors"))
 from sheet import nearest_float
@@ -78,7 +81,99 @@ def chain(fields):
     return [0] + ways
 
 
-QUESTIONS = {b"chain": chain}
+# ---- join USED RECORDS AXES HEX USED RECORDS AXES HEX
+
+STORE, MOST = 16384, 1000
+
+
+def up_to(most, field):
+    if not 0 <= integer(field) <= most:
+        raise Unreadable
+    return integer(field)
+
+
+def store(field):
+    if not re.fullmatch(rb"-|([0-9a-f]{2}){1,%d}" % STORE, field):
+        raise Unreadable
+    return bytes.fromhex(field.decode().replace("-", "")).ljust(STORE, b"\0")
+
+
+def part(fields):
+    used, records, axes, hexadecimal = fields
+    return up_to(65535, used), up_to(65535, records), up_to(255, axes), store(hexadecimal)
+
+
+def kinds(axes):
+    """Under these axes, the kinds of records: code, name, and the numbers allowed at each place."""
+    way, speed, offset, character = range(-2**23, 2**23), range(30, 10001), range(-2**15, 2**15), range(33, 127)
+    pairs = {1: 1, 3: 2, 7: 4}[axes]
+    target = [way, speed] * pairs if pairs < 4 else [way, speed] * 3 + [range(1), speed]
+    masks = [mask for mask in range(1, 8) if mask | axes == axes]
+    return [(b"0", "relative", [way, speed] * pairs), (b"m", "absolute", target), (b"n", "origin", [masks]),
+            (b"z", "mode", [range(2)]), (b"3", "jump", [range(1), offset]), (b"3", "loop", [range(1, 2**15), range(-2**15, 0)]),
+            (b"5", "delay", [range(2**16)]), (b"1", "send", [character]), (b"2", "wait", [character, offset])]
+
+
+def program(used, records, axes, data):
+    """The records of a readable store, each its kind's name and its offset; None for one that is not readable."""
+    found, rest = [], data[:used]
+    while rest:
+        length = 4 + 4 * rest[3] if len(rest) > 3 else 4
+        if rest[:2] != b"\xd7\x2b" or len(rest) < length:
+            return None
+        numbers = struct.unpack("<%di" % rest[3], rest[4:length])
+        fits = [name for code, name, allowed in kinds(axes) if code == rest[2:3] and len(numbers) == len(allowed)
+                and all(number in these for number, these in zip(numbers, allowed))]
+        if not fits:
+            return None
+        found.append((fits[0], numbers[-1]))
+        rest = rest[length:]
+    return found if len(found) == records else None
+
+
+def ranges(records):
+    return [frozenset(range(place + offset, place + 1)) for place, (name, offset) in enumerate(records) if name == "loop"]
+
+
+def ways(records):
+    """The jumps and waits, each its own place and its target."""
+    return [(place, place + offset) for place, (name, offset) in enumerate(records) if name in ("jump", "wait")]
+
+
+def accepted(records):
+    places, loops = set(range(len(records))), ranges(records)
+    around = {place: {loop for loop in loops if place in loop} for place in places | {len(records)}}
+    return (all(loop <= places for loop in loops)
+            and all(one & other in (set(), one, other) for one, other in combinations(loops, 2))
+            and all(len(around[place]) <= 7 for place in places)
+            and all(target in around and around[own] == around[target] for own, target in ways(records)))
+
+
+def join(fields):
+    if len(fields) != 8:
+        raise Unreadable
+    parts = [part(fields[:4]), part(fields[4:])]
+    axes = {own for _, records, own, _ in parts if records} or {own for _, _, own, _ in parts}
+    if len(axes) != 1 or not axes <= {1, 3, 7}:
+        return ["3"]
+    axes = axes.pop()
+    if any(used > STORE or records > MOST for used, records, _, _ in parts):
+        return ["G"]
+    lists = [program(used, records, axes, data) for used, records, _, data in parts]
+    if None in lists or not all(map(accepted, lists)):
+        return ["G"]
+    first, second = lists
+    enters = len(first) in [target for _, target in ways(first)] and 0 in [min(loop) for loop in ranges(second)]
+    assert enters != accepted(first + second), "the rule is not what the check needs"
+    if enters:
+        return ["G"]
+    joined = b"".join(data[:used] for used, _, _, data in parts)
+    if len(first + second) > MOST or len(joined) > STORE:
+        return ["6"]
+    return [0, len(joined), len(first + second), axes, joined.hex() or "-"]
+
+
+QUESTIONS = {b"chain": chain, b"join": join}
 
 
 def answer(line):

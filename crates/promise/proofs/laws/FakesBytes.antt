@@ -34,7 +34,7 @@ use Rattle.board.specs.Storing.{recordReply, storedSaid}
 use Rattle.record.specs.Bytes.{Below}
 use Rattle.record.proofs.laws.Below.{below-cons}
 use Rattle.record.specs.Listing.{more, numbersText, lineText, listText, listOf}
-use Rattle.program.specs.Program.{passes, accepted}
+use Rattle.program.specs.Program.{passes, sized, accepted}
 use Rattle.board.specs.Calls.{listing}
 use Rattle.course.specs.Walk.{noPorts, noStore}
 use Rattle.promise.specs.Machine.{Event, afterAll}
@@ -72,7 +72,7 @@ written-below =
     (c 0 _ (omega arith) (c 0 _ (omega arith) (c 0 _ (omega arith) (zeros-below 16376))))))))
 
 accepts : accepted (losesBytes .board (afterAll losesBytes events (losesBytes .first)) .engine .held) written ≡ true
-unfolding afterAll passes accepted within in24 signed word placed added inSpeed inOffset inBack inLoop inDelay inCharacter inSwitch inPort inByte inZero rightCount rightZ2 rightDistances rightSpeeds hexDigit hexes twos24 report twoHex decimal digits shown fromOf toOf speedAt skipped nextBy pulseOf afterOf leftOf pulses steps signAt countAfter goal goalX goalY goalZ1 goalZ2 firstSpeed laterSpeed route goingTo planOf counted inRange underWay behind letterOf afterAddress directOf codeOf storedOf digitsBehind digitsOf numberOf parted itemsOf numbersOf bytes4 numBytes encode wordAt wordsOf front isCode countRight axesRight loopRight rangesRight speedsRight faultOf hasRoom storeOf recordAt spotFrom spotOf fetchOf recordsFrom recordsOf holds share around crosses early overlaps holders outside strays letter checked inside again opens looped aimed onwardOf checkOf verdictOf soundOf mixed resetOf heard beginOf performed ticked runsOf receiving clocking first replyOf directSaid earOf returned gathering stopped broken resetSaid hearing gathered sound recordReply storedSaid
+unfolding afterAll passes accepted sized within in24 signed word placed added inSpeed inOffset inBack inLoop inDelay inCharacter inSwitch inPort inByte inZero rightCount rightZ2 rightDistances rightSpeeds hexDigit hexes twos24 report twoHex decimal digits shown fromOf toOf speedAt skipped nextBy pulseOf afterOf leftOf pulses steps signAt countAfter goal goalX goalY goalZ1 goalZ2 firstSpeed laterSpeed route goingTo planOf counted inRange underWay behind letterOf afterAddress directOf codeOf storedOf digitsBehind digitsOf numberOf parted itemsOf numbersOf bytes4 numBytes encode wordAt wordsOf front isCode countRight axesRight loopRight rangesRight speedsRight faultOf hasRoom storeOf recordAt spotFrom spotOf fetchOf recordsFrom recordsOf holds share around crosses early overlaps holders outside strays letter checked inside again opens looped aimed onwardOf checkOf verdictOf soundOf mixed resetOf heard beginOf performed ticked runsOf receiving clocking first replyOf directSaid earOf returned gathering stopped broken resetSaid hearing gathered sound recordReply storedSaid
 accepts = refl
 
 room : 32768 ≤ length page

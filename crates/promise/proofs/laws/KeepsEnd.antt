@@ -5,20 +5,17 @@ use mathlib.Core.Path.{_≡_, refl, sym, ap, _∙_}
 use mathlib.Core.Bool.{Bool, true, false, not, _&&_}
 use mathlib.Core.List.{List, [], _∷_}
 use native.Mathlib.Omega.{arith}
-use lib.Dec.{ltb}
 use lib.ListN.{length, getD}
 use Rattle.count.specs.Pick.{pick}
-use Rattle.count.proofs.laws.Truth.{never, and-parts, and-not, both}
-use Rattle.record.specs.declared.Held.{Held}
-use Rattle.record.specs.Places.{Records, recordsOf}
-use Rattle.record.specs.Places.Records.{are, none-are}
-use Rattle.program.specs.declared.Verdict.the-variants.{Unreadable}
-use Rattle.program.specs.Program.{verdictOn, verdictOf, isSound, passes, passing, accepted, axesSet}
+use Rattle.count.proofs.laws.Truth.{never, and-parts, and-not}
+use Rattle.program.specs.Program.{verdictOf, isSound, accepted}
+use Rattle.program.proofs.laws.Accepting.{computed}
 use Rattle.line.specs.Lines.{storedOf}
 use Rattle.line.specs.declared.Code.{Code}
 use Rattle.engine.specs.declared.Job.{Job}
 use Rattle.engine.specs.declared.Job.the-variants as job
 use Rattle.engine.specs.State.{ceased, emptied}
+use Rattle.engine.proofs.laws.Facts.{facts}
 use Rattle.board.specs.declared.Board.{Board}
 use Rattle.board.specs.State.{board, noLine, textOf, Said, said, sound}
 use Rattle.board.specs.Storing.{namedFault, endSaid, storedBy, storedSaid}
@@ -26,6 +23,7 @@ use Rattle.engine.specs.Kinds.Ear.{gathers}
 use Rattle.engine.specs.Kinds.{Ear}
 use Rattle.board.specs.Receive.{earBy, earOf, isStoring, returned, gathering, ordinary, hearing}
 use Rattle.board.specs.Calls.{receiving, fresh}
+use Rattle.board.proofs.laws.Hears.{sound-engine}
 use Rattle.board.proofs.laws.Laws.{hearing-sound}
 use Rattle.promise.specs.Machine.{Lent, ours, Event, afterAll}
 use Rattle.promise.specs.Demands.{stores, isNine, endLine, EndAccepts, EndToEnd}
@@ -92,18 +90,6 @@ module _ (b : Board) (ports store : List ℕ) (e : endLine b ≡ true) where
       let s = end-sound (ap (λ (x : Said). getD (x .reply) 0 0) (sym end-heard) ∙ h) in
       (s, end-heard ∙ rw s)
 
--- ---- a program that was found sound passes
-
-sound-passes : (t : Bool) (r : Records) → isSound (pick t Unreadable (verdictOn r)) ≡ true → passing r ≡ true
-unfolding passes
-sound-passes true r h = never h
-sound-passes false (are l) h = h
-sound-passes false none-are h = never h
-
-sound-accepted : (h : Held) (store : List ℕ) → axesSet (h .axes) ≡ true → isSound (verdictOf h store) ≡ true → accepted h store ≡ true
-unfolding verdictOf accepted
-sound-accepted h store a s = both a (sound-passes (ltb 1000 (h .records)) (recordsOf h store) s)
-
 -- ---- EndAccepts
 
 module _ (es : List Event) (ports : List ℕ) (l : Lent) (e : endLine (afterAll ours es fresh) ≡ true)
@@ -119,7 +105,8 @@ module _ (es : List Event) (ports : List ℕ) (l : Lent) (e : endLine (afterAll 
   ended =
       let s = end-said here ports (l .store) e z in
       let o = out-all 13 ports l here h (board (ceased (here .engine)) (here .standing) noLine) (48 ∷ []) (l .store) (s .1) in
-      (o .0, o .2, sound-accepted (here .engine .held) (l .store) (always-written es .1 .axes (end-parts here e .1)) (s .0))
+      let f = facts (here .engine) (sound-engine here (always-written es .0)) in
+      (o .0, o .2, computed (here .engine .held) (l .store) (always-written es .1 .axes (end-parts here e .1)) (f .used) (f .records) ∙ s .0)
 
 pub keeps-end-accepts : EndAccepts ours
 keeps-end-accepts es ports l e h z =

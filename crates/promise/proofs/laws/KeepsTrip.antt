@@ -8,7 +8,6 @@ use borrow.Author.Tests.{le-ltb, le-leb}
 use lib.ListN.{length, take, drop, length-append}
 use lib.Seq.{length-take-le, take-append-seam}
 use Rattle.count.specs.Pick.{pick}
-use Rattle.count.proofs.laws.Truth.{and-parts}
 use Rattle.motion.specs.Sound.{counted}
 use Rattle.record.specs.declared.Held.{Held}
 use Rattle.record.specs.declared.Record.{Record}
@@ -22,14 +21,14 @@ use Rattle.record.proofs.laws.Right.{RightOne, take-pad}
 use Rattle.record.proofs.laws.Stored.{AllRight, readable-list, encode-behind, stored-list}
 use Rattle.record.proofs.laws.Faultless.{Faultless, right-faultless}
 use Rattle.record.proofs.laws.Lines.{line-long}
-use Rattle.program.specs.Program.{verdictOf, isSound, passes, axesSet, passing, accepted}
+use Rattle.program.specs.Program.{verdictOf, isSound, passes, passing, accepted}
+use Rattle.program.proofs.laws.Accepting.{accepted-parts, accepted-list, accepted-holds}
 use Rattle.line.specs.declared.Stored.{Stored}
 use Rattle.line.specs.Lines.{stored, storedOf}
 use Rattle.line.proofs.laws.RoundTrip.{stored-end}
 use Rattle.engine.specs.State.{idle, nothingHeld}
 use Rattle.engine.specs.Sound.{axesKnown, soundOf}
 use Rattle.engine.proofs.laws.Facts.{facts}
-use Rattle.engine.proofs.laws.Runs.{accepted-list}
 use Rattle.board.specs.declared.Board.{Board}
 use Rattle.board.specs.State.{board, noLine, said, sound}
 use Rattle.board.specs.Direct.{first}
@@ -187,24 +186,18 @@ empty-held : (axes : ℕ) → record { used = 0; records = 0; axes = axes } ≡ 
 unfolding encodeAll
 empty-held axes = refl
 
-accepted-parts : (h : Held) (store : List ℕ) (l : List Record) → accepted h store ≡ true → recordsOf h store ≡ are l → (axesSet (h .axes) ≡ true) × (passes l ≡ true)
-unfolding accepted
-accepted-parts h store l a q =
-    let f = and-parts (axesSet (h .axes)) (passing (recordsOf h store)) a in
-    (f .0, ap passing (sym q) ∙ f .1)
-
 -- the lines of a program of records, sent to a fresh board
 restored : (h : Held) (store : List ℕ) (l : List Record) (other : List ℕ) (host : Host) → length store ≡ 16384 → Below 256 store → h .used ≤ 16384
     → h .records ≤ 1000 → accepted h store ≡ true → recordsOf h store ≡ are l → length other ≡ 16384 → Below 256 other
     → Restored ours h store (storingText (h .axes) (listText l)) (sent ours host 0 (storingText (h .axes) (listText l)) fresh other)
 restored h store l other host n b u r a q n′ b′ =
-    let f = accepted-parts h store l a q in
-    let s = starts (h .axes) (f .0) in
+    let p = accepted-list h store l q a .passing in
+    let s = starts (h .axes) (accepted-parts h store a .1) in
     let g = readable-list h store l b q in
     let used : length (encodeAll l) ≡ h .used = ap length (sym (g .bytes)) ∙ length-take-le (h .used) store (rw n u) in
     let few : length l ≤ 1000 = rw (g .count) r in
     let room : length (encodeAll l) ≤ 16384 = rw used u in
-    let K = Kept-all host (h .axes) (s .known) l few room (f .1) in
+    let K = Kept-all host (h .axes) (s .known) l few room p in
     let x : Ends host K (storingText (h .axes) (listText l)) (sent ours host 0 (storingText (h .axes) (listText l)) fresh other) =
     line-all host K (restingWith 0 nothingHeld) other refl refl fresh-sound n′ (64 ∷ 48 ∷ (48 + h .axes) ∷ []) 0 (64 ∷ 48 ∷ 105 ∷ 13 ∷ listText l)
     (board (restingWith (h .axes) nothingHeld) false noLine) other
@@ -213,7 +206,7 @@ restored h store l other host n b u r a q n′ b′ =
     (board (storingWith (h .axes) (heldBy (h .axes) [])) false noLine) other
     ((omega arith, omega arith), ((omega arith, omega arith), ((omega arith, omega arith), tt))) (omega arith)
     (λ ports. s .store ports other ∙ ap (λ (k : Held). said (board (storingWith (h .axes) k) false noLine) (48 ∷ []) other) (empty-held (h .axes)))
-    (λ j. records-all host (h .axes) (s .known) l few room (f .1) l [] other j refl (g .right) (no-records (h .axes) other) b′ n′)) in
+    (λ j. records-all host (h .axes) (s .known) l few room p l [] other j refl (g .right) (no-records (h .axes) other) b′ n′)) in
     record {
       replies = x .0;
       held = x .1 .0 ∙ same-held h l used (g .count);
@@ -233,14 +226,14 @@ pub listed-again : (b : Board) (store text other : List ℕ) (host : Host) → s
 listed-again b store text other host s n below a w n′ below′ =
     let h = b .engine .held in
     let f = facts (b .engine) (sound-engine b s) in
-    let x = accepted-list h store a in
-    let t = lister-text b store text (x .0) n s w (x .1) in
-    let lines : take (listing b store text .listed .len) (listing b store text .text) ≡ listText (x .0) =
-    ap (λ (y : Telling). take (y .listed .len) (y .text)) t ∙ take-append-seam (listText (x .0)) _ in
+    let x = accepted-holds h store a in
+    let t = lister-text b store text (x .items) n s w (x .reads) in
+    let lines : take (listing b store text .listed .len) (listing b store text .text) ≡ listText (x .items) =
+    ap (λ (y : Telling). take (y .listed .len) (y .text)) t ∙ take-append-seam (listText (x .items)) _ in
     record {
       listed = ap (λ (y : Telling). y .listed .refusal) t;
       restored = subst (λ (y : List ℕ). Restored ours h store (storingText (h .axes) y) (sent ours host 0 (storingText (h .axes) y) fresh other)) (sym lines)
-          (restored h store (x .0) other host n below (f .used) (f .records) a (x .1) n′ below′);
+          (restored h store (x .items) other host n below (f .used) (f .records) a (x .reads) n′ below′);
     }
 
 pub keeps-round-trip : RoundTrip ours

@@ -19,6 +19,7 @@ pub mod KeepsCalls
 pub mod KeepsChain
 pub mod KeepsEnd
 pub mod KeepsEvents
+pub mod KeepsJoin
 pub mod KeepsLines
 pub mod KeepsNamed
 pub mod KeepsNumbers

@@ -4,6 +4,7 @@ pub mod FakesBytes
 pub mod FakesCore
 pub mod FakesCount
 pub mod FakesFollows
+pub mod FakesJoin
 pub mod FakesNamed
 pub mod FakesRoute
 pub mod FakesSpaces

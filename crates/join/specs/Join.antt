@@ -4,7 +4,7 @@ use Prim.Native.Nat.{ℕ, _+_}
 use mathlib.Core.Bool.{Bool, not, _&&_, _||_}
 use mathlib.Core.List.{List, _++_}
 use lib.Dec.{leb, eqb}
-use lib.ListN.{length, take, drop}
+use lib.ListN.{length, drop}
 use Rattle.count.specs.Sizes.{storeBytes, mostRecords}
 use Rattle.count.specs.Chars.{ch}
 use Rattle.count.specs.Pick.{pick}

@@ -1,7 +1,7 @@
--- (3) to (6) of 01's list and what 02 §1 names, computed on the definitions. Assumes nothing.
+-- (3) to (6) of 01's list, what 02 §1 names and what 02 §4 refuses, computed on the definitions. Assumes nothing.
 use Prim.Native.Nat.{ℕ}
-use mathlib.Core.Bool.{false}
-use mathlib.Core.List.{List, [], _∷_}
+use mathlib.Core.Bool.{true, false}
+use mathlib.Core.List.{List, [], _∷_, _++_}
 use mathlib.Core.Path.{_≡_, refl}
 use lib.IntN.{pos}
 use lib.ListN.{length, replicate}
@@ -11,9 +11,10 @@ use Rattle.record.specs.declared.Record.{Record}
 use Rattle.record.specs.Bytes.{made, encode, numBytes, bytes4, wordAt, wordsOf, front}
 use Rattle.record.specs.Places.{encodeAll, recordsFrom, recordsOf}
 use Rattle.record.specs.Fault.{isCode, countRight, axesRight, rangesRight, speedsRight, loopRight, faultOf}
-use Rattle.count.specs.Ranges.{inOffset, inBack, inLoop, inZero, inSwitch}
+use Rattle.count.specs.Ranges.{inOffset, inBack, inLoop, inZero, inSwitch, inCharacter}
 use Rattle.program.specs.Check.{outside, early, share, around, crosses, overlaps, holds, holders, strays, letter, checked, verdictPaper}
 use Rattle.program.specs.Program.{checkOf, verdictOf}
+use Rattle.program.specs.Edges.{leadsOut, startsFirst}
 use Rattle.program.specs.Onward.{noLoops, inside, again, opens, looped, aimed, onwardOf, goingPaper}
 use Rattle.program.proofs.laws.Run.{Stands, begin, runOf, turnsOf}
 
@@ -81,3 +82,15 @@ pub eight : (reply (three 0 9 ∷ three 1 4294967295 ∷ three 1 4294967294 ∷ 
     × (reply (other ∷ three 1 4294967295 ∷ three 1 4294967294 ∷ three 1 4294967293 ∷ three 1 4294967292 ∷ three 1 4294967291 ∷ three 1 4294967290 ∷ three 1 4294967289 ∷ three 1 4294967288 ∷ []) ≡ says 71 (pos 100 ∷ pos 0 ∷ []))
 unfolding encodeAll encode numBytes bytes4 verdictOf recordsOf recordsFrom front wordsOf wordAt faultOf isCode countRight axesRight rangesRight speedsRight loopRight inOffset inBack inLoop inZero inSwitch signed within checkOf checked letter outside early overlaps crosses share around holders holds strays
 eight = (refl, refl)
+
+-- ---- 02 §4: a clamp check before a loop
+
+-- `1 63`, `2 89,2`, `3 0,-2`: at Y the wait leads to the end place
+abbrev pub clamp : List Record
+clamp = made 49 (63 ∷ []) ∷ made 50 (89 ∷ 2 ∷ []) ∷ three 0 4294967294 ∷ []
+
+-- behind it a program whose range starts at place 0 would be entered from outside; with a record in front of that range it is not
+pub entered : (leadsOut clamp ≡ true) × (startsFirst spin ≡ true) × (reply (clamp ++ spin) ≡ says 71 (pos 101 ∷ pos 1 ∷ []))
+    × (startsFirst (other ∷ spin) ≡ false) × (reply (clamp ++ other ∷ spin) ≡ says 48 [])
+unfolding encodeAll encode numBytes bytes4 verdictOf recordsOf recordsFrom front wordsOf wordAt faultOf isCode countRight axesRight rangesRight speedsRight loopRight inOffset inBack inLoop inZero inSwitch inCharacter signed within checkOf checked letter outside early overlaps crosses share around holders holds strays leadsOut startsFirst
+entered = (refl, refl, refl, refl, refl)

@@ -10,9 +10,7 @@ use lib.Dec.{leb, eqb}
 use lib.ListN.{getD}
 use Rattle.count.proofs.laws.Truth.{never, and-parts, and-false}
 use Rattle.record.specs.declared.Held.{Held}
-use Rattle.record.specs.declared.Record.{Record}
-use Rattle.record.specs.Places.{Records, are, none-are, recordsOf}
-use Rattle.program.specs.declared.Acceptance.{Acceptance}
+use Rattle.record.specs.Places.{none-are, recordsOf}
 use Rattle.program.specs.declared.Verdict.{Verdict}
 use Rattle.program.specs.declared.Verdict.the-variants.{Sound, Fault, Unreadable}
 use Rattle.program.specs.Program.{checkOf, verdictOn, verdictOf, isSound, axesSet, sized, passing, accepted}

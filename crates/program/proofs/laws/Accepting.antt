@@ -6,17 +6,14 @@ use mathlib.Core.List.{List, [], _∷_}
 use mathlib.Core.Path.{_≡_, refl, sym, _∙_, ap, subst}
 use native.Mathlib.Omega.{arith}
 use borrow.Author.Tests.{le-ltb, le-leb}
-use lib.Dec.{ltb}
 use lib.ListN.{length, drop}
-use Rattle.count.specs.Pick.{pick}
 use Rattle.count.proofs.laws.Truth.{never, and-parts, and-false}
 use Rattle.record.specs.declared.Held.{Held}
 use Rattle.record.specs.declared.Record.{Record}
 use Rattle.record.specs.Bytes.{Fetch, Got, End, Wrong, front, lengthOf, isRight}
 use Rattle.record.specs.Places.{inUse, Records, are, none-are, onto, then, recordsFrom, recordsOf}
 use Rattle.record.proofs.laws.Walk.{front-stands}
-use Rattle.program.specs.declared.Verdict.{Verdict}
-use Rattle.program.specs.declared.Verdict.the-variants.{Sound, Unreadable}
+use Rattle.program.specs.declared.Verdict.the-variants.{Sound}
 use Rattle.program.specs.Program.{recordIn, verdictOn, verdictOf, isSound, passes, axesSet, sized, passing, accepted}
 use Rattle.program.proofs.laws.Run.{Accepted}
 

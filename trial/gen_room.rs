@@ -38,7 +38,7 @@ fn records(rng: &mut Rng) -> [Vec<String>; 2] {
     let total = rng.pick(&[1_000, 1_000, 1_001, 1_001, 1_001]);
     let some = rng.between(1, total - 1);
     let all = rng.pick(&[0, total]);
-    let first = rng.pick(&[1, total - 1, some, some, some, some, some, all]);
+    let first = rng.pick(&[1, total - 1, some, some, some, some, all, all]);
     let line = rng.pick(&["z0", "1 33", "5 0"]).to_string();
     [vec![line.clone(); first as usize], vec![line; (total - first) as usize]]
 }

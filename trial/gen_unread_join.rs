@@ -28,12 +28,12 @@ fn bytes(rng: &mut Rng, fields: &mut [String]) {
         1 => drop(field.pop()),
         2 => *field += rng.pick(&["0", "f", "-", "g0", "F0", "zz", "00", "0f"]),
         3 => field.insert_str(0, rng.pick(&["-", "+", "0x", "0", "00", "_", "D7"])),
-        4 => *field = rng.pick(&["", "-", "--", "-0", "-00", "0", "00", "ff", "fF", "x", "."]).to_string(),
+        4 => *field = rng.pick(&["", "", "-", "--", "-0", "-00", "0", "00", "ff", "fF", "x"]).to_string(),
         5 => {
             let at = rng.below(field.len() as u64) as usize;
             field.replace_range(at..=at, rng.pick(&["g", "A", "-", "", "0", "00", "+", "\u{e9}"]));
         }
-        6 if rng.once_in(3) => full(rng, fields),
+        6 if rng.once_in(2) => full(rng, fields),
         _ => *field = "-".to_string(),
     }
 }
@@ -42,19 +42,20 @@ fn bytes(rng: &mut Rng, fields: &mut [String]) {
 fn full(rng: &mut Rng, fields: &mut [String]) {
     let places = rng.pick(&[&[4][..], &[8], &[8], &[4, 8]]);
     for &place in places {
-        let digits = rng.pick(&[32_767, 32_768, 32_768, 32_769, 32_770]);
+        let digits = rng.pick(&[32_767, 32_768, 32_768, 32_769, 32_770, 32_770]);
         fields[place] = (fields[place].replace('-', "") + &"0".repeat(digits))[..digits].to_string();
     }
 }
 
 /// A number that its place can or can't hold. Some would be right in eight or sixteen bits.
 fn number(rng: &mut Rng, fields: &mut [String]) {
-    let field = &mut fields[rng.pick(&[1, 2, 3, 5, 6, 7])];
+    let place = rng.pick(&[1, 2, 3, 5, 6, 7]);
+    let field = &mut fields[place];
     *field = match rng.below(4) {
         0 => odd_number(rng),
         1 => {
-            let wider: i64 = rng.pick(&[256, 65_536, 1 << 32]);
-            (wider + field.parse().unwrap_or(0)).to_string()
+            let wider = if place % 4 == 3 { 1 << 8 } else { 1 << 16 };
+            (rng.pick(&[wider, wider, 1 << 32]) + field.parse().unwrap_or(0i64)).to_string()
         }
         2 => rng.pick(&["-1", "255", "256", "257", "65535", "65536", "65537", "-0", "-256"]).to_string(),
         _ => format!("{}{field}", rng.pick(&["-", "+", "0", "00", "x", "0000000000000000"])),

@@ -5,10 +5,10 @@ use mathlib.Core.List.{List}
 use mathlib.Core.Path.{_≡_, refl, sym, _∙_, ap}
 use native.Mathlib.Omega.{arith}
 use native.Mathlib.Numerals.{sub-one}
-use borrow.Author.Tests.{leb-true, lt-ltb, le-ltb}
-use lib.Dec.{leb, eqb}
+use borrow.Author.Tests.{lt-ltb, le-ltb}
+use lib.Dec.{eqb}
 use lib.ListN.{getD}
-use Rattle.count.proofs.laws.Truth.{never, and-parts, and-false}
+use Rattle.count.proofs.laws.Truth.{never, and-false}
 use Rattle.record.specs.declared.Held.{Held}
 use Rattle.record.specs.Places.{none-are, recordsOf}
 use Rattle.program.specs.declared.Verdict.{Verdict}
@@ -20,7 +20,7 @@ use Rattle.program.specs.work.Edges.{kindIs, leads, toldOf}
 use Rattle.program.specs.work.Marks.{mark, checked}
 use Rattle.program.specs.work.Work.{loopIn, turnIn, farIn}
 use Rattle.program.proofs.Gather.{Read}
-use Rattle.program.proofs.laws.Accepting.{computed}
+use Rattle.program.proofs.laws.Accepting.{sized-parts, computed}
 use Rattle.program.proofs.laws.Edges.{out-same, first-same}
 use Rattle.program.proofs.laws.Marks.{marked-same}
 
@@ -88,10 +88,6 @@ told-so : (v : Verdict) (out first : Bool) → toldOf v out first ≡ acceptance
 told-so Sound out first = refl
 told-so (Fault a p) out first = refl
 told-so Unreadable out first = refl
-
-pub sized-parts : (h : Held) → sized h ≡ true → (h .used ≤ 16384) × (h .records ≤ 1000)
-unfolding sized
-sized-parts h e = let d = and-parts (leb (h .used) 16384) (leb (h .records) 1000) e in (leb-true _ _ (d .0), leb-true _ _ (d .1))
 
 acceptance-by : (h : Held) (s : List ℕ) (b : Bool) → accepted h s ≡ b → acceptance b (b && ofThese leadsOut (recordsOf h s)) (b && ofThese startsFirst (recordsOf h s)) ≡ acceptanceOf h s
 unfolding acceptanceOf

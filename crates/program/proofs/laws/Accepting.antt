@@ -5,7 +5,8 @@ use mathlib.Core.Bool.{Bool, true, false, _&&_}
 use mathlib.Core.List.{List, [], _∷_}
 use mathlib.Core.Path.{_≡_, refl, sym, _∙_, ap, subst}
 use native.Mathlib.Omega.{arith}
-use borrow.Author.Tests.{le-ltb, le-leb}
+use borrow.Author.Tests.{leb-true, le-ltb, le-leb}
+use lib.Dec.{leb}
 use lib.ListN.{length, drop}
 use Rattle.count.proofs.laws.Truth.{never, and-parts, and-false}
 use Rattle.record.specs.declared.Held.{Held}
@@ -24,9 +25,13 @@ unfolding passes
 on-same (are l) = refl
 on-same none-are = refl
 
-sized-so : (h : Held) → h .used ≤ 16384 → h .records ≤ 1000 → sized h ≡ true
+pub sized-so : (h : Held) → h .used ≤ 16384 → h .records ≤ 1000 → sized h ≡ true
 unfolding sized
 sized-so h u l = rw (le-leb (h .used) 16384 u, le-leb (h .records) 1000 l)
+
+pub sized-parts : (h : Held) → sized h ≡ true → (h .used ≤ 16384) × (h .records ≤ 1000)
+unfolding sized
+sized-parts h e = let d = and-parts (leb (h .used) 16384) (leb (h .records) 1000) e in (leb-true _ _ (d .0), leb-true _ _ (d .1))
 
 -- under axes 1, 3 or 7
 pub computed : (h : Held) (s : List ℕ) → axesSet (h .axes) ≡ true → h .used ≤ 16384 → h .records ≤ 1000 → accepted h s ≡ isSound (verdictOf h s)

@@ -5,13 +5,12 @@ use mathlib.Core.Path.{_≡_, refl, sym, ap, _∙_, subst}
 use mathlib.Core.Bool.{Bool, true, false, _&&_, _||_}
 use mathlib.Core.List.{List, [], _∷_}
 use native.Mathlib.Omega.{arith}
-use borrow.Author.Tests.{ne-eqb, le-ltb, leb-true, le-leb}
-use lib.Dec.{ltb, leb, eqb}
+use borrow.Author.Tests.{ne-eqb, le-ltb}
+use lib.Dec.{ltb, eqb}
 use lib.ListN.{length, getD, take, drop}
-use Rattle.count.specs.Sizes.{storeBytes, mostRecords}
 use Rattle.count.specs.Pick.{pick}
 use Rattle.count.specs.Text.{fourDigits}
-use Rattle.count.proofs.laws.Truth.{never, and-parts, and-false, both}
+use Rattle.count.proofs.laws.Truth.{never, and-false, both}
 use Rattle.count.proofs.laws.Digits.{four-one}
 use Rattle.record.specs.declared.Held.{Held}
 use Rattle.record.specs.declared.Record.{Record}
@@ -21,7 +20,7 @@ use Rattle.program.specs.declared.Verdict.{Verdict}
 use Rattle.program.specs.declared.Verdict.the-variants.{Sound, Fault, Unreadable}
 use Rattle.program.specs.Check.{outside, early, overlaps, holders, strays, letter, checked}
 use Rattle.program.specs.Program.{loopAt, turnAt, targetAt, checkOf, verdictOn, verdictOf, isSound, passes, passing, axesSet, sized, accepted}
-use Rattle.program.proofs.laws.Accepting.{accepted-parts}
+use Rattle.program.proofs.laws.Accepting.{sized-so, sized-parts, accepted-parts}
 use Rattle.program.proofs.laws.First.{Told, told, first, sound-if}
 use Rattle.engine.proofs.laws.Facts.{facts}
 use Rattle.board.specs.declared.Board.{Board}
@@ -197,14 +196,10 @@ is-sound (Fault a p) e = never e
 is-sound Unreadable e = never e
 
 module _ (h : Held) (store : List ℕ) where
-  size-parts : sized h ≡ true → (h .used ≤ storeBytes) × (h .records ≤ mostRecords)
-  unfolding sized
-  size-parts e = let d = and-parts (leb (h .used) storeBytes) (leb (h .records) mostRecords) e in (leb-true _ _ (d .0), leb-true _ _ (d .1))
-
   right-by : (x : Records) → recordsOf h store ≡ x → sized h ≡ true → axesSet (h .axes) ≡ true → passing x ≡ true → Right h store
   unfolding passes
   right-by (are l) r z a p =
-      let d = size-parts z in
+      let d = sized-parts h z in
       record { bytes = d .0; records = d .1; axes = a; items = l; reads = r; faultless = faultless l (is-sound (checkOf l) p) }
   right-by none-are r z a p = never p
 
@@ -212,9 +207,9 @@ module _ (h : Held) (store : List ℕ) where
   only-right e = let p = accepted-parts h store e in right-by (recordsOf h store) refl (p .0) (p .1) (p .2)
 
   all-right : Right h store → accepted h store ≡ true
-  unfolding accepted sized passes
+  unfolding accepted passes
   all-right r =
-      both (both (le-leb _ _ (r .bytes)) (le-leb _ _ (r .records)))
+      both (sized-so h (r .bytes) (r .records))
       (both (r .axes) (ap passing (r .reads) ∙ ap isSound (found-sound (r .items) (r .faultless))))
 
   pub accepted-exactly : AcceptedExactly h store

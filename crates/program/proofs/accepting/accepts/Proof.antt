@@ -1,7 +1,8 @@
 -- `program::accepts` meets its contract. Assumes nothing.
 use mathlib.Core.Path.{refl, _∙_}
 use Rattle.program.proofs.Gather.{all-read, not-read}
-use Rattle.program.proofs.Reading.{sized-parts, not-asked, asked, told-read, told-unread}
+use Rattle.program.proofs.Reading.{not-asked, asked, told-read, told-unread}
+use Rattle.program.proofs.laws.Accepting.{sized-parts}
 use borrow.Author.Needs.{needs}
 use Rattle.program.proofs.accepting.accepts.Statement.{statement}
 use Rattle.program.proofs.accepting.accepts.Tie as tie

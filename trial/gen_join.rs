@@ -37,8 +37,8 @@ fn any(rng: &mut Rng, axes: u8) -> Part {
     Part::of(axes, &sound(rng, taste))
 }
 
-/// A first part with a jump or wait to its end place, and a second one with a range from place 0 or without:
-/// mostly both, or just one of the two.
+/// Half of the pairs have both a jump or wait to the first one's end place and a range from the second one's
+/// place 0, the others just one of the two for certain.
 fn meeting(rng: &mut Rng, axes: u8) -> [Part; 2] {
     let (to_end, from_start) = rng.pick(&[(true, true), (true, true), (true, false), (false, true)]);
     let first = Taste { to_end, ..Taste::any(rng, axes) };

@@ -1,4 +1,4 @@
-//! Parts of a join that are mostly not accepted: numbers that do not fit the bytes, bytes that cannot be read,
+//! Parts of a join that are mostly not accepted: numbers that do not fit the bytes, bytes that can't be read,
 //! programs that fail the check.
 
 use crate::gen_fault;
@@ -56,7 +56,7 @@ fn add(part: &mut Part, bytes: Vec<u8>) {
     part.bytes.splice(0..0, bytes);
 }
 
-/// A record at the limits of what is right under these axes, with no fault for the check.
+/// A record at the limits of what is right under these axes. If it is right, it passes the check.
 fn odd(rng: &mut Rng, axes: u8) -> String {
     match rng.below(4) {
         0 => format!("n {}", rng.pick(&[0, 1, axes, axes + 1, 7, 8, 255])),

@@ -2,7 +2,7 @@
 use Prim.Native.Nat.{ℕ}
 use mathlib.Core.Bool.{Bool, true, false, not, _&&_, _||_}
 use mathlib.Core.List.{List}
-use mathlib.Core.Path.{_≡_, refl}
+use mathlib.Core.Path.{_≡_, refl, sym}
 use lib.Dec.{eqb}
 use lib.ListN.{length}
 use Rattle.record.specs.declared.Held.{Held}
@@ -10,11 +10,8 @@ use Rattle.record.specs.Places.{recordsOf}
 use Rattle.program.specs.declared.Acceptance.{Acceptance}
 use Rattle.program.specs.Program.{accepted}
 use Rattle.program.specs.Edges.{leadsOut, startsFirst, ofThese, acceptanceOf}
+use Rattle.program.proofs.laws.Marks.{not-both}
 use Rattle.join.specs.Join.{counted, storesRight, axesRight, bothAccepted, entersRange, roomRight, refusalOf}
-
-not-both : (x y : Bool) → not x || not y ≡ not (x && y)
-not-both true y = refl
-not-both false y = refl
 
 -- what is told of an accepted program is asked only if both are
 both-first : (p q o f : Bool) → not (p && q) || ((p && o) && (q && f)) ≡ not (p && q) || (o && f)
@@ -24,7 +21,7 @@ both-first false q o f = refl
 
 pub stores-so : (s t : List ℕ) → not (eqb (length s) 16384) || not (eqb (length t) 16384) ≡ not (storesRight s t)
 unfolding storesRight
-stores-so s t = not-both (eqb (length s) 16384) (eqb (length t) 16384)
+stores-so s t = sym (not-both (eqb (length s) 16384) (eqb (length t) 16384))
 
 module _ (a : Held) (s : List ℕ) (b : Held) (t : List ℕ) where
   pub accepts-so : {h k : Held} {x y : Acceptance} → h ≡ counted a b → k ≡ counted b a → x ≡ acceptanceOf h s → y ≡ acceptanceOf k t

@@ -14,8 +14,7 @@ use Rattle.motion.specs.declared.Next.the-variants as next
 use Rattle.record.specs.declared.Held.{Held}
 use Rattle.record.specs.declared.Record.{Record}
 use Rattle.record.specs.Bytes.{Fetch}
-use Rattle.record.specs.Places.{recordsOf, fetchOf}
-use Rattle.record.specs.Places.Records.{are}
+use Rattle.record.specs.Places.{fetchOf}
 use Rattle.program.specs.Program.{accepted}
 use Rattle.program.proofs.laws.Run.{Accepted}
 use Rattle.program.proofs.laws.Discipline.{Disciplined, begins}
@@ -26,7 +25,7 @@ use Rattle.engine.specs.declared.Engine.{Engine}
 use Rattle.engine.specs.declared.Told.{Told}
 use Rattle.engine.specs.State.{withRun, withJob, running, started, heardBy, heard}
 use Rattle.engine.specs.Tick.{Rule, Fetching, told, finished, fetched, movingOn, tickedBy, ticked, runsBy, runsOf, listFetch}
-use Rattle.program.proofs.laws.Accepting.{records-count, accepted-holds}
+use Rattle.program.proofs.laws.Accepting.{accepted-holds}
 use Rattle.engine.proofs.laws.Fetches.{same-fetch}
 use Rattle.engine.proofs.laws.Accepted.{JobFair, OnList, NoG, Fair, call-fair, list-end}
 
@@ -137,14 +136,10 @@ module _ (l : List Record) (rule : Rule) (e : Engine) (p : e .run .place ≡ len
 
 -- ---- on the store
 
--- the list of an accepted store is an accepted list
-pub accepted-list : (h : Held) (s : List ℕ) → accepted h s ≡ true → (l : List Record) × (recordsOf h s ≡ are l) × Accepted (h .axes) l
-accepted-list h s e = let d = accepted-holds h s e in (d .items, d .reads, d .program)
-
 -- AN ACCEPTED PROGRAM NEVER ENDS WITH G: on its store, unaltered
 pub never-G-stored : (h : Held) (s : List ℕ) → accepted h s ≡ true → (rule : Rule) (xs : List Event) (e : Engine) → e .held ≡ h
     → NeverG rule (fetchOf h s) xs (started e)
 never-G-stored h s p rule xs e q =
-    let x = accepted-list h s p in
-    subst (λ (f : Fetching). NeverG rule f xs (started e)) (sym (same-fetch h s (x .0) (x .1)))
-    (never-G (h .axes) (x .0) (x .2) rule xs e (ap (λ (d : Held). d .records) q ∙ sym (records-count h s (x .0) (x .1))))
+    let x = accepted-holds h s p in
+    subst (λ (f : Fetching). NeverG rule f xs (started e)) (sym (same-fetch h s (x .items) (x .reads)))
+    (never-G (h .axes) (x .items) (x .program) rule xs e (ap (λ (d : Held). d .records) q ∙ sym (x .count)))

@@ -33,7 +33,7 @@ not-leb a b = by (leb a b) refl
     by true e = sym (le-ltb b a (leb-true a b e))
     by false e = sym (lt-ltb b a (leb-false a b e))
 
-not-both : (a b : Bool) → not (a && b) ≡ not a || not b
+pub not-both : (a b : Bool) → not (a && b) ≡ not a || not b
 not-both true b = refl
 not-both false b = refl
 

@@ -1,3 +1,4 @@
 pub mod Room
 pub mod Made
 pub mod Here
+pub mod Beat

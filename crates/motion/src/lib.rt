@@ -57,3 +57,29 @@ pub enum Next {
     Made(Stepped),
     Over,
 }
+
+// Where a movement stands: the phase, and the pulses made in it.
+pub struct Mark {
+    pub phase: u8,
+    pub made: u32,
+}
+
+// One pulse without the movement, which only its mark tells from the one before: its signs and speed, the counters and the mark afterwards.
+pub struct Beat {
+    pub signs: Signs,
+    pub speed: u16,
+    pub at: Counters,
+    pub mark: Mark,
+}
+
+pub enum Beaten {
+    Made(Beat),
+    Over,
+}
+
+// A movement under way at a clock call: 103 refuses it, its next pulse, or that none is left.
+pub enum Look {
+    Wrong,
+    Made(Beat),
+    Over,
+}

@@ -28,7 +28,8 @@ pub(crate) fn pulses_of(from: Counters, to: Counters) -> u32
     n
 }
 
-// What the pulse after pulse k of n shows on an axis that goes from one count to another and stands at a third: no division.
+// What the pulse after pulse k of n shows on an axis that goes from one count to another and stands at a third: no division, and the same
+// two products as in the test of 103.
 pub(crate) fn sign_here(at: u32, from: u32, to: u32, k: u32, n: u32) -> Sign
     requires { ⌜ (k < n) × (n < 16777216) × (far from to ≤ n) ⌝ }
     ensures { λ r. ⌜ (r ≡ signHere at from to k n) × room at r ⌝ }
@@ -37,7 +38,7 @@ pub(crate) fn sign_here(at: u32, from: u32, to: u32, k: u32, n: u32) -> Sign
     let s = count::distance(from, at) as u64;
     let wide_n = n as u64;
     let wide_k = k as u64;
-    if 2 * (wide_k + 1) * d + wide_n < 2 * wide_n * (s + 1) {
+    if 2 * wide_k * d + wide_n + 2 * d < 2 * wide_n * s + 2 * wide_n {
         return Sign::Rest;
     }
     if to < from {

@@ -1,12 +1,19 @@
-// The next pulse of a movement, and the counters after it.
+// The next pulse of a movement, and the counters after it. The movement is only read: a pulse answers its mark.
 ghost use mathlib.Core.Path.{_≡_};
-ghost use Prim.Native.Nat.{_<_, _+_, _-_};
+ghost use Prim.Native.Nat.{_≤_, _<_, _+_, _-_};
+ghost use lib.Dec.{eqb};
+ghost use Rattle.count.specs.Pick.{pick};
+ghost use Rattle.count.specs.Numbers.{far};
 ghost use Rattle.motion.specs.work.Here.{signHere};
 ghost use Rattle.motion.specs.Phase.{moved, movedAll};
 ghost use Rattle.motion.specs.work.Here.{nextOf, withinOf};
+ghost use Rattle.motion.specs.work.Beat.{markOf, atMark, beatOf, beaten, nextBack};
 ghost use Rattle.motion.specs.Next.{fromOf, toOf, leg, speedAt, atPhase, skipped, settled, signsBy, stepped, leftOf, afterOf};
 ghost use Rattle.motion.specs.work.Room.{room, hasRoom};
+use super::Beat;
+use super::Beaten;
 use super::Counters;
+use super::Mark;
 use super::Move;
 use super::Next;
 use super::Sign;
@@ -59,44 +66,94 @@ fn with_pulse(c: Counters, s: Signs) -> Counters
     counters
 }
 
+// One of four counts by the phase: where it starts.
+fn from_by(p: u8, a: u32, b: u32, c: u32, d: u32) -> u32
+    ensures { λ r. ⌜ r ≡ pick (eqb p 0) a (pick (eqb p 1) b (pick (eqb p 2) c d)) ⌝ }
+{
+    match p {
+        0 => a,
+        1 => b,
+        2 => c,
+        _ => d,
+    }
+}
+
+// One of three: where it ends.
+fn to_by(p: u8, a: u32, b: u32, c: u32) -> u32
+    ensures { λ r. ⌜ r ≡ pick (eqb p 0) a (pick (eqb p 1) b c) ⌝ }
+{
+    match p {
+        0 => a,
+        1 => b,
+        _ => c,
+    }
+}
+
+// What the pulse after pulse k of n shows on the three axes.
+pub(crate) fn signs_at(at: Counters, from: Counters, to: Counters, k: u32, n: u32) -> Signs
+    requires { ⌜ (k < n) × (n < 16777216) × (far (from .x) (to .x) ≤ n) × (far (from .y) (to .y) ≤ n) × (far (from .z) (to .z) ≤ n) ⌝ }
+    ensures { λ r. ⌜ (r ≡ signsBy signHere at from to k n) × hasRoom at r ⌝ }
+{
+    let x = sign_here(at.x, from.x, to.x, k, n);
+    let y = sign_here(at.y, from.y, to.y, k, n);
+    let z = sign_here(at.z, from.z, to.z, k, n);
+    Signs { x, y, z }
+}
+
 impl Move {
-    // Where the phase under way starts.
-    pub(crate) fn from_of(self) -> Counters
-        ensures { λ r. ⌜ r ≡ fromOf self ⌝ }
+    // Where it stands.
+    pub(crate) fn mark(self) -> Mark
+        ensures { λ r. ⌜ r ≡ markOf self ⌝ }
     {
-        let p = self.phase;
-        match p {
-            0 => self.start,
-            1 => self.first,
-            2 => self.second,
-            _ => self.third,
+        Mark {
+            phase: self.phase,
+            made: self.made,
+        }
+    }
+
+    // Where the phase of a mark starts: chosen count by count, so that no copy of the movement is needed.
+    pub(crate) fn from_at(self, mark: Mark) -> Counters
+        ensures { λ r. ⌜ r ≡ fromOf (atMark self mark) ⌝ }
+    {
+        let p = mark.phase;
+        let a = self.start;
+        let b = self.first;
+        let c = self.second;
+        let d = self.third;
+        Counters {
+            x: from_by(p, a.x, b.x, c.x, d.x),
+            y: from_by(p, a.y, b.y, c.y, d.y),
+            z: from_by(p, a.z, b.z, c.z, d.z),
         }
     }
 
     // Where it ends.
-    pub(crate) fn to_of(self) -> Counters
-        ensures { λ r. ⌜ r ≡ toOf self ⌝ }
+    pub(crate) fn to_at(self, mark: Mark) -> Counters
+        ensures { λ r. ⌜ r ≡ toOf (atMark self mark) ⌝ }
     {
-        let p = self.phase;
-        match p {
-            0 => self.first,
-            1 => self.second,
-            _ => self.third,
+        let p = mark.phase;
+        let b = self.first;
+        let c = self.second;
+        let d = self.third;
+        Counters {
+            x: to_by(p, b.x, c.x, d.x),
+            y: to_by(p, b.y, c.y, d.y),
+            z: to_by(p, b.z, c.z, d.z),
         }
     }
 
-    // The pulses of the phase under way.
-    pub(crate) fn leg(self) -> u32
-        ensures { λ r. ⌜ r ≡ leg self ⌝ }
+    // The pulses of the phase of a mark.
+    fn leg_at(self, mark: Mark) -> u32
+        ensures { λ r. ⌜ r ≡ leg (atMark self mark) ⌝ }
     {
-        pulses_of(self.from_of(), self.to_of())
+        pulses_of(self.from_at(mark), self.to_at(mark))
     }
 
-    // The speed of pulse k of the phase.
-    fn speed_at(self, k: u32) -> u16
-        ensures { λ r. ⌜ r ≡ speedAt self k ⌝ }
+    // The speed of pulse k of the phase of a mark.
+    fn speed_at(self, mark: Mark, k: u32) -> u16
+        ensures { λ r. ⌜ r ≡ speedAt (atMark self mark) k ⌝ }
     {
-        let p = self.phase;
+        let p = mark.phase;
         match p {
             0 => self.speed1,
             1 => self.speed2,
@@ -104,90 +161,140 @@ impl Move {
         }
     }
 
-    fn at_phase(self, phase: u8, made: u32) -> Move
-        ensures { λ r. ⌜ r ≡ atPhase self phase made ⌝ }
+    fn at_mark(self, mark: Mark) -> Move
+        ensures { λ r. ⌜ r ≡ atMark self mark ⌝ }
     {
         let mut m = self;
-        m.phase = phase;
-        m.made = made;
+        m.phase = mark.phase;
+        m.made = mark.made;
         m
     }
 
-    // The movement past a phase that has no pulse left.
-    fn skip(self) -> Move
-        ensures { λ r. ⌜ r ≡ skipped self ⌝ }
+    // The mark past a phase that has no pulse left.
+    fn skip(self, mark: Mark) -> Mark
+        ensures { λ r. ⌜ r ≡ markOf (skipped (atMark self mark)) ⌝ }
     {
-        let p = self.phase;
+        let p = mark.phase;
         if 3 <= p {
-            return self;
+            return mark;
         }
-        if self.made < self.leg() {
-            return self;
+        if mark.made < self.leg_at(mark) {
+            return mark;
         }
-        self.at_phase(p + 1, 0)
-    }
-
-    // What the next pulse of a phase of n pulses shows.
-    fn signs_at(self, at: Counters, n: u32) -> Signs
-        requires { ⌜ (n ≡ leg self) × (self .made < n) ⌝ }
-        ensures { λ r. ⌜ (r ≡ signsBy signHere at (fromOf self) (toOf self) (self .made) n) × hasRoom at r ⌝ }
-    {
-        let from = self.from_of();
-        let to = self.to_of();
-        let k = self.made;
-        let x = sign_here(at.x, from.x, to.x, k, n);
-        let y = sign_here(at.y, from.y, to.y, k, n);
-        let z = sign_here(at.z, from.z, to.z, k, n);
-        Signs { x, y, z }
-    }
-
-    // The next pulse of a phase of n pulses that has one left.
-    fn step(self, at: Counters, n: u32) -> Stepped
-        requires { ⌜ (n ≡ leg self) × (self .made < n) ⌝ }
-        ensures { λ r. ⌜ r ≡ stepped self at (signsBy signHere at (fromOf self) (toOf self) (self .made) (leg self)) ⌝ }
-    {
-        let signs = self.signs_at(at, n);
-        let there = with_pulse(at, signs);
-        let k = self.made + 1;
-        let rest = self.at_phase(self.phase, k);
-        Stepped {
-            signs,
-            speed: self.speed_at(k),
-            at: there,
-            rest,
+        Mark {
+            phase: p + 1,
+            made: 0,
         }
     }
 
-    // The movement at the first phase that has a pulse left.
-    fn settle(self) -> Move
-        ensures { λ r. ⌜ r ≡ settled self ⌝ }
+    // The mark at the first phase that has a pulse left.
+    fn settle(self) -> Mark
+        ensures { λ r. ⌜ r ≡ markOf (settled self) ⌝ }
     {
-        let here = self.leg();
+        let mark = self.mark();
+        let here = self.leg_at(mark);
         if self.made < here {
-            return self;
+            return mark;
         }
-        self.skip().skip().skip()
+        self.skip(self.skip(self.skip(mark)))
     }
 
-    // The pulse after `made` of the phase under way, or that none is left of it. The movement is only read, so a loop over a phase need
-    // not copy it.
-    pub fn within(self, made: u32, at: Counters) -> Next
-        ensures { λ r. ⌜ r ≡ withinOf (atPhase self (self .phase) made) at ⌝ }
+    // The pulse after a mark, with its signs.
+    pub(crate) fn beat_by(self, mark: Mark, at: Counters, signs: Signs) -> Beat
+        requires { ⌜ hasRoom at signs × (mark .made < 16777216) ⌝ }
+        ensures { λ r. ⌜ r ≡ beatOf (stepped (atMark self mark) at signs) ⌝ }
     {
-        let m = self.at_phase(self.phase, made);
-        let n = m.leg();
-        if m.made < n {
-            return Next::Made(m.step(at, n));
+        let there = with_pulse(at, signs);
+        let k = mark.made + 1;
+        let next = Mark {
+            phase: mark.phase,
+            made: k,
+        };
+        Beat {
+            signs,
+            speed: self.speed_at(mark, k),
+            at: there,
+            mark: next,
         }
-        Next::Over
+    }
+
+    // The pulse after a mark, or that none is left of its phase.
+    fn beat_at(self, mark: Mark, at: Counters) -> Beaten
+        ensures { λ r. ⌜ r ≡ beaten (withinOf (atMark self mark) at) ⌝ }
+    {
+        let from = self.from_at(mark);
+        let to = self.to_at(mark);
+        let n = pulses_of(from, to);
+        if mark.made < n {
+            let signs = signs_at(at, from, to, mark.made, n);
+            return Beaten::Made(self.beat_by(mark, at, signs));
+        }
+        Beaten::Over
     }
 
     // The next pulse, or that none is left.
+    pub fn beat(self, at: Counters) -> Beaten
+        ensures { λ r. ⌜ r ≡ beaten (nextOf self at) ⌝ }
+    {
+        self.beat_at(self.settle(), at)
+    }
+
+    // The pulse after `made` of the phase under way, or that none is left of it. It is `beat_at` once more, since a function with one caller
+    // becomes a part of it: in a loop over a phase, what is the same for each pulse is then worked out once.
+    pub fn beat_in(self, made: u32, at: Counters) -> Beaten
+        ensures { λ r. ⌜ r ≡ beaten (withinOf (atPhase self (self .phase) made) at) ⌝ }
+    {
+        let mark = Mark {
+            phase: self.phase,
+            made,
+        };
+        let from = self.from_at(mark);
+        let to = self.to_at(mark);
+        let n = pulses_of(from, to);
+        if made < n {
+            let signs = signs_at(at, from, to, made, n);
+            return Beaten::Made(self.beat_by(mark, at, signs));
+        }
+        Beaten::Over
+    }
+
+    // A pulse with the movement after it.
+    fn as_next(self, beat: Beaten) -> Next
+        ensures { λ r. ⌜ r ≡ nextBack self beat ⌝ }
+    {
+        match beat {
+            Beaten::Made(b) => {
+                let signs = b.signs;
+                let at = b.at;
+                let mark = b.mark;
+                let rest = self.at_mark(mark);
+                Next::Made(Stepped {
+                    signs,
+                    speed: b.speed,
+                    at,
+                    rest,
+                })
+            }
+            Beaten::Over => Next::Over,
+        }
+    }
+
+    // The same as `beat_in`, with the movement after it.
+    pub fn within(self, made: u32, at: Counters) -> Next
+        ensures { λ r. ⌜ r ≡ withinOf (atPhase self (self .phase) made) at ⌝ }
+    {
+        let mark = Mark {
+            phase: self.phase,
+            made,
+        };
+        self.as_next(self.beat_at(mark, at))
+    }
+
+    // The same as `beat`.
     pub fn next(self, at: Counters) -> Next
         ensures { λ r. ⌜ r ≡ nextOf self at ⌝ }
     {
-        let m = self.settle();
-        m.within(m.made, at)
+        self.as_next(self.beat(at))
     }
 
     // The pulses of the phases after the one under way.
@@ -207,7 +314,7 @@ impl Move {
     pub fn left(self) -> u32
         ensures { λ r. ⌜ r ≡ leftOf self ⌝ }
     {
-        let n = self.leg();
+        let n = self.leg_at(self.mark());
         let k = self.made;
         let later = self.after();
         if n <= k {

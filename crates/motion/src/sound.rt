@@ -1,14 +1,19 @@
 // What 103 asks of a movement under way.
 ghost use mathlib.Core.Path.{_≡_};
-ghost use mathlib.Core.Bool.{true};
+ghost use mathlib.Core.Bool.{_&&_};
 ghost use Prim.Native.Nat.{_≤_, _<_};
 ghost use lib.Dec.{eqb};
 ghost use Rattle.count.specs.Numbers.{far};
 ghost use Rattle.motion.specs.Phase.{steps, countAfter};
-ghost use Rattle.motion.specs.Next.{leg};
-ghost use Rattle.motion.specs.Sound.{speedRight, counted, inRange, standsAt, underWay};
+ghost use Rattle.motion.specs.Sound.{speedRight, counted, inRange, underWay};
+ghost use Rattle.motion.specs.work.Here.{nextOf};
+ghost use Rattle.motion.specs.work.Beat.{lookedBy, lookOf};
+use super::Beaten;
 use super::Counters;
+use super::Look;
 use super::Move;
+use super::phase::pulses_of;
+use super::pulse::signs_at;
 
 // A speed: 30 to 10,000.
 fn speed_right(v: u16) -> bool
@@ -54,6 +59,18 @@ fn stands(at: u32, from: u32, to: u32, k: u32, n: u32) -> bool
     (from <= at) & has_made(s, k, d, n)
 }
 
+// Whether three axes stand where pulse k of n puts them.
+fn stand_at(at: Counters, from: Counters, to: Counters, k: u32, n: u32) -> bool
+    requires { ⌜ (n < 16777216) × (k ≤ n) × (far (from .x) (to .x) ≤ n) × (far (from .y) (to .y) ≤ n) × (far (from .z) (to .z) ≤ n) ⌝ }
+    ensures { λ r. ⌜ r ≡ eqb (at .x) (countAfter k (from .x) (to .x) n) && eqb (at .y) (countAfter k (from .y) (to .y) n)
+        && eqb (at .z) (countAfter k (from .z) (to .z) n) ⌝ }
+{
+    let x = stands(at.x, from.x, to.x, k, n);
+    let y = stands(at.y, from.y, to.y, k, n);
+    let z = stands(at.z, from.z, to.z, k, n);
+    x & y & z
+}
+
 impl Move {
     // Speeds and resting points in range.
     fn in_range(self) -> bool
@@ -67,32 +84,51 @@ impl Move {
         speeds & points
     }
 
-    // Whether the counters are where the pulse number puts them.
-    fn stands_at(self, at: Counters, n: u32) -> bool
-        requires { ⌜ (n ≡ leg self) × (inRange self ≡ true) × (self .made ≤ n) ⌝ }
-        ensures { λ r. ⌜ r ≡ standsAt self at ⌝ }
-    {
-        let from = self.from_of();
-        let to = self.to_of();
-        let k = self.made;
-        let x = stands(at.x, from.x, to.x, k, n);
-        let y = stands(at.y, from.y, to.y, k, n);
-        let z = stands(at.z, from.z, to.z, k, n);
-        x & y & z
-    }
-
     // Whether a movement under way is one that 103 lets pass.
     pub fn sound(self, at: Counters) -> bool
         ensures { λ r. ⌜ r ≡ underWay self at ⌝ }
     {
-        if self.in_range() {
-            let n = self.leg();
-            if self.phase < 3 {
-                if self.made <= n {
-                    return self.stands_at(at, n);
-                }
-            }
+        let mark = self.mark();
+        let from = self.from_at(mark);
+        let to = self.to_at(mark);
+        let n = pulses_of(from, to);
+        let k = self.made;
+        if !self.in_range() | (3 <= self.phase) | (n < k) {
+            return false;
         }
-        false
+        stand_at(at, from, to, k, n)
+    }
+
+    // The next pulse of a movement whose phase under way has none left.
+    fn look_on(self, at: Counters) -> Look
+        ensures { λ r. ⌜ r ≡ lookedBy (nextOf self at) ⌝ }
+    {
+        let next = self.beat(at);
+        match next {
+            Beaten::Made(b) => Look::Made(b),
+            Beaten::Over => Look::Over,
+        }
+    }
+
+    // 103's test and the next pulse in one: they share their products.
+    pub fn look(self, at: Counters) -> Look
+        ensures { λ r. ⌜ r ≡ lookOf self at ⌝ }
+    {
+        let mark = self.mark();
+        let from = self.from_at(mark);
+        let to = self.to_at(mark);
+        let n = pulses_of(from, to);
+        let k = self.made;
+        if !self.in_range() | (3 <= self.phase) | (n < k) {
+            return Look::Wrong;
+        }
+        if !stand_at(at, from, to, k, n) {
+            return Look::Wrong;
+        }
+        if k < n {
+            let signs = signs_at(at, from, to, k, n);
+            return Look::Made(self.beat_by(mark, at, signs));
+        }
+        self.look_on(at)
     }
 }

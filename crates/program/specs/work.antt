@@ -5,3 +5,4 @@ pub mod Target
 pub mod Decode
 pub mod Ranges
 pub mod Edges
+pub mod Leap

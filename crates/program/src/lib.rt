@@ -9,6 +9,7 @@ mod running;
 pub use accepting::accepts;
 pub use accepting::axes_set;
 pub use ending::check;
+pub use running::leap;
 pub use running::onward;
 
 // What the check comes to: sound, the letter and place of the first fault, or that the store is not readable.
@@ -50,6 +51,16 @@ pub struct Way {
     pub place: u16,
     pub target: u16,
     pub loops: Loops,
+}
+
+// The same without the open loops: how many are open afterwards, and the one entry of theirs that can have changed.
+pub struct Lead {
+    pub going: Going,
+    pub place: u16,
+    pub target: u16,
+    pub depth: u8,
+    pub top: u8,
+    pub last: Loop,
 }
 
 // Own place plus offset: a place from place 0 to the end place, or outside.

@@ -4,6 +4,7 @@ mod sound;
 mod state;
 mod tick;
 
+use motion::Beat;
 use motion::Counters;
 use motion::Move;
 use motion::Signs;
@@ -58,4 +59,21 @@ pub struct Told {
 pub struct Begun {
     pub engine: Engine,
     pub reply: u8,
+}
+
+// What a clock call does, decided before it is done: nothing, since 103 refuses the state; nothing, since nothing runs; a pulse; a pause
+// with so many after it; the 0 after the last pulse; or the record at the place.
+pub enum Act {
+    Wrong,
+    Still,
+    Pulse(Beat),
+    Pause(u16),
+    Finish,
+    Record,
+}
+
+// The movement under way, if one is.
+pub enum Under {
+    Going(Move),
+    Nothing,
 }

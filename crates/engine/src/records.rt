@@ -2,22 +2,22 @@
 ghost use mathlib.Core.Path.{_≡_};
 ghost use Prim.Native.Nat.{_<_, _+_};
 ghost use lib.ListN.{getD};
-ghost use Rattle.motion.specs.Phase.{movedAll};
 ghost use Rattle.motion.specs.work.Here.{nextOf};
 ghost use Rattle.motion.specs.Plan.{asked, planOf};
 ghost use Rattle.program.specs.Onward.{onwardOf};
-ghost use Rattle.engine.specs.State.{withRun, withThree, running, originOf};
+ghost use Rattle.engine.specs.State.{withAt, withRun, withThree, running, originOf};
 ghost use Rattle.engine.specs.Tick.{told, finished, failed, onTo, moving, movingBy, afterPause, delaying, leading, performed};
 ghost use Rattle.engine.specs.work.Work.{Fits};
+ghost use Rattle.engine.specs.work.Acts.{pulsed};
 use super::Answer;
 use super::Engine;
 use super::Job;
 use super::Run;
 use super::Told;
+use motion::Beat;
+use motion::Beaten;
 use motion::Move;
-use motion::Next;
 use motion::Planned;
-use motion::Stepped;
 use program::Going;
 use program::Loops;
 use record::Record;
@@ -44,16 +44,15 @@ impl Engine {
     }
 
     // A pulse, with the run after it.
-    pub(crate) fn pulse(self, run: Run, s: Stepped) -> Told
-        requires { ⌜ s .at ≡ movedAll (self .at) (s .signs) ⌝ }
-        ensures { λ r. ⌜ r ≡ told (withRun self run) (Answer.Pulse (s .signs) (s .speed)) ⌝ }
+    pub(crate) fn pulse(self, run: Run, b: Beat) -> Told
+        ensures { λ r. ⌜ r ≡ pulsed run b self ⌝ }
     {
-        let at = s.at;
-        let signs = s.signs;
+        let at = b.at;
+        let signs = b.signs;
         let mut e = self;
         e.at = at;
         e.run = run;
-        e.tell(Answer::Pulse(signs, s.speed))
+        e.tell(Answer::Pulse(signs, b.speed))
     }
 
     // The run is over and its last character sent.
@@ -85,14 +84,14 @@ impl Engine {
         ensures { λ r. ⌜ r ≡ moving (nextOf m (self .at)) self ⌝ }
     {
         let at = self.at;
-        let next = m.next(at);
+        let next = m.beat(at);
         match next {
-            Next::Made(s) => {
-                let rest = s.rest;
+            Beaten::Made(b) => {
+                let mark = b.mark;
                 let run = self.run;
-                self.pulse(run.at_place(Job::Moving(rest), run.place + 1), s)
+                self.pulse(run.at_place(Job::Moving(m.at_mark(mark)), run.place + 1), b)
             }
-            Next::Over => self.on_to(Job::Ready).tell(Answer::Done),
+            Beaten::Over => self.on_to(Job::Ready).tell(Answer::Done),
         }
     }
 
@@ -143,9 +142,9 @@ impl Engine {
     {
         let held = self.held;
         let run = self.run;
-        let way = program::onward(item, run.place, held.records, run.loops);
+        let way = program::leap(item, run.place, held.records, run.loops);
         let going = way.going;
-        let loops = way.loops;
+        let loops = way.loops(run.loops);
         match going {
             Going::To => self.go_to(Job::Ready, way.place, loops),
             Going::Waits => {
@@ -166,8 +165,7 @@ impl Engine {
         let w = words[0];
         let code = item.code;
         match code {
-            b'0' => self.travel(false, words),
-            b'm' => self.travel(true, words),
+            b'0' | b'm' => self.travel(code == b'm', words),
             b'n' => self.origin_at(w).on_to(Job::Ready).tell(Answer::Done),
             b'z' => self.set_three(w == 1).on_to(Job::Ready).tell(Answer::Done),
             b'5' => self.delay(w as u16),

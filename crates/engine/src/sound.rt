@@ -2,6 +2,7 @@
 ghost use mathlib.Core.Path.{_≡_};
 ghost use Rattle.motion.specs.Sound.{counted};
 ghost use Rattle.engine.specs.Sound.{axesKnown, jobSound, soundOf};
+ghost use Rattle.engine.specs.work.Acts.{fitsOf};
 use super::Engine;
 use super::Job;
 use motion::Counters;
@@ -35,17 +36,25 @@ fn is_sound(job: Job, at: Counters) -> bool
 }
 
 impl Engine {
-    pub fn sound(self) -> bool
-        ensures { λ r. ⌜ r ≡ soundOf self ⌝ }
+    // What 103 asks of all but the movement.
+    pub(crate) fn fits(self) -> bool
+        ensures { λ r. ⌜ r ≡ fitsOf self ⌝ }
     {
         let at = self.at;
         let held = self.held;
         let run = self.run;
-        let job = run.job;
         let loops = run.loops;
         let points = is_counted(at) & is_counted(self.origin);
         let axes = is_known(self.axes) & is_known(held.axes);
         let used = (held.used <= 16384) & (held.records <= 1000);
-        points & axes & used & (loops.depth <= 7) & is_sound(job, at)
+        points & axes & used & (loops.depth <= 7)
+    }
+
+    pub fn sound(self) -> bool
+        ensures { λ r. ⌜ r ≡ soundOf self ⌝ }
+    {
+        let run = self.run;
+        let job = run.job;
+        self.fits() & is_sound(job, self.at)
     }
 }

@@ -161,7 +161,8 @@ impl Move {
         }
     }
 
-    fn at_mark(self, mark: Mark) -> Move
+    // The movement at another mark.
+    pub fn at_mark(self, mark: Mark) -> Move
         ensures { λ r. ⌜ r ≡ atMark self mark ⌝ }
     {
         let mut m = self;

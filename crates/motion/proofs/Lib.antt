@@ -1,5 +1,6 @@
 pub mod Work
 pub mod Standing
+pub mod Looks
 pub mod Routes
 pub mod Only
 pub mod Examples

@@ -4,6 +4,10 @@ use mathlib.Core.Path.{_≡_, sym, _∙_}
 use Rattle.motion.proofs.route.plan.Reads as plan
 use Rattle.motion.proofs.Move.next.Reads as next
 use Rattle.motion.proofs.Move.within.Reads as within
+use Rattle.motion.proofs.Move.beat.Reads as beat
+use Rattle.motion.proofs.Move.beat_in.Reads as beat-in
+use Rattle.motion.proofs.Move.look.Reads as look
+use Rattle.motion.proofs.Move.at_mark.Reads as at-mark
 use Rattle.motion.proofs.Move.left.Reads as left
 use Rattle.motion.proofs.Move.sound.Reads as sound
 use Rattle.motion.proofs.Move.resting.Reads as resting
@@ -25,3 +29,15 @@ sound-one κs a r r′ s s′ p q = p ∙ sym q
 
 pub resting-one : (κs : _) (a : _) (r r′ : _) (s s′ : _) → resting.Post κs a r s → resting.Post κs a r′ s′ → r ≡ r′
 resting-one κs a r r′ s s′ p q = p ∙ sym q
+
+pub beat-one : (κs : _) (a : _) (r r′ : _) (s s′ : _) → beat.Post κs a r s → beat.Post κs a r′ s′ → r ≡ r′
+beat-one κs a r r′ s s′ p q = p ∙ sym q
+
+pub beat-in-one : (κs : _) (a : _) (r r′ : _) (s s′ : _) → beat-in.Post κs a r s → beat-in.Post κs a r′ s′ → r ≡ r′
+beat-in-one κs a r r′ s s′ p q = p ∙ sym q
+
+pub look-one : (κs : _) (a : _) (r r′ : _) (s s′ : _) → look.Post κs a r s → look.Post κs a r′ s′ → r ≡ r′
+look-one κs a r r′ s s′ p q = p ∙ sym q
+
+pub at-mark-one : (κs : _) (a : _) (r r′ : _) (s s′ : _) → at-mark.Post κs a r s → at-mark.Post κs a r′ s′ → r ≡ r′
+at-mark-one κs a r r′ s s′ p q = p ∙ sym q

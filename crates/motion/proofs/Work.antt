@@ -1,6 +1,6 @@
--- What the code's own tests rest on: products that fit, a step and the next pulse from their parts. Assumes nothing.
+-- What the code's own tests rest on: products that fit, and the pulse of a phase from its parts. Assumes nothing.
 use mathlib.Core.Path.{_≡_}
-use Prim.Native.Nat.{ℕ, _+_, _-_, _*_, _≤_, _<_}
+use Prim.Native.Nat.{ℕ, _*_, _≤_, _<_}
 use native.Mathlib.Nat.{mul-le-mul-right, mul-le-mul-left}
 use native.Mathlib.Omega.{arith}
 use borrow.Author.Tests.{lt-ltb, le-ltb}
@@ -8,12 +8,12 @@ use Rattle.count.specs.Numbers.{far}
 use Rattle.motion.specs.declared.Counters.{Counters}
 use Rattle.motion.specs.declared.Signs.{Signs}
 use Rattle.motion.specs.declared.Move.{Move}
-use Rattle.motion.specs.declared.Stepped.{Stepped}
-use Rattle.motion.specs.work.Here.{signHere}
-use Rattle.motion.specs.Phase.{pulses, movedAll}
-use Rattle.motion.specs.work.Here.{withinOf}
-use Rattle.motion.specs.Next.{leg, fromOf, toOf, speedAt, atPhase, signsBy, stepped}
-use Rattle.motion.specs.declared.Next.the-variants.{Made, Over}
+use Rattle.motion.specs.declared.Beat.{Beat}
+use Rattle.motion.specs.declared.Beaten.the-variants as beat
+use Rattle.motion.specs.Phase.{pulses}
+use Rattle.motion.specs.Next.{leg, fromOf, toOf, signsBy, stepped}
+use Rattle.motion.specs.work.Here.{signHere, withinOf}
+use Rattle.motion.specs.work.Beat.{beatOf, beaten}
 use Rattle.motion.proofs.laws.Pulses.{pulses-small, most-x, most-y, most-z}
 
 -- products of the formula fit 64 bits
@@ -25,21 +25,19 @@ ready f t k n e l =
     let h : k < pulses f t = rw e at l in
     rw e (pulses-small f t, most-x f t k h, most-y f t k h, most-z f t k h)
 
--- a step from its parts, as the code has them
-pub step-made : (m : Move) (at : Counters) {t : Counters} {s : Signs} {v n : ℕ} {r : Move} → n ≡ leg m → s ≡ signsBy signHere at (fromOf m) (toOf m) (m .made) n
-    → t ≡ movedAll at s → r ≡ atPhase m (m .phase) (m .made + 1) → v ≡ speedAt m (m .made + 1)
-    → _≡_ {A = Stepped} (record { signs = s; speed = v; at = t; rest = r }) (stepped m at (signsBy signHere at (fromOf m) (toOf m) (m .made) (leg m)))
-step-made m at e p q r v = rw (q, r, v, p, e)
+-- the pulse of a phase from its parts, as the code has them
+module _ (m : Move) (at : Counters) {f t : Counters} {n : ℕ} (p : f ≡ fromOf m) (q : t ≡ toOf m) (e : n ≡ pulses f t) where
+  pub leg-is : n ≡ leg m
+  leg-is = rw (e, p, q)
 
--- the next pulse of a phase by the test on where each axis stands
-abbrev here : Move → Counters → Stepped
-here m at = stepped m at (signsBy signHere at (fromOf m) (toOf m) (m .made) (leg m))
-
-module _ (m : Move) (at : Counters) {x : Move} {n : ℕ} (q : x ≡ m) (e : n ≡ leg x) where
-  pub within-made : {w : Stepped} → x .made < n → w ≡ here x at → Made w ≡ withinOf m at
+  pub beat-made : {s : Signs} {b : Beat} → m .made < n → s ≡ signsBy signHere at f t (m .made) n → b ≡ beatOf (stepped m at s) → beat.Made b ≡ beaten (withinOf m at)
   unfolding withinOf
-  within-made h p = rw (p, ← q, ← e, lt-ltb (x .made) n h, e)
+  beat-made h u v =
+      let l = leg-is in
+      rw (v, u, l, p, q, lt-ltb (m .made) (leg m) (rw l at h))
 
-  pub within-over : n ≤ x .made → Over ≡ withinOf m at
+  pub beat-over : n ≤ m .made → beat.Over ≡ beaten (withinOf m at)
   unfolding withinOf
-  within-over h = rw (← q, ← e, le-ltb (x .made) n h)
+  beat-over h =
+      let l = leg-is in
+      rw (le-ltb (m .made) (leg m) (rw l at h))

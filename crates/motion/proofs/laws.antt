@@ -8,4 +8,5 @@ pub mod Whole
 pub mod Within
 pub mod Room
 pub mod ThreeD
+pub mod Beats
 pub mod Papers

@@ -11,7 +11,7 @@ use Rattle.motion.specs.declared.Next.the-variants as next
 use Rattle.motion.specs.declared.Mark.{Mark}
 use Rattle.motion.specs.declared.Beat.{Beat}
 use Rattle.motion.specs.declared.Beaten.{Beaten}
-use Rattle.motion.specs.declared.Beaten.the-variants as beaten
+use Rattle.motion.specs.declared.Beaten.the-variants as beat
 use Rattle.motion.specs.declared.Look.{Look}
 use Rattle.motion.specs.declared.Look.the-variants as look
 use Rattle.motion.specs.Next.{atPhase, nextPaper}
@@ -30,15 +30,15 @@ abbrev pub beatOf : Stepped → Beat
 beatOf s = record { signs = s .signs; speed = s .speed; at = s .at; mark = markOf (s .rest) }
 
 abbrev pub beaten : Next → Beaten
-beaten (next.Made s) = beaten.Made (beatOf s)
-beaten next.Over = beaten.Over
+beaten (next.Made s) = beat.Made (beatOf s)
+beaten next.Over = beat.Over
 
 abbrev pub steppedBack : Move → Beat → Stepped
 steppedBack m b = record { signs = b .signs; speed = b .speed; at = b .at; rest = atMark m (b .mark) }
 
 abbrev pub nextBack : Move → Beaten → Next
-nextBack m (beaten.Made b) = next.Made (steppedBack m b)
-nextBack m beaten.Over = next.Over
+nextBack m (beat.Made b) = next.Made (steppedBack m b)
+nextBack m beat.Over = next.Over
 
 -- the next pulse of a movement that 103 lets pass
 abbrev pub lookedBy : Next → Look

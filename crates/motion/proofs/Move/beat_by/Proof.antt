@@ -1,10 +1,7 @@
+-- `motion::Move::beat_by` meets its contract. Assumes nothing.
 use borrow.Author.Needs.{needs}
 use Rattle.motion.proofs.Move.beat_by.Statement.{statement}
 use Rattle.motion.proofs.Move.beat_by.Tie as tie
-use Rattle.motion.proofs.Move.beat_by.Reads as reads
-use Rattle.motion.proofs.Move.beat_by.Lts as lts
-use Rattle.motion.proofs.Move.speed_at.Reads as speed-at-reads
-use Rattle.motion.proofs.pulse.with_pulse.Reads as with-pulse-reads
 
 with-pulse-requires : tie.Need-with-pulse-requires
 with-pulse-requires c κs = search needs
@@ -16,7 +13,7 @@ speed-at-requires : tie.Need-speed-at-requires
 speed-at-requires c κs = search needs
 
 returns : tie.Need-returns
-returns c = ?
+returns c = rw (c .speed-at .ensures, c .before .before .with-pulse .ensures)
 
 pub beat-by-spec : {M : Type 1} → statement M
 beat-by-spec = tie.close (tie.spec with-pulse-requires add-k speed-at-requires returns)

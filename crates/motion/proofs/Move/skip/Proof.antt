@@ -1,6 +1,5 @@
 -- `motion::Move::skip` meets its contract. Assumes nothing.
-use Rattle.count.specs.Pick.{tests}
-use borrow.Author.Tests.{lt-ltb, le-ltb, lt-leb}
+use borrow.Author.Tests.{le-leb, lt-leb, lt-ltb, le-ltb}
 use Rattle.motion.specs.Next.{skipped}
 use borrow.Author.Needs.{needs}
 use Rattle.motion.proofs.Move.skip.Statement.{statement}
@@ -8,25 +7,21 @@ use Rattle.motion.proofs.Move.skip.Tie as tie
 
 returns : tie.Need-returns
 unfolding skipped
-returns c = search tests
+returns c = rw (le-leb _ _ (c .if1 .taken))
 
-leg-requires : tie.Need-leg-requires
-leg-requires c κs = search needs
+leg-at-requires : tie.Need-leg-at-requires
+leg-at-requires c κs = search needs
 
 returns-2 : tie.Need-returns-2
 unfolding skipped
-returns-2 c = simp (lt-leb _ _ (c .before .before .before .if1 .left), ← c .before .before .leg .ensures, lt-ltb _ _ (c .if2 .taken))
+returns-2 c = rw (lt-leb _ _ (c .before .before .before .if1 .left), ← c .before .before .leg-at .ensures, lt-ltb _ _ (c .if2 .taken))
 
-add-at-phase : tie.Need-add-at-phase
-add-at-phase c = search needs
-
-at-phase-requires : tie.Need-at-phase-requires
-at-phase-requires c κs = search needs
+add-t6 : tie.Need-add-t6
+add-t6 c = search needs
 
 returns-3 : tie.Need-returns-3
 unfolding skipped
-returns-3 c = simp (lt-leb _ _ (c .before .before .before .before .if1 .left), ← c .before .before .before .leg .ensures, le-ltb _ _ (c .before .if2 .left), c .at-phase .ensures)
+returns-3 c = rw (lt-leb _ _ (c .before .before .before .if1 .left), ← c .before .before .leg-at .ensures, le-ltb _ _ (c .if2 .left))
 
 pub skip-spec : {M : Type 1} → statement M
-skip-spec =
-    tie.close (tie.spec returns leg-requires returns-2 add-at-phase at-phase-requires returns-3)
+skip-spec = tie.close (tie.spec returns leg-at-requires returns-2 add-t6 returns-3)

@@ -1,9 +1,7 @@
+-- `motion::pulse::signs_at` meets its contract. Assumes nothing.
 use borrow.Author.Needs.{needs}
 use Rattle.motion.proofs.pulse.signs_at.Statement.{statement}
 use Rattle.motion.proofs.pulse.signs_at.Tie as tie
-use Rattle.motion.proofs.pulse.signs_at.Reads as reads
-use Rattle.motion.proofs.pulse.signs_at.Lts as lts
-use Rattle.motion.proofs.phase.sign_here.Reads as sign-here-reads
 
 sign-here-requires : tie.Need-sign-here-requires
 sign-here-requires c κs = search needs
@@ -15,8 +13,7 @@ sign-here-requires-3 : tie.Need-sign-here-requires-3
 sign-here-requires-3 c κs = search needs
 
 returns : tie.Need-returns
-returns c = ?
+returns c = (cc, (c .before .before .sign-here .ensures .1, c .before .sign-here2 .ensures .1, c .sign-here3 .ensures .1))
 
 pub signs-at-spec : {M : Type 1} → statement M
-signs-at-spec =
-    tie.close (tie.spec sign-here-requires sign-here-requires-2 sign-here-requires-3 returns)
+signs-at-spec = tie.close (tie.spec sign-here-requires sign-here-requires-2 sign-here-requires-3 returns)

@@ -1,9 +1,7 @@
+-- `motion::sound::stand_at` meets its contract. Assumes nothing.
 use borrow.Author.Needs.{needs}
 use Rattle.motion.proofs.sound.stand_at.Statement.{statement}
 use Rattle.motion.proofs.sound.stand_at.Tie as tie
-use Rattle.motion.proofs.sound.stand_at.Reads as reads
-use Rattle.motion.proofs.sound.stand_at.Lts as lts
-use Rattle.motion.proofs.sound.stands.Reads as stands-reads
 
 stands-requires : tie.Need-stands-requires
 stands-requires c κs = search needs
@@ -15,7 +13,7 @@ stands-requires-3 : tie.Need-stands-requires-3
 stands-requires-3 c κs = search needs
 
 returns : tie.Need-returns
-returns c = ?
+returns c = rw (c .stands3 .ensures, c .before .stands2 .ensures, c .before .before .stands .ensures)
 
 pub stand-at-spec : {M : Type 1} → statement M
 stand-at-spec = tie.close (tie.spec stands-requires stands-requires-2 stands-requires-3 returns)

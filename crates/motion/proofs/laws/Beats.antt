@@ -1,0 +1,132 @@
+-- The laws of a pulse without the movement: what is left of a movement is told by its mark. Assumes nothing.
+use Prim.Native.Nat.{ℕ, _<_, _+_}
+use mathlib.Core.Path.{_≡_, refl, ap, sym, _∙_}
+use mathlib.Core.Bool.{Bool, true, false}
+use lib.Dec.{ltb, eqb}
+use native.Mathlib.Omega.{arith}
+use borrow.Author.Tests.{lt-ltb}
+use Rattle.count.specs.Pick.{pick}
+use Rattle.motion.specs.declared.Counters.{Counters}
+use Rattle.motion.specs.declared.Signs.{Signs}
+use Rattle.motion.specs.declared.Move.{Move}
+use Rattle.motion.specs.declared.Mark.{Mark}
+use Rattle.motion.specs.declared.Beat.{Beat}
+use Rattle.motion.specs.declared.Beaten.{Beaten}
+use Rattle.motion.specs.declared.Beaten.the-variants as beat
+use Rattle.motion.specs.declared.Look.the-variants as look
+use Rattle.motion.specs.declared.Stepped.{Stepped}
+use Rattle.motion.specs.declared.Next.{Next}
+use Rattle.motion.specs.declared.Next.the-variants.{Over, Made}
+use Rattle.motion.specs.Next.{fromOf, toOf, leg, atPhase, skipped, settled, signsBy, stepped}
+use Rattle.motion.specs.work.Here.{signHere, nextOf, withinOf}
+use Rattle.motion.specs.work.Beat.{markOf, atMark, beatOf, beaten, nextBack, lookedBy}
+use Rattle.motion.proofs.laws.Skip.{skip-with, settled-here, onward}
+use Rattle.motion.proofs.laws.Within.{next-settled}
+
+-- ---- the points of a phase, count by count
+
+-- one of four points is, on each axis, one of four counts
+from-by : (a b c : Bool) (p q r s : Counters)
+    → _≡_ {A = Counters} (record {
+      x = pick a (p .x) (pick b (q .x) (pick c (r .x) (s .x)));
+      y = pick a (p .y) (pick b (q .y) (pick c (r .y) (s .y)));
+      z = pick a (p .z) (pick b (q .z) (pick c (r .z) (s .z)));
+    }) (pick a p (pick b q (pick c r s)))
+from-by true b c p q r s = refl
+from-by false true c p q r s = refl
+from-by false false true p q r s = refl
+from-by false false false p q r s = refl
+
+to-by : (a b : Bool) (p q r : Counters)
+    → _≡_ {A = Counters} (record {
+      x = pick a (p .x) (pick b (q .x) (r .x));
+      y = pick a (p .y) (pick b (q .y) (r .y));
+      z = pick a (p .z) (pick b (q .z) (r .z));
+    }) (pick a p (pick b q r))
+to-by true b p q r = refl
+to-by false true p q r = refl
+to-by false false p q r = refl
+
+abbrev fromAxis : Mark → ℕ → ℕ → ℕ → ℕ → ℕ
+fromAxis k a b c d = pick (eqb (k .phase) 0) a (pick (eqb (k .phase) 1) b (pick (eqb (k .phase) 2) c d))
+
+abbrev toAxis : Mark → ℕ → ℕ → ℕ → ℕ
+toAxis k b c d = pick (eqb (k .phase) 0) b (pick (eqb (k .phase) 1) c d)
+
+module _ (m : Move) (k : Mark) {x y z : ℕ} where
+  pub from-by-axis : x ≡ fromAxis k (m .start .x) (m .first .x) (m .second .x) (m .third .x) → y ≡ fromAxis k (m .start .y) (m .first .y) (m .second .y) (m .third .y)
+      → z ≡ fromAxis k (m .start .z) (m .first .z) (m .second .z) (m .third .z) → _≡_ {A = Counters} (record { x = x; y = y; z = z }) (fromOf (atMark m k))
+  unfolding fromOf
+  from-by-axis p q r = rw (p, q, r) (from-by (eqb (k .phase) 0) (eqb (k .phase) 1) (eqb (k .phase) 2) (m .start) (m .first) (m .second) (m .third))
+
+  pub to-by-axis : x ≡ toAxis k (m .first .x) (m .second .x) (m .third .x) → y ≡ toAxis k (m .first .y) (m .second .y) (m .third .y)
+      → z ≡ toAxis k (m .first .z) (m .second .z) (m .third .z) → _≡_ {A = Counters} (record { x = x; y = y; z = z }) (toOf (atMark m k))
+  unfolding toOf
+  to-by-axis p q r = rw (p, q, r) (to-by (eqb (k .phase) 0) (eqb (k .phase) 1) (m .first) (m .second) (m .third))
+
+-- ---- only the mark changes
+
+-- a movement that another's mark tells from it
+abbrev pub Marked : Move → Move → Type 0
+Marked m n = atMark m (markOf n) ≡ n
+
+pub skip-marked : (m n : Move) → Marked m n → Marked m (skipped n)
+skip-marked m n e = skip-with (Marked m) n (λ p. e) (λ l. e) (λ o d. ap (λ (x : Move). onward x) e)
+
+pub settled-marked : (m : Move) → Marked m (settled m)
+settled-marked m = skip-marked m (skipped (skipped m)) (skip-marked m (skipped m) (skip-marked m m refl))
+
+-- the mark of a movement whose phase has a pulse left, and of one past three phases, from marks alone
+module _ (m : Move) {k : Mark} (e : k ≡ markOf m) where
+  pub leg-marked : {n : ℕ} → n ≡ leg (atMark m k) → n ≡ leg m
+  leg-marked p = p ∙ ap (λ (x : Mark). leg (atMark m x)) e
+
+  pub settled-left : {n : ℕ} → n ≡ leg (atMark m k) → m .made < n → k ≡ markOf (settled m)
+  settled-left p h = e ∙ sym (ap markOf (settled-here m (rw (leg-marked p) at h)))
+
+  pub settled-on : {a b c : Mark} → a ≡ markOf (skipped (atMark m k)) → b ≡ markOf (skipped (atMark m a)) → c ≡ markOf (skipped (atMark m b)) → c ≡ markOf (settled m)
+  settled-on p q r =
+      rw (r, q, p, e) (rw (skip-marked m m refl) (rw (skip-marked m (skipped m) (skip-marked m m refl)) refl))
+
+within-by : (m n : Move) (at : Counters) (s : Signs) (b : Bool) → Marked m n → nextBack m (beaten (pick b (Made (stepped n at s)) Over)) ≡ pick b (Made (stepped n at s)) Over
+within-by m n at s true e = ap (λ (x : Move). Made (record { signs = s; speed = stepped n at s .speed; at = stepped n at s .at; rest = atPhase x (n .phase) (n .made + 1) })) e
+within-by m n at s false e = refl
+
+-- A PULSE WITH THE MOVEMENT is the pulse without it, and the movement at its mark
+pub within-back : (m n : Move) (at : Counters) → Marked m n → nextBack m (beaten (withinOf n at)) ≡ withinOf n at
+unfolding withinOf
+within-back m n at e = within-by m n at (signsBy signHere at (fromOf n) (toOf n) (n .made) (leg n)) (ltb (n .made) (leg n)) e
+
+pub next-back : (m : Move) (at : Counters) → nextBack m (beaten (nextOf m at)) ≡ nextOf m at
+next-back m at = rw (next-settled m at) (within-back m (settled m) at (settled-marked m))
+
+-- the next pulse is that after the settled mark
+pub beaten-settled : (m : Move) (at : Counters) {k : Mark} {b : Beaten} → k ≡ markOf (settled m) → b ≡ beaten (withinOf (atMark m k) at) → b ≡ beaten (nextOf m at)
+beaten-settled m at e p = rw (p, e, settled-marked m, next-settled m at)
+
+-- what is left of a movement after its next pulse
+abbrev restOf : Move → Next → Move
+restOf m (Made t) = t .rest
+restOf m Over = m
+
+rest-by : (m : Move) (n : Next) (s : Stepped) → nextBack m (beaten n) ≡ n → n ≡ Made s → Marked m (s .rest)
+rest-by m n s e p = ap (restOf m) (sym (ap (λ (x : Next). nextBack m (beaten x)) p) ∙ e ∙ p)
+
+pub next-rest : (m : Move) (at : Counters) (s : Stepped) → nextOf m at ≡ Made s → Marked m (s .rest)
+next-rest m at s p = rest-by m (nextOf m at) s (next-back m at) p
+
+-- ---- a phase with a pulse left makes the movement's next
+
+pub next-here : (m : Move) (at : Counters) → m .made < leg m
+    → nextOf m at ≡ Made (stepped m at (signsBy signHere at (fromOf m) (toOf m) (m .made) (leg m)))
+unfolding withinOf
+next-here m at h = next-settled m at ∙ ap (λ (x : Move). withinOf x at) (settled-here m h) ∙ rw (lt-ltb (m .made) (leg m) h)
+
+-- a look at a pulse without the movement
+pub looked-made : (n : Next) (b : Beat) {x : Beaten} → x ≡ beaten n → x ≡ beat.Made b → look.Made b ≡ lookedBy n
+looked-made (Made s) b e p = let q : beat.Made (beatOf s) ≡ beat.Made b = sym e ∙ p in cc
+looked-made Over b e p = let z : _≡_ {A = ℕ} 0 1 = cc in absurd (omega arith)
+
+pub looked-over : (n : Next) {x : Beaten} → x ≡ beaten n → x ≡ beat.Over → look.Over ≡ lookedBy n
+looked-over (Made s) e p = let z : _≡_ {A = ℕ} 0 1 = cc in absurd (omega arith)
+looked-over Over e p = refl

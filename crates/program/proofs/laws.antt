@@ -20,3 +20,4 @@ pub mod Target
 pub mod Papers
 pub mod Ranges
 pub mod Backs
+pub mod Leaps

@@ -1,10 +1,10 @@
 // Where a record at a place sends a run, and the open loops.
 ghost use mathlib.Core.Path.{_≡_};
-ghost use Prim.Native.Nat.{_<_, _≤_, _-_, _+_};
-ghost use lib.ListN.{getD, set};
+ghost use Prim.Native.Nat.{_<_, _≤_, _-_};
+ghost use lib.ListN.{getD};
 ghost use Rattle.count.specs.Numbers.{signed};
 ghost use Rattle.count.specs.Ranges.{nth};
-ghost use Rattle.program.specs.Onward.{onwardOf, aimed, looped, again, opens, opened, lastOf, counter, to, wrong, went};
+ghost use Rattle.program.specs.Onward.{onwardOf, aimed, looped, again, opens, counter, went};
 ghost use Rattle.program.specs.work.Target.{leads};
 ghost use Rattle.program.specs.work.Leap.{leapBy, leapOf, loopsBy};
 ghost use Rattle.program.specs.declared.Going.{Going};

@@ -3,6 +3,9 @@
 use mathlib.Core.Path.{_≡_, sym, _∙_}
 use Rattle.engine.proofs.Engine.fresh.Reads as fresh
 use Rattle.engine.proofs.Engine.tick.Reads as tick
+use Rattle.engine.proofs.Engine.see.Reads as see
+use Rattle.engine.proofs.Engine.act.Reads as act
+use Rattle.engine.proofs.Engine.under_way.Reads as under-way
 use Rattle.engine.proofs.Engine.runs.Reads as runs
 use Rattle.engine.proofs.Engine.sound.Reads as sound
 use Rattle.engine.proofs.Engine.hear.Reads as hear
@@ -73,3 +76,12 @@ store-one κs a r r′ s s′ p q = p ∙ sym q
 
 pub glide-one : (κs : _) (a : _) (r r′ : _) (s s′ : _) → glide.Post κs a r s → glide.Post κs a r′ s′ → r ≡ r′
 glide-one κs a r r′ s s′ p q = p ∙ sym q
+
+pub see-one : (κs : _) (a : _) (r r′ : _) (s s′ : _) → see.Post κs a r s → see.Post κs a r′ s′ → r ≡ r′
+see-one κs a r r′ s s′ p q = p ∙ sym q
+
+pub act-one : (κs : _) (a : _) (r r′ : _) (s s′ : _) → act.Post κs a r s → act.Post κs a r′ s′ → r ≡ r′
+act-one κs a r r′ s s′ p q = p ∙ sym q
+
+pub under-way-one : (κs : _) (a : _) (r r′ : _) (s s′ : _) → under-way.Post κs a r s → under-way.Post κs a r′ s′ → r ≡ r′
+under-way-one κs a r r′ s s′ p q = p ∙ sym q

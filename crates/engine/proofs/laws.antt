@@ -8,4 +8,5 @@ pub mod Accepted
 pub mod Runs
 pub mod Work
 pub mod ThreeD
+pub mod Acts
 pub mod Papers

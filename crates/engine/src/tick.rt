@@ -4,7 +4,6 @@ ghost use Rattle.motion.specs.work.Here.{nextOf};
 ghost use Rattle.record.specs.Places.{fetchOf};
 ghost use Rattle.engine.specs.State.{running};
 ghost use Rattle.engine.specs.Tick.{fetched, ticked, runsOf};
-ghost use Rattle.engine.specs.Sound.{jobSound};
 ghost use Rattle.engine.specs.work.Acts.{underOf, restOf, actBy, lookBy, seenOf, markedJob, pulsed, actedBy};
 use super::Act;
 use super::Answer;
@@ -54,13 +53,14 @@ fn act_of(job: Job, at: Counters) -> Act
     ensures { λ r. ⌜ r ≡ actBy nextOf job at ⌝ }
 {
     let under = is_under_way(job);
-    if let Under::Going(m) = under {
-        let next = m.beat(at);
-        if let Beaten::Made(b) = next {
-            return Act::Pulse(b);
-        }
+    let Under::Going(m) = under else {
+        return rest_of(job);
+    };
+    let next = m.beat(at);
+    match next {
+        Beaten::Made(b) => Act::Pulse(b),
+        Beaten::Over => rest_of(job),
     }
-    rest_of(job)
 }
 
 // The same, or that 103 refuses the movement.

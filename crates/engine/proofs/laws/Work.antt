@@ -3,6 +3,7 @@ use Prim.Native.Nat.{ℕ, zero, suc, _+_, _-_, _<_, _≤_}
 use mathlib.Core.Path.{_≡_, refl, ap, sym, _∙_}
 use mathlib.Core.Bool.{Bool, true, false, _&&_}
 use mathlib.Core.List.{List}
+use mathlib.Core.Logic.{_⊎_, inl, inr}
 use native.Mathlib.Numerals.{sub-one}
 use native.Mathlib.Omega.{arith}
 use lib.Dec.{ltb, leb, eqb}
@@ -19,6 +20,7 @@ use Rattle.motion.specs.declared.Stepped.{Stepped}
 use Rattle.motion.specs.declared.Next.{Next}
 use Rattle.motion.specs.declared.Next.the-variants as next
 use Rattle.motion.specs.Phase.{movedAll}
+use Rattle.motion.specs.Plan.{asked, planOf}
 use Rattle.motion.specs.work.Here.{nextOf}
 use Rattle.motion.specs.Next.{nextBy, SignRule, settled, leg, stepped, signsBy, fromOf, toOf}
 use Rattle.record.specs.declared.Held.{Held}
@@ -27,7 +29,7 @@ use Rattle.record.specs.declared.Found.the-variants as found
 use Rattle.record.specs.declared.Fetched.{Fetched}
 use Rattle.record.specs.declared.Spot.{Spot}
 use Rattle.record.specs.declared.Spot.the-variants as spot
-use Rattle.record.specs.Fault.{rangesRight}
+use Rattle.record.specs.Fault.{rangesRight, isMovement, isAbsolute}
 use Rattle.record.specs.Bytes.{Fetch, isRight}
 use Rattle.record.specs.Bytes.Fetch.{Got, End, Wrong}
 use Rattle.record.specs.Places.{answered, spotFrom, spotOf, recordFrom, recordAt, fetchOf, inUse}
@@ -41,7 +43,7 @@ use Rattle.program.specs.Onward.{lastOf, went, to, wrong, inside, targetOf, aga
 use Rattle.engine.specs.declared.Answer.the-variants as answer
 use Rattle.engine.specs.declared.Job.the-variants as job
 use Rattle.engine.specs.declared.Engine.{Engine}
-use Rattle.engine.specs.Tick.{told, onTo, afterPause, delaying}
+use Rattle.engine.specs.Tick.{Rule, told, onTo, movingBy, afterPause, delaying, performed}
 use Rattle.engine.specs.work.Work.{Fits}
 
 -- ---- the counters after a pulse
@@ -143,6 +145,17 @@ pub ready-fits : (h : Held) (s : List ℕ) (place : ℕ) {f : Fetched} → f ≡
 ready-fits h s place {f} e p l =
     let g = stood h s place (got (fetchOf h s place) e p) in
     (omega (arith, g .below), fits (h .axes) (f .item) (g .right))
+
+-- ---- a movement is told by two codes
+
+pub movement-code : (k : ℕ) → (k ≡ 48) ⊎ (k ≡ 109) → isMovement k ≡ true
+movement-code k (inl e) = rw e
+movement-code k (inr e) = rw e
+
+pub performs-movement : (rule : Rule) (r : Record) (e : Engine) → isMovement (r .code) ≡ true
+    → performed rule r e ≡ movingBy rule (planOf (asked (e .held .axes) (e .three) (e .at) (e .origin) (isAbsolute (r .code)) (r .words))) e
+unfolding performed
+performs-movement rule r e p = rw p
 
 -- ---- only a wait waits
 

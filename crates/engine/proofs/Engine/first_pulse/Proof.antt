@@ -1,14 +1,18 @@
 -- `engine::Engine::first_pulse` meets its contract. Assumes nothing.
-use Rattle.engine.proofs.laws.Work.{next-moved}
+use mathlib.Core.Path.{_∙_}
+use Rattle.engine.proofs.laws.Acts.{first-made, first-over}
 use borrow.Author.Needs.{needs}
 use Rattle.engine.proofs.Engine.first_pulse.Statement.{statement}
 use Rattle.engine.proofs.Engine.first_pulse.Tie as tie
 
-next-requires : tie.Need-next-requires
-next-requires c κs = search needs
+beat-requires : tie.Need-beat-requires
+beat-requires c κs = search needs
 
 enum-known-next : tie.Need-enum-known-next
 enum-known-next c = search needs
+
+at-mark-requires : tie.Need-at-mark-requires
+at-mark-requires c κs = search needs
 
 add-at-place : tie.Need-add-at-place
 add-at-place c = search needs
@@ -17,7 +21,7 @@ at-place-requires : tie.Need-at-place-requires
 at-place-requires c κs = search needs
 
 pulse-requires : tie.Need-pulse-requires
-pulse-requires c κs = next-moved _ _ _ (c .before .before .before .before .before .before .before .next .ensures) (c .before .before .before .before .before .next2 .given .1)
+pulse-requires c κs = search needs
 
 enum-told : tie.Need-enum-told
 enum-told c = search needs
@@ -29,17 +33,18 @@ tell-requires : tie.Need-tell-requires
 tell-requires c κs = search needs
 
 returns : tie.Need-returns
-returns c = simp (← c .before .before .before .before .before .before .before .before .next .ensures, c .before .before .before .before .before .before .next2 .given .1, c .before .at-place .ensures, c .pulse .ensures)
+returns c = rw (c .pulse .ensures, c .before .at-place .ensures, c .before .before .before .at-mark .ensures) (first-made _ (c .before .before .before .before .before .before .before .before .before .before .before .args .self) (c .before .before .before .before .before .before .before .before .before .beat .ensures) _ (c .before .before .before .before .before .before .before .next .given .1))
 
 returns-2 : tie.Need-returns-2
-returns-2 c = simp (← c .before .before .before .before .next .ensures, c .before .before .enum-told .given .1, c .before .on-to .ensures, c .tell .ensures)
+returns-2 c = rw (c .tell .ensures, c .before .on-to .ensures) (first-over _ _ (c .before .before .before .before .beat .ensures) (c .before .before .enum-told .given .1))
 
 pub first-pulse-spec : {M : Type 1} → statement M
 first-pulse-spec =
     tie.close
     (tie.spec
-    next-requires
+    beat-requires
     enum-known-next
+    at-mark-requires
     add-at-place
     at-place-requires
     pulse-requires

@@ -1,5 +1,9 @@
 -- `engine::Engine::perform` meets its contract. Assumes nothing.
+use mathlib.Core.Path.{sym, _∙_}
+use mathlib.Core.Logic.{inl, inr}
 use borrow.Author.Tests.{ne-eqb}
+use Rattle.motion.specs.work.Here.{nextOf}
+use Rattle.engine.proofs.laws.Work.{movement-code, performs-movement}
 use native.Mathlib.Omega.{arith}
 use Rattle.engine.specs.Tick.{performed}
 use borrow.Author.Needs.{needs}
@@ -11,9 +15,6 @@ array-read-w c = search needs
 
 travel-requires : tie.Need-travel-requires
 travel-requires c κs = search needs
-
-travel-requires-2 : tie.Need-travel-requires-2
-travel-requires-2 c κs = search needs
 
 origin-at-requires : tie.Need-origin-at-requires
 origin-at-requires c κs = search needs
@@ -34,7 +35,7 @@ tell-requires-2 : tie.Need-tell-requires-2
 tell-requires-2 c κs = search needs
 
 cast-delay : tie.Need-cast-delay
-cast-delay c = omega (arith, c .before .before .pre .1 .pauses (c .match .keys5))
+cast-delay c = omega (arith, c .before .before .pre .1 .pauses (c .match .keys4))
 
 delay-requires : tie.Need-delay-requires
 delay-requires c κs = search needs
@@ -43,7 +44,7 @@ on-to-requires-3 : tie.Need-on-to-requires-3
 on-to-requires-3 c κs = search needs
 
 cast-t24 : tie.Need-cast-t24
-cast-t24 c = omega (arith, c .before .before .before .pre .1 .sent (c .before .match .keys6))
+cast-t24 c = omega (arith, c .before .before .before .pre .1 .sent (c .before .match .keys5))
 
 tell-requires-3 : tie.Need-tell-requires-3
 tell-requires-3 c κs = search needs
@@ -53,31 +54,30 @@ lead-requires c κs = search needs
 
 returns : tie.Need-returns
 unfolding performed
-returns c = simp (c .before .match .keys1, c .travel .ensures)
+returns c = let a = c .before .before .before .args in c .travel .ensures ∙ sym (performs-movement nextOf (a .item) (a .self) (movement-code (a .item .code) (c .before .match .keys1)))
 
 returns-2 : tie.Need-returns-2
 unfolding performed
-returns-2 c = simp (c .before .match .keys2, c .travel2 .ensures)
+returns-2 c = simp (c .before .before .before .match .keys2, c .before .before .origin-at .ensures, c .before .on-to .ensures, c .tell .ensures)
 
 returns-3 : tie.Need-returns-3
 unfolding performed
-returns-3 c = simp (c .before .before .before .match .keys3, c .before .before .origin-at .ensures, c .before .on-to .ensures, c .tell .ensures)
+returns-3 c = simp (c .before .before .before .match .keys3, c .before .before .set-three .ensures, c .before .on-to2 .ensures, c .tell2 .ensures)
 
 returns-4 : tie.Need-returns-4
 unfolding performed
-returns-4 c = simp (c .before .before .before .match .keys4, c .before .before .set-three .ensures, c .before .on-to2 .ensures, c .tell2 .ensures)
+returns-4 c = simp (c .before .match .keys4, c .delay .ensures)
 
 returns-5 : tie.Need-returns-5
 unfolding performed
-returns-5 c = simp (c .before .match .keys5, c .delay .ensures)
+returns-5 c = simp (c .before .before .match .keys5, c .before .on-to3 .ensures, c .tell3 .ensures)
 
 returns-6 : tie.Need-returns-6
 unfolding performed
-returns-6 c = simp (c .before .before .match .keys6, c .before .on-to3 .ensures, c .tell3 .ensures)
-
-returns-7 : tie.Need-returns-7
-unfolding performed
-returns-7 c = simp (ne-eqb _ _ (c .before .match .rest .1), ne-eqb _ _ (c .before .match .rest .0 .1), ne-eqb _ _ (c .before .match .rest .0 .0 .1), ne-eqb _ _ (c .before .match .rest .0 .0 .0 .1), ne-eqb _ _ (c .before .match .rest .0 .0 .0 .0 .1), ne-eqb _ _ (c .before .match .rest .0 .0 .0 .0 .0 .1)) (c .lead .ensures)
+returns-6 c =
+    let k = c .before .match .rest in
+    let o = k .0 .0 .0 .0 .1 in
+    simp (ne-eqb _ _ (k .1), ne-eqb _ _ (k .0 .1), ne-eqb _ _ (k .0 .0 .1), ne-eqb _ _ (k .0 .0 .0 .1), ne-eqb _ 109 (λ e. o (inr e)), ne-eqb _ 48 (λ e. o (inl e))) (c .lead .ensures)
 
 pub perform-spec : {M : Type 1} → statement M
 perform-spec =
@@ -85,7 +85,6 @@ perform-spec =
     (tie.spec
     array-read-w
     travel-requires
-    travel-requires-2
     origin-at-requires
     on-to-requires
     tell-requires
@@ -103,5 +102,4 @@ perform-spec =
     returns-3
     returns-4
     returns-5
-    returns-6
-    returns-7)
+    returns-6)

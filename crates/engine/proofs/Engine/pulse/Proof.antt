@@ -7,7 +7,7 @@ tell-requires : tie.Need-tell-requires
 tell-requires c κs = search needs
 
 returns : tie.Need-returns
-returns c = simp (c .before .before .before .pre, c .tell .ensures)
+returns c = rw (c .tell .ensures)
 
 pub pulse-spec : {M : Type 1} → statement M
 pulse-spec = tie.close (tie.spec tell-requires returns)

@@ -4,6 +4,7 @@ ghost use Rattle.record.specs.Listing.{telling};
 ghost use Rattle.board.specs.State.{sound};
 ghost use Rattle.board.specs.Calls.{did, receiving, clocked, clocking, listing, fresh, point};
 use crate::Board;
+use crate::Ear;
 use crate::Line;
 use crate::Point;
 use crate::Received;
@@ -89,7 +90,11 @@ impl Board {
         if !self.sound() {
             return self.refuse(103);
         }
-        self.hear(byte, ports, store).answer(reply)
+        let ear = self.ear(byte);
+        if let Ear::Gather = ear {
+            return self.gather(byte).quiet();
+        }
+        self.hear(ear, byte, ports, store).answer(reply)
     }
 
     fn still(self, refusal: u16) -> Ticked

@@ -3,7 +3,9 @@ ghost use mathlib.Core.Path.{_≡_};
 ghost use Prim.Native.Nat.{_≤_};
 ghost use Rattle.line.specs.Lines.{directOf, storedOf};
 ghost use Rattle.board.specs.State.{noLine, gathered, textOf};
+ghost use Rattle.board.specs.work.Take.{linedOf};
 use crate::Line;
+use crate::Lined;
 use line::Direct;
 use line::Stored;
 
@@ -53,5 +55,32 @@ impl Line {
         let bytes = self.bytes;
         let n = self.len as usize;
         line::stored_line(&bytes[..n])
+    }
+
+    // The bytes up to a carriage return or a control code, one after the other.
+    pub(crate) fn gather_all(self, input: &[u8]) -> Lined
+        ensures { λ r. ⌜ r ≡ linedOf (now (input .entry)) self ⌝ }
+    {
+        let mut bytes = self.bytes;
+        let mut len = self.len;
+        let mut over = self.over;
+        let mut i = 0;
+        while i < input.len() {
+            let b = input[i];
+            if (b == b'\r') | (253 <= b) {
+                let line = Line { bytes, len, over };
+                return Lined { line, count: i };
+            }
+            if len < 80 {
+                let at = len as usize;
+                bytes[at] = b;
+                len = len + 1;
+            } else {
+                over = true;
+            }
+            i = i + 1;
+        }
+        let line = Line { bytes, len, over };
+        Lined { line, count: i }
     }
 }

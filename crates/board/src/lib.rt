@@ -60,3 +60,26 @@ pub(crate) struct Spoke {
     pub board: Board,
     pub say: Saying,
 }
+
+// What a received byte is taken for: one more of the line, its end, the character of a wait, nothing, or one of the control codes.
+pub(crate) enum Ear {
+    Gather,
+    Return,
+    Listen,
+    Ignore,
+    Stop,
+    Reset,
+    Quit,
+}
+
+// A line with some bytes more, and how many.
+pub(crate) struct Lined {
+    pub line: Line,
+    pub count: usize,
+}
+
+// A board with some bytes more in its line, and how many.
+pub struct Taken {
+    pub board: Board,
+    pub count: usize,
+}

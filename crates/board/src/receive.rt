@@ -3,12 +3,18 @@ ghost use mathlib.Core.Path.{_≡_};
 ghost use Prim.Native.Nat.{_≤_};
 ghost use Rattle.engine.specs.State.{heard};
 ghost use Rattle.board.specs.State.{board, gathered, withLine};
-ghost use Rattle.board.specs.Receive.{isStoring, holdsBy, endsBy, returned, gathering, earOf, ordinary, hearing};
+ghost use mathlib.Core.Bool.{Bool, false, _||_};
+ghost use Rattle.board.specs.Receive.{isStoring, holdsBy, endsBy, returned};
 ghost use Rattle.board.specs.work.Work.{spokeOf, spoke, stopSpoke, breakSpoke, resetSpoke, gathersBy, waitsBy};
+ghost use Rattle.board.specs.work.Ears.{lineEar, jobEar, byteEar, earFor, isGather, heardAs};
+ghost use Rattle.board.specs.work.Take.{takenOf};
 use crate::Board;
+use crate::Ear;
 use crate::Line;
+use crate::Received;
 use crate::Saying;
 use crate::Spoke;
+use crate::Taken;
 use engine::Job;
 
 fn is_storing(job: Job) -> bool
@@ -84,6 +90,44 @@ fn is_ended(job: Job) -> bool
     }
 }
 
+// What an ordinary byte is taken for where lines are gathered.
+fn line_ear(byte: u8) -> Ear
+    ensures { λ r. ⌜ r ≡ lineEar byte ⌝ }
+{
+    if byte == b'\r' {
+        return Ear::Return;
+    }
+    Ear::Gather
+}
+
+// What an ordinary byte is taken for.
+fn job_ear(job: Job, standing: bool, byte: u8) -> Ear
+    ensures { λ r. ⌜ r ≡ jobEar job standing byte ⌝ }
+{
+    if standing | is_gathering(job) {
+        return line_ear(byte);
+    }
+    if is_waiting(job) {
+        return Ear::Listen;
+    }
+    Ear::Ignore
+}
+
+fn byte_ear(job: Job, standing: bool, byte: u8) -> Ear
+    ensures { λ r. ⌜ r ≡ byteEar job standing byte ⌝ }
+{
+    if byte == 253 {
+        return Ear::Stop;
+    }
+    if byte == 254 {
+        return Ear::Reset;
+    }
+    if byte == 255 {
+        return Ear::Quit;
+    }
+    job_ear(job, standing, byte)
+}
+
 impl Board {
     fn stop(self) -> Spoke
         ensures { λ r. ⌜ r ≡ stopSpoke self ⌝ }
@@ -138,13 +182,24 @@ impl Board {
         b.says(Saying::Silent)
     }
 
-    fn gather(self, byte: u8) -> Spoke
-        ensures { λ r. ⌜ r ≡ spokeOf (withLine self (gathered byte (self .line))) Saying.Silent ⌝ }
+    // One byte more in the line.
+    pub(crate) fn gather(self, byte: u8) -> Board
+        ensures { λ r. ⌜ r ≡ withLine self (gathered byte (self .line)) ⌝ }
     {
         let l = self.line;
         let mut b = self;
         b.line = l.gather(byte);
-        b.says(Saying::Silent)
+        b
+    }
+
+    // What a byte is taken for.
+    pub(crate) fn ear(self, byte: u8) -> Ear
+        ensures { λ r. ⌜ r ≡ earFor byte self ⌝ }
+    {
+        let e = self.engine;
+        let run = e.run;
+        let job = run.job;
+        byte_ear(job, self.standing, byte)
     }
 
     // A carriage return ends the line.
@@ -165,45 +220,58 @@ impl Board {
         self.obey(l.as_direct(), ports)
     }
 
-    fn gather_byte(self, byte: u8, ports: [u8; 4], store: &mut [u8]) -> Spoke
-        requires { ⌜ self .line .len ≤ 80 ⌝ }
-        ensures { λ r. ⌜ spoke r (now (store .exit)) ≡ gathering byte ports self (now (store .entry)) ⌝ }
+    // No reply.
+    pub(crate) fn quiet(self) -> Received
+        ensures { λ r. ⌜ r ≡ record { board = self; len = 0; refusal = 0 } ⌝ }
     {
-        if byte == b'\r' {
-            return self.end_line(ports, store);
+        Received {
+            board: self,
+            len: 0,
+            refusal: 0,
         }
-        self.gather(byte)
     }
 
-    fn ordinary(self, byte: u8, ports: [u8; 4], store: &mut [u8]) -> Spoke
-        requires { ⌜ self .line .len ≤ 80 ⌝ }
-        ensures { λ r. ⌜ spoke r (now (store .exit)) ≡ ordinary (earOf self) byte ports self (now (store .entry)) ⌝ }
+    // What a byte comes to that is not gathered.
+    pub(crate) fn hear(self, ear: Ear, byte: u8, ports: [u8; 4], store: &mut [u8]) -> Spoke
+        requires { ⌜ (self .line .len ≤ 80) × (isGather ear ≡ false) ⌝ }
+        ensures { λ r. ⌜ spoke r (now (store .exit)) ≡ heardAs ear byte ports self (now (store .entry)) ⌝ }
+    {
+        match ear {
+            Ear::Gather => self.says(Saying::Silent),
+            Ear::Return => self.end_line(ports, store),
+            Ear::Listen => self.listen(byte),
+            Ear::Ignore => self.says(Saying::Silent),
+            Ear::Stop => self.stop(),
+            Ear::Reset => self.reset(),
+            Ear::Quit => self.quit(),
+        }
+    }
+
+    // Whether a byte that is no carriage return and no control code goes into the line.
+    fn gathers(self) -> bool
+        ensures { λ r. ⌜ r ≡ self .standing || gathersBy (self .engine .run .job) ⌝ }
     {
         let e = self.engine;
         let run = e.run;
         let job = run.job;
-        if self.standing | is_gathering(job) {
-            return self.gather_byte(byte, ports, store);
-        }
-        if is_waiting(job) {
-            return self.listen(byte);
-        }
-        self.says(Saying::Silent)
+        self.standing | is_gathering(job)
     }
 
-    pub(crate) fn hear(self, byte: u8, ports: [u8; 4], store: &mut [u8]) -> Spoke
-        requires { ⌜ self .line .len ≤ 80 ⌝ }
-        ensures { λ r. ⌜ spoke r (now (store .exit)) ≡ hearing byte ports self (now (store .entry)) ⌝ }
+    // The bytes at the front of an input that only go into the line, all at once.
+    pub fn take(self, input: &[u8]) -> Taken
+        ensures { λ r. ⌜ r ≡ takenOf (now (input .entry)) self ⌝ }
     {
-        if byte == 253 {
-            return self.stop();
+        let mut b = self;
+        let mut count = 0;
+        if self.gathers() {
+            if self.sound() {
+                let l = self.line;
+                let g = l.gather_all(input);
+                let line = g.line;
+                b.line = line;
+                count = g.count;
+            }
         }
-        if byte == 254 {
-            return self.reset();
-        }
-        if byte == 255 {
-            return self.quit();
-        }
-        self.ordinary(byte, ports, store)
+        Taken { board: b, count }
     }
 }

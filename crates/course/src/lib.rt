@@ -34,6 +34,12 @@ pub struct Portion {
     pub len: usize,
 }
 
+// A walk with some bytes of a line taken, and how many.
+pub struct Fed {
+    pub walk: Walk,
+    pub count: usize,
+}
+
 // The movement and the counters after some pulses, how many, and the bytes written.
 struct Glided {
     pub rest: Move,

@@ -9,6 +9,8 @@ ghost use Rattle.count.specs.Text.{written};
 ghost use Rattle.course.specs.Walk.{first, most, headDone, nextDone, onDone, tailDone};
 ghost use Rattle.course.specs.Walk.{doneOf};
 ghost use Rattle.course.specs.work.Work.{same};
+ghost use Rattle.course.specs.work.Feed.{fedOf};
+use super::Fed;
 use super::Portion;
 use super::Walk;
 use super::lines::put_end;
@@ -120,6 +122,30 @@ impl Walk {
         };
         let len = end_of(n, ran.len, out.len());
         Portion { walk, len }
+    }
+
+    // The bytes at the front of an input that only go into the line, if the run before them is over: nothing runs and nothing is printed.
+    pub fn feed(self, input: &[u8]) -> Fed
+        ensures { λ r. ⌜ r ≡ fedOf (now (input .entry)) self ⌝ }
+    {
+        let board = self.board;
+        let taken = board.take(input);
+        if !self.over | (taken.count == 0) {
+            return Fed {
+                walk: self,
+                count: 0,
+            };
+        }
+        let next = taken.board;
+        let walk = Walk {
+            board: next,
+            calls: 0,
+            over: true,
+        };
+        Fed {
+            walk,
+            count: taken.count,
+        }
     }
 
     // A run that is not over goes on, up to its 100,000 calls.

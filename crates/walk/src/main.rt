@@ -126,9 +126,21 @@ fn take_all(start: Stage, input: &[u8], store: &mut [u8], out: &mut [u8]) -> Sta
         if !walk.over | !stage.fine {
             return stage;
         }
-        let next = take_byte(stage, input[i], &mut *store, &mut *out);
+        let fed = walk.feed(&input[i..]);
+        let after = fed.walk;
+        let part = Stage {
+            walk: after,
+            at: stage.at,
+            fine: true,
+            more: stage.more,
+        };
+        let k = past(i, fed.count, input);
+        if input.len() <= k {
+            return part;
+        }
+        let next = take_byte(part, input[k], &mut *store, &mut *out);
         stage = next;
-        i = i + 1;
+        i = k + 1;
     }
     stage
 }

@@ -9,6 +9,7 @@ use Rattle.board.proofs.Board.sound.Reads as sound
 use Rattle.board.proofs.Board.position.Reads as position
 use Rattle.board.proofs.Board.origin.Reads as origin
 use Rattle.board.proofs.Board.receive.Reads as receive
+use Rattle.board.proofs.Board.take.Reads as take
 use Rattle.board.proofs.Board.clock.Reads as clock
 use Rattle.board.proofs.Board.list.Reads as list
 
@@ -37,6 +38,9 @@ pub receive-one : (κs : _) (a : _) (r r′ : _) (s s′ : _) → receive.Post �
 receive-one κs a r r′ s s′ p q =
     let e = p ∙ sym q in
     (ap (λ (o : Outcome). o .result) e, ap (λ (o : Outcome). o .reply) e, ap (λ (o : Outcome). o .store) e)
+
+pub take-one : (κs : _) (a : _) (r r′ : _) (s s′ : _) → take.Post κs a r s → take.Post κs a r′ s′ → r ≡ r′
+take-one κs a r r′ s s′ p q = p ∙ sym q
 
 pub clock-one : (κs : _) (a : _) (r r′ : _) (s s′ : _) → clock.Post κs a r s → clock.Post κs a r′ s′ → r ≡ r′
 clock-one κs a r r′ s s′ p q = p ∙ sym q

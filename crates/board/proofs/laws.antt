@@ -2,6 +2,8 @@ pub mod Puts
 pub mod Stores
 pub mod Obeys
 pub mod Hears
+pub mod Ears
 pub mod Fair
 pub mod Laws
+pub mod Takes
 pub mod Papers

@@ -74,6 +74,10 @@ unfolding gathered
 gathered-by byte l true e h = rw e (omega (arith, ltb-true (l .len) 80 e))
 gathered-by byte l false e h = rw e h
 
+pub gathered-sound : (byte : ℕ) (b : Board) → sound b ≡ true → sound (withLine b (gathered byte (b .line))) ≡ true
+gathered-sound byte b h =
+    line-sound (b .engine) (b .standing) (gathered byte (b .line)) (sound-engine b h) (gathered-by byte (b .line) _ refl (sound-line b h))
+
 say-short : (s : Saying) (at : Counters) → length (bytesOf s at) ≤ 19
 say-short saying.Silent at = omega arith
 say-short (saying.One b) at = omega arith
@@ -223,8 +227,7 @@ module _ (byte : ℕ) (b : Board) (store : List ℕ) (h : sound b ≡ true) wher
     unfolding gathering
     gather-fair still =
         fair-pick (eqb byte 13) _ _ (λ p. return-fair (eqb-true byte 13 p) still)
-        (λ p. quiet (spokeOf (withLine b (gathered byte (b .line))) saying.Silent)
-        (line-sound (b .engine) (b .standing) (gathered byte (b .line)) (sound-engine b h) (gathered-by byte (b .line) _ refl (sound-line b h))))
+        (λ p. quiet (spokeOf (withLine b (gathered byte (b .line))) saying.Silent) (gathered-sound byte b h))
 
     still-by : (j : Job) → gathersBy j ≡ true → Still j
     still-by job.Idle p = λ c. refl

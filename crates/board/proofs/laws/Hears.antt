@@ -3,7 +3,7 @@ use Prim.Native.Nat.{ℕ, _≤_}
 use mathlib.Core.Path.{_≡_, refl, sym, ap, _∙_}
 use mathlib.Core.Bool.{Bool, true, false, not, _&&_, _||_}
 use mathlib.Core.List.{List, [], _++_}
-use borrow.Author.Tests.{eq-eqb, ne-eqb, le-ltb, leb-true}
+use borrow.Author.Tests.{eq-eqb, le-ltb, leb-true}
 use lib.Dec.{leb}
 use lib.ListN.{length, drop}
 use Rattle.count.specs.Pick.{pick}
@@ -25,13 +25,13 @@ use Rattle.board.specs.declared.Board.{Board}
 use Rattle.board.specs.declared.Received.{Received}
 use Rattle.board.specs.declared.Saying.the-variants as saying
 use Rattle.board.specs.declared.Spoke.{Spoke}
-use Rattle.board.specs.State.{board, textOf, gathered, withLine, Said, said, sound}
+use Rattle.board.specs.State.{board, textOf, Said, said, sound}
 use Rattle.board.specs.Storing.{storedSaid}
 use Rattle.engine.specs.Kinds.Ear.{gathers}
-use Rattle.board.specs.Receive.{earBy, earOf, isStoring, holdsBy, endsBy, returned, gathering, ordinary, stopped, broken, resetSaid, hearing}
+use Rattle.board.specs.Receive.{earBy, earOf, isStoring, holdsBy, endsBy, returned, gathering, ordinary, stopped, broken, hearing}
 use Rattle.board.specs.Calls.{did, answered, receiving, wentOn, clocking, listing}
 use Rattle.board.specs.work.Work as work
-use Rattle.board.specs.work.Work.{spoke, spokeOf, repliedWith, obeyed, receivedOf, stopSpoke, breakSpoke, resetSpoke, gathersBy, waitsBy}
+use Rattle.board.specs.work.Work.{spoke, spokeOf, repliedWith, obeyed, receivedOf, stopSpoke, breakSpoke, gathersBy, waitsBy}
 use Rattle.board.proofs.laws.Obeys.{obey-so}
 
 pub spoke-as : (store : List ℕ) {r s : Spoke} → r ≡ s → spoke r store ≡ spoke s store
@@ -57,15 +57,6 @@ module _ (ports : List ℕ) (b : Board) (store : List ℕ) where
 -- ---- an ordinary byte
 
 module _ (byte : ℕ) (ports : List ℕ) (b : Board) (store : List ℕ) where
-  pub gather-return : byte ≡ 13 → {x : Said} → x ≡ returned ports b store → x ≡ gathering byte ports b store
-  unfolding gathering
-  gather-return h p = p ∙ rw (eq-eqb byte 13 h)
-
-  pub gather-byte : (byte ≡ 13 → ⊥) → {r : Spoke} → r ≡ spokeOf (withLine b (gathered byte (b .line))) saying.Silent
-      → spoke r store ≡ gathering byte ports b store
-  unfolding gathering
-  gather-byte h p = spoke-as store p ∙ rw (ne-eqb byte 13 h)
-
   abbrev waited : Said
   waited = said (board (heard byte (b .engine)) (b .standing) (b .line)) [] store
 
@@ -85,51 +76,24 @@ module _ (byte : ℕ) (ports : List ℕ) (b : Board) (store : List ℕ) where
   unfolding earOf
   ear-so = ear-by (b .standing) (b .engine .run .job)
 
-  module _ {g : Bool} (e : g ≡ gathersBy (b .engine .run .job)) where
-    pub ear-gathers : b .standing || g ≡ true → {x : Said} → x ≡ gathering byte ports b store → x ≡ ordinary (earOf b) byte ports b store
-    ear-gathers h p = p ∙ sym (ear-so ∙ rw (← e, h))
+-- ---- the control codes
 
-    module _ (o : b .standing || g ≡ false) {w : Bool} (f : w ≡ waitsBy (b .engine .run .job)) where
-      pub ear-waits : w ≡ true → {r : Spoke} → r ≡ spokeOf (board (heard byte (b .engine)) (b .standing) (b .line)) saying.Silent
-          → spoke r store ≡ ordinary (earOf b) byte ports b store
-      ear-waits h p = spoke-as store p ∙ sym (ear-so ∙ rw (← e, o, ← f, h))
-
-      pub ear-drops : w ≡ false → {r : Spoke} → r ≡ spokeOf b saying.Silent → spoke r store ≡ ordinary (earOf b) byte ports b store
-      ear-drops h p = spoke-as store p ∙ sym (ear-so ∙ rw (← e, o, ← f, h))
-
-  -- ---- the control codes
-
+module _ (b : Board) (store : List ℕ) where
   by-pick : (t : Bool) (x y : Spoke) → spoke (pick t x y) store ≡ pick t (spoke x store) (spoke y store)
   by-pick true x y = refl
   by-pick false x y = refl
 
-  stop-so : spoke (stopSpoke b) store ≡ stopped b store
+  pub stop-so : {r : Spoke} → r ≡ stopSpoke b → spoke r store ≡ stopped b store
   unfolding stopSpoke stopped
-  stop-so =
-      by-pick (holdsBy (b .engine .run .job) && not (b .standing)) (spokeOf (board (b .engine) true (b .line)) (saying.One 70)) (spokeOf b saying.Silent)
+  stop-so p =
+      spoke-as store p
+      ∙ by-pick (holdsBy (b .engine .run .job) && not (b .standing)) (spokeOf (board (b .engine) true (b .line)) (saying.One 70)) (spokeOf b saying.Silent)
 
-  break-so : spoke (breakSpoke b) store ≡ broken b store
+  pub break-so : {r : Spoke} → r ≡ breakSpoke b → spoke r store ≡ broken b store
   unfolding breakSpoke broken
-  break-so =
-      by-pick (endsBy (b .engine .run .job) || b .standing) (spokeOf (board (ceased (b .engine)) false (b .line)) (saying.One 70)) (spokeOf b saying.Silent)
-
-  pub hear-stop : byte ≡ 253 → {r : Spoke} → r ≡ stopSpoke b → spoke r store ≡ hearing byte ports b store
-  unfolding hearing
-  hear-stop h p = spoke-as store p ∙ stop-so ∙ rw (eq-eqb byte 253 h)
-
-  module _ (n : byte ≡ 253 → ⊥) where
-    pub hear-reset : byte ≡ 254 → {r : Spoke} → r ≡ resetSpoke b → spoke r store ≡ hearing byte ports b store
-    unfolding hearing resetSaid
-    hear-reset h p = spoke-as store p ∙ rw (ne-eqb byte 253 n, eq-eqb byte 254 h)
-
-    module _ (m : byte ≡ 254 → ⊥) where
-      pub hear-break : byte ≡ 255 → {r : Spoke} → r ≡ breakSpoke b → spoke r store ≡ hearing byte ports b store
-      unfolding hearing
-      hear-break h p = spoke-as store p ∙ break-so ∙ rw (ne-eqb byte 253 n, ne-eqb byte 254 m, eq-eqb byte 255 h)
-
-      pub hear-ordinary : (byte ≡ 255 → ⊥) → {x : Said} → x ≡ ordinary (earOf b) byte ports b store → x ≡ hearing byte ports b store
-      unfolding hearing
-      hear-ordinary h p = p ∙ rw (ne-eqb byte 253 n, ne-eqb byte 254 m, ne-eqb byte 255 h)
+  break-so p =
+      spoke-as store p
+      ∙ by-pick (endsBy (b .engine .run .job) || b .standing) (spokeOf (board (ceased (b .engine)) false (b .line)) (saying.One 70)) (spokeOf b saying.Silent)
 
 -- ---- the calls
 

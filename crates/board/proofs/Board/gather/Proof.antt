@@ -6,11 +6,8 @@ use Rattle.board.proofs.Board.gather.Tie as tie
 gather-requires : tie.Need-gather-requires
 gather-requires c κs = search needs
 
-says-requires : tie.Need-says-requires
-says-requires c κs = search needs
-
 returns : tie.Need-returns
-returns c = simp (c .before .gather .ensures, c .says .ensures)
+returns c = rw (c .gather .ensures)
 
 pub gather-spec : {M : Type 1} → statement M
-gather-spec = tie.close (tie.spec gather-requires says-requires returns)
+gather-spec = tie.close (tie.spec gather-requires returns)

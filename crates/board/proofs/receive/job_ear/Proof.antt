@@ -1,11 +1,7 @@
+-- `board::receive::job_ear` meets its contract. Assumes nothing.
 use borrow.Author.Needs.{needs}
 use Rattle.board.proofs.receive.job_ear.Statement.{statement}
 use Rattle.board.proofs.receive.job_ear.Tie as tie
-use Rattle.board.proofs.receive.job_ear.Reads as reads
-use Rattle.board.proofs.receive.job_ear.Lts as lts
-use Rattle.board.proofs.receive.is_gathering.Reads as is-gathering-reads
-use Rattle.board.proofs.receive.is_waiting.Reads as is-waiting-reads
-use Rattle.board.proofs.receive.line_ear.Reads as line-ear-reads
 
 is-gathering-requires : tie.Need-is-gathering-requires
 is-gathering-requires c κs = search needs
@@ -14,16 +10,16 @@ line-ear-requires : tie.Need-line-ear-requires
 line-ear-requires c κs = search needs
 
 returns : tie.Need-returns
-returns c = ?
+returns c = simp (← c .before .before .is-gathering .ensures, c .before .if1 .taken, c .line-ear .ensures)
 
 is-waiting-requires : tie.Need-is-waiting-requires
 is-waiting-requires c κs = search needs
 
 returns-2 : tie.Need-returns-2
-returns-2 c = ?
+returns-2 c = simp (← c .before .before .before .is-gathering .ensures, c .before .before .if1 .left, ← c .before .is-waiting .ensures, c .if2 .taken)
 
 returns-3 : tie.Need-returns-3
-returns-3 c = ?
+returns-3 c = simp (← c .before .before .before .is-gathering .ensures, c .before .before .if1 .left, ← c .before .is-waiting .ensures, c .if2 .left)
 
 pub job-ear-spec : {M : Type 1} → statement M
 job-ear-spec =

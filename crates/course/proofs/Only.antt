@@ -9,6 +9,7 @@ use Rattle.course.proofs.runs.run.Reads as run
 use Rattle.course.proofs.Walk.new.Reads as new
 use Rattle.course.proofs.Walk.head.Reads as head
 use Rattle.course.proofs.Walk.next.Reads as next
+use Rattle.course.proofs.Walk.feed.Reads as feed
 use Rattle.course.proofs.Walk.go_on.Reads as go-on
 use Rattle.course.proofs.Walk.tail.Reads as tail
 
@@ -40,6 +41,9 @@ next-out s = s .1 .1 .1 .0
 pub next-one : (κs : _) (a : _) (r r′ : _) (s s′ : _) → next.Post κs a r s → next.Post κs a r′ s′
     → (r ≡ r′) × (now (next-store s) ≡ now (next-store s′)) × (now (next-out s) ≡ now (next-out s′))
 next-one κs a r r′ s s′ p q = (ap (λ (d : Done). d .portion) (p ∙ sym q), ap (λ (d : Done). d .store) (p ∙ sym q), ap (λ (d : Done). d .out) (p ∙ sym q))
+
+pub feed-one : (κs : _) (a : _) (r r′ : _) (s s′ : _) → feed.Post κs a r s → feed.Post κs a r′ s′ → r ≡ r′
+feed-one κs a r r′ s s′ p q = p ∙ sym q
 
 -- the third parameter, `out: &mut [u8]`, as it is left
 abbrev go-on-out : {X A B C : Type 0} → A × (B × (X × C)) → X

@@ -4,3 +4,4 @@ pub mod Ends
 pub mod Going
 pub mod Machine
 pub mod Counts
+pub mod Feeds

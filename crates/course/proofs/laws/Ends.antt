@@ -1,17 +1,16 @@
 -- The portions of a walk end to end are its whole output: what is still to be printed is what a portion prints and then what is still to
 -- be printed after it, whatever the buffer's length from 64 up. Assumes nothing.
-use Prim.Native.Nat.{ℕ, zero, suc, _+_, _-_, _≤_, _<_, min}
+use Prim.Native.Nat.{ℕ, _+_, _-_, _≤_}
 use mathlib.Core.Path.{_≡_, refl, sym, ap, _∙_}
 use mathlib.Core.Bool.{Bool, true, false, not, _&&_}
 use mathlib.Core.List.{List, [], _∷_, _++_, append-assoc, append-nil}
 use native.Mathlib.Omega.{arith}
 use native.Mathlib.Nat.{min-le-left}
-use lib.Dec.{leb}
 use lib.ListN.{length, take, drop}
 use lib.Seq.{take-append-seam}
 use borrow.Author.Tests.{le-leb, eq-eqb}
 use Rattle.count.specs.Pick.{pick}
-use Rattle.count.specs.Text.{Written, wrote}
+use Rattle.count.specs.Text.{Written}
 use Rattle.count.proofs.laws.Digits.{wrote-long}
 use Rattle.board.specs.declared.Board.{Board}
 use Rattle.board.specs.State.{Said, sound}
@@ -28,7 +27,7 @@ ending true b input store = limitText ++ endText b
 ending false b input store = walkedFrom input b store
 
 -- the text of a run and what follows it
-abbrev after : List ℕ → Course → List ℕ → List ℕ → List ℕ
+abbrev pub after : List ℕ → Course → List ℕ → List ℕ → List ℕ
 after t c input store = (t ++ c .text) ++ ending (runsNow (c .board)) (c .board) input store
 
 ended : (t : List ℕ) (b : Board) (input store : List ℕ)
@@ -39,7 +38,7 @@ ended t b input store = by (runsNow b)
     by true = refl
     by false = refl
 
-walked-cons : (byte : ℕ) (input : List ℕ) (b : Board) (store : List ℕ)
+pub walked-cons : (byte : ℕ) (input : List ℕ) (b : Board) (store : List ℕ)
     → walkedFrom (byte ∷ input) b store
     ≡ after (replyText (hearing byte noPorts b store .reply)) (course most (hearing byte noPorts b store .store) (hearing byte noPorts b store .board)) input (hearing byte noPorts b store .store)
 unfolding walkedFrom

@@ -1,6 +1,7 @@
 // The calls, with their refusals 101, 102 and 103 in this order, and what a host reads of a board.
 ghost use mathlib.Core.Path.{_≡_};
 ghost use Rattle.record.specs.Listing.{telling};
+ghost use Rattle.engine.specs.work.Acts.{isWrong};
 ghost use Rattle.board.specs.State.{sound};
 ghost use Rattle.board.specs.Calls.{did, receiving, clocked, clocking, listing, fresh, point};
 use crate::Board;
@@ -9,6 +10,7 @@ use crate::Line;
 use crate::Point;
 use crate::Received;
 use crate::Ticked;
+use engine::Act;
 use engine::Answer;
 use engine::Engine;
 use motion::Counters;
@@ -29,6 +31,20 @@ fn unlisted(refusal: u16) -> Listed
     ensures { λ r. ⌜ r ≡ record { refusal = refusal; len = 0 } ⌝ }
 {
     Listed { refusal, len: 0 }
+}
+
+// Whether 103 refuses the engine.
+fn is_refused(act: Act) -> bool
+    ensures { λ r. ⌜ r ≡ isWrong act ⌝ }
+{
+    match act {
+        Act::Wrong => true,
+        Act::Still => false,
+        Act::Pulse(_) => false,
+        Act::Pause(_) => false,
+        Act::Finish => false,
+        Act::Record => false,
+    }
 }
 
 impl Board {
@@ -114,14 +130,16 @@ impl Board {
         if store.len() != 16384 {
             return self.still(102);
         }
-        if !self.sound() {
+        let e = self.engine;
+        let l = self.line;
+        let act = e.see();
+        if is_refused(act) | (80 < l.len) {
             return self.still(103);
         }
         if self.standing {
             return self.still(0);
         }
-        let e = self.engine;
-        let told = e.tick(store);
+        let told = e.act(act, store);
         let engine = told.engine;
         let answer = told.answer;
         let mut board = self;

@@ -3,8 +3,9 @@ use Prim.Native.Nat.{ℕ, _≤_}
 use mathlib.Core.Path.{_≡_, refl, sym, ap, _∙_}
 use mathlib.Core.Bool.{Bool, true, false, not, _&&_, _||_}
 use mathlib.Core.List.{List, [], _++_}
-use borrow.Author.Tests.{eq-eqb, le-ltb, leb-true}
-use lib.Dec.{leb}
+use native.Mathlib.Omega.{arith}
+use borrow.Author.Tests.{eq-eqb, le-ltb, leb-true, leb-false, ltb-true, ltb-false}
+use lib.Dec.{leb, ltb}
 use lib.ListN.{length, drop}
 use Rattle.count.specs.Pick.{pick}
 use Rattle.count.proofs.laws.Truth.{and-left, and-right}
@@ -17,10 +18,13 @@ use Rattle.line.specs.Lines.{directOf, storedOf}
 use Rattle.engine.specs.declared.Job.{Job}
 use Rattle.engine.specs.declared.Job.the-variants as job
 use Rattle.engine.specs.declared.Told.{Told}
+use Rattle.engine.specs.declared.Act.{Act}
 use Rattle.engine.specs.State.{heard, ceased}
 use Rattle.engine.specs.Sound.{soundOf}
 use Rattle.engine.specs.Tick.{ticked}
+use Rattle.engine.specs.work.Acts.{seenOf, isWrong, actedBy}
 use Rattle.engine.proofs.laws.Laws.{rules-agree}
+use Rattle.engine.proofs.laws.Acts.{seen-wrong, seen-act, acted-is-ticked}
 use Rattle.board.specs.declared.Board.{Board}
 use Rattle.board.specs.declared.Received.{Received}
 use Rattle.board.specs.declared.Saying.the-variants as saying
@@ -112,6 +116,31 @@ unfolding receiving
 received-so byte ports b reply store l m h s {store′} {reply′} {r} e p q =
     let z : did r reply′ store′ ≡ answered (spoke s store′) reply = rw (p, q) in
     z ∙ ap (λ (x : Said). answered x reply) e ∙ rw (le-ltb (length reply) 32 l, eq-eqb (length store) 16384 m, h)
+
+-- the code's test of 103, on what a clock call would do and on the line
+long-by : (n : ℕ) → ltb 80 n ≡ not (leb n 80)
+long-by n = by (ltb 80 n) (leb n 80) refl refl
+  where
+    by : (a c : Bool) → ltb 80 n ≡ a → leb n 80 ≡ c → a ≡ not c
+    by true true p q = absurd (omega (arith, ltb-true 80 n p, leb-true n 80 q))
+    by true false p q = refl
+    by false true p q = refl
+    by false false p q = absurd (omega (arith, ltb-false 80 n p, leb-false n 80 q))
+
+neither : (a b : Bool) → not a || not b ≡ not (a && b)
+neither true b = refl
+neither false b = refl
+
+pub refused-so : (b : Board) {a : Act} {r : Bool} → a ≡ seenOf (b .engine) → r ≡ isWrong a → r || ltb 80 (b .line .len) ≡ not (sound b)
+unfolding sound
+refused-so b e p =
+    rw (p, e, seen-wrong (b .engine), long-by (b .line .len)) (neither (soundOf (b .engine)) (leb (b .line .len) 80))
+
+-- and what it then does
+pub acted-so : (b : Board) (store : List ℕ) → sound b ≡ true → {a : Act} {t : Told} → a ≡ seenOf (b .engine)
+    → t ≡ actedBy nextOf (fetchOf (b .engine .held) store) a (b .engine) → t ≡ ticked nextOf (fetchOf (b .engine .held) store) (b .engine)
+acted-so b store h e p =
+    rw (p, e, seen-act (b .engine) (sound-engine b h)) (acted-is-ticked (fetchOf (b .engine .held) store) (b .engine))
 
 pub clocked-so : (b : Board) (store : List ℕ) → length store ≡ 16384 → sound b ≡ true → b .standing ≡ false
     → {t : Told} → t ≡ ticked nextOf (fetchOf (b .engine .held) store) (b .engine) → wentOn b t ≡ clocking b store

@@ -2,7 +2,7 @@
 use mathlib.Core.Path.{sym, _∙_}
 use borrow.Author.Tests.{eq-eqb, ne-eqb, not-false}
 use Rattle.board.specs.Calls.{clocking}
-use Rattle.board.proofs.laws.Hears.{clocked-so}
+use Rattle.board.proofs.laws.Hears.{refused-so, acted-so, clocked-so}
 use borrow.Author.Needs.{needs}
 use Rattle.board.proofs.Board.clock.Statement.{statement}
 use Rattle.board.proofs.Board.clock.Tie as tie
@@ -14,28 +14,34 @@ returns : tie.Need-returns
 unfolding clocking
 returns c = simp (ne-eqb _ _ (c .before .if1 .taken), c .still .ensures)
 
-sound-requires : tie.Need-sound-requires
-sound-requires c κs = search needs
+see-requires : tie.Need-see-requires
+see-requires c κs = search needs
+
+is-refused-requires : tie.Need-is-refused-requires
+is-refused-requires c κs = search needs
 
 still-requires-2 : tie.Need-still-requires-2
 still-requires-2 c κs = search needs
 
 returns-2 : tie.Need-returns-2
 unfolding clocking
-returns-2 c = simp (eq-eqb _ _ (c .before .before .before .if1 .left), ← c .before .before .sound .ensures, c .before .if2 .taken, c .still2 .ensures)
+returns-2 c = rw (c .still2 .ensures, eq-eqb _ _ (c .before .before .before .before .before .before .before .if1 .left), sym (refused-so (c .before .before .before .before .before .before .before .before .before .args .self) (c .before .before .before .before .see .ensures) (c .before .before .before .is-refused .ensures)) ∙ c .before .if2 .taken)
 
 still-requires-3 : tie.Need-still-requires-3
 still-requires-3 c κs = search needs
 
 returns-3 : tie.Need-returns-3
 unfolding clocking
-returns-3 c = simp (eq-eqb _ _ (c .before .before .before .before .if1 .left), ← c .before .before .before .sound .ensures, c .before .before .if2 .left, c .before .if3 .taken, c .still3 .ensures)
+returns-3 c = rw (c .still3 .ensures, eq-eqb _ _ (c .before .before .before .before .before .before .before .before .if1 .left), sym (refused-so (c .before .before .before .before .before .before .before .before .before .before .args .self) (c .before .before .before .before .before .see .ensures) (c .before .before .before .before .is-refused .ensures)) ∙ c .before .before .if2 .left, c .before .if3 .taken)
 
-tick-requires : tie.Need-tick-requires
-tick-requires c κs = search needs
+act-requires : tie.Need-act-requires
+act-requires c κs = search needs
 
 returns-4 : tie.Need-returns-4
-returns-4 c = clocked-so (c .before .before .before .before .before .before .before .before .args .self) (c .before .before .before .before .before .before .before .before .args .store .now) (c .before .before .before .before .before .before .if1 .left) (sym (c .before .before .before .before .before .sound .ensures) ∙ not-false (c .before .before .before .before .before .sound .result) (c .before .before .before .before .if2 .left)) (c .before .before .before .if3 .left) (c .before .tick .ensures)
+returns-4 c =
+    let a = c .before .before .before .before .before .before .before .before .before .before .before .args in
+    let h = not-false _ (sym (refused-so (c .before .before .before .before .before .before .before .before .before .before .before .args .self) (c .before .before .before .before .before .before .see .ensures) (c .before .before .before .before .before .is-refused .ensures)) ∙ c .before .before .before .if2 .left) in
+    clocked-so (a .self) (a .store .now) (c .before .before .before .before .before .before .before .before .before .if1 .left) h (c .before .before .if3 .left) (acted-so (a .self) (a .store .now) h (c .before .before .before .before .before .before .see .ensures) (c .before .act .ensures))
 
 pub clock-spec : {M : Type 1} → statement M
 clock-spec =
@@ -43,10 +49,11 @@ clock-spec =
     (tie.spec
     still-requires
     returns
-    sound-requires
+    see-requires
+    is-refused-requires
     still-requires-2
     returns-2
     still-requires-3
     returns-3
-    tick-requires
+    act-requires
     returns-4)

@@ -1,5 +1,6 @@
 // `walk`: reads what is sent to a board, runs the board after each byte, and prints its replies and its pulses.
-ghost use Prim.Native.Nat.{_≤_};
+ghost use mathlib.Core.Path.{_≡_};
+ghost use Prim.Native.Nat.{_+_, min};
 ghost use lib.ListN.{length};
 use course::Walk;
 use libc::STDIN_FILENO;
@@ -21,7 +22,7 @@ struct Pen {
 
 // No more than the buffer holds. Where the walk has come to never says more.
 fn within(n: usize, buf: &[u8]) -> usize
-    ensures { λ r. ⌜ r ≤ length (now (buf .entry)) ⌝ }
+    ensures { λ r. ⌜ r ≡ min n (length (now (buf .entry))) ⌝ }
 {
     if n <= buf.len() {
         return n;
@@ -31,7 +32,7 @@ fn within(n: usize, buf: &[u8]) -> usize
 
 // The place `n` bytes past `at`, and never past the end of the buffer. A portion never says more.
 fn past(at: usize, n: usize, buf: &[u8]) -> usize
-    ensures { λ r. ⌜ r ≤ length (now (buf .entry)) ⌝ }
+    ensures { λ r. ⌜ r ≡ min (at + n) (length (now (buf .entry))) ⌝ }
 {
     let from = within(at, buf);
     if n <= buf.len() - from {

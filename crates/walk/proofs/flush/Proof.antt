@@ -1,5 +1,6 @@
 -- `walk::flush` is safe and ends: as many bytes as `within` lets through stand at the start of the buffer. Assumes nothing.
 use mathlib.Core.Path.{sym}
+use native.Mathlib.Omega.{arith}
 use lib.Seq.{length-take-le}
 use borrow.Author.Needs.{needs}
 use Rattle.walk.proofs.flush.Statement.{statement}
@@ -9,7 +10,7 @@ within-requires : tie.Need-within-requires
 within-requires c κs = search needs
 
 slice-aggregate-write-all : tie.Need-slice-aggregate-write-all
-slice-aggregate-write-all c = sym (length-take-le _ _ (c .before .within .ensures))
+slice-aggregate-write-all c = sym (length-take-le _ _ (omega (arith, c .before .within .ensures)))
 
 write-all-requires : tie.Need-write-all-requires
 write-all-requires c κs = search needs

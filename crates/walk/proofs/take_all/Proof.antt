@@ -2,6 +2,7 @@
 -- lengths. The measure is what is left of the input. Assumes nothing.
 use Prim.Native.Nat.{_≤_, _<_, _-_}
 use mathlib.Core.Path.{_≡_}
+use native.Mathlib.Omega.{arith}
 use lib.ListN.{length}
 use borrow.Author.Needs.{needs}
 use Rattle.walk.proofs.take_all.Statement.{statement}
@@ -25,20 +26,20 @@ same-length-2 c = search needs
 returns : tie.Need-returns Inv-loop μ-loop
 returns c = search needs
 
-shared-slice-read-take-byte : tie.Need-shared-slice-read-take-byte Inv-loop μ-loop
-shared-slice-read-take-byte c = search needs
+sub-feed : tie.Need-sub-feed Inv-loop μ-loop
+sub-feed c = search needs
 
-take-byte-requires : tie.Need-take-byte-requires Inv-loop μ-loop
-take-byte-requires c κs = search needs
+part-feed-start : tie.Need-part-feed-start Inv-loop μ-loop
+part-feed-start c = search needs
 
-add-i : tie.Need-add-i Inv-loop μ-loop
-add-i c = search needs
+part-feed-end : tie.Need-part-feed-end Inv-loop μ-loop
+part-feed-end c = search needs
 
-loop-less : tie.Need-loop-less Inv-loop μ-loop
-loop-less c = search needs
+feed-requires : tie.Need-feed-requires Inv-loop μ-loop
+feed-requires c κs = search needs
 
-loop-again : tie.Need-loop-again Inv-loop μ-loop
-loop-again c = search needs
+past-requires : tie.Need-past-requires Inv-loop μ-loop
+past-requires c κs = search needs
 
 same-length-3 : tie.Need-same-length-3 Inv-loop μ-loop
 same-length-3 c = search needs
@@ -48,6 +49,32 @@ same-length-4 c = search needs
 
 returns-2 : tie.Need-returns-2 Inv-loop μ-loop
 returns-2 c = search needs
+
+shared-slice-read-take-byte : tie.Need-shared-slice-read-take-byte Inv-loop μ-loop
+shared-slice-read-take-byte c = search needs
+
+take-byte-requires : tie.Need-take-byte-requires Inv-loop μ-loop
+take-byte-requires c κs = search needs
+
+add-i : tie.Need-add-i Inv-loop μ-loop
+add-i c = omega (arith, c .before .before .before .before .before .before .before .before .if2 .left, c .before .before .before .before .before .before .before .before .before .before .before .before .before .before .before .before .before .before .loop .inv .1)
+
+loop-less : tie.Need-loop-less Inv-loop μ-loop
+loop-less c = search needs
+
+loop-again : tie.Need-loop-again Inv-loop μ-loop
+loop-again c =
+    let v = c .before .before .before .before .before .before .before .before .before .before .before .before .before .before .before .before .before .before .loop .inv in
+    (omega (arith, c .before .before .before .before .before .before .before .before .if2 .left), v .1, omega (arith, v .2), omega (arith, v .3))
+
+same-length-5 : tie.Need-same-length-5 Inv-loop μ-loop
+same-length-5 c = search needs
+
+same-length-6 : tie.Need-same-length-6 Inv-loop μ-loop
+same-length-6 c = search needs
+
+returns-3 : tie.Need-returns-3 Inv-loop μ-loop
+returns-3 c = search needs
 
 pub take-all-spec : {M : Type 1} → statement M
 take-all-spec =
@@ -59,11 +86,19 @@ take-all-spec =
     same-length
     same-length-2
     returns
+    sub-feed
+    part-feed-start
+    part-feed-end
+    feed-requires
+    past-requires
+    same-length-3
+    same-length-4
+    returns-2
     shared-slice-read-take-byte
     take-byte-requires
     add-i
     loop-less
     loop-again
-    same-length-3
-    same-length-4
-    returns-2)
+    same-length-5
+    same-length-6
+    returns-3)

@@ -3,7 +3,7 @@ ghost use mathlib.Core.Path.{_≡_};
 ghost use Prim.Native.Nat.{_≤_};
 ghost use Rattle.engine.specs.State.{heard};
 ghost use Rattle.board.specs.State.{board, gathered, withLine};
-ghost use mathlib.Core.Bool.{Bool, false, _||_};
+ghost use mathlib.Core.Bool.{false, _||_};
 ghost use Rattle.board.specs.Receive.{isStoring, holdsBy, endsBy, returned};
 ghost use Rattle.board.specs.work.Work.{spokeOf, spoke, stopSpoke, breakSpoke, resetSpoke, gathersBy, waitsBy};
 ghost use Rattle.board.specs.work.Ears.{lineEar, jobEar, byteEar, earFor, isGather, heardAs};

@@ -1,6 +1,6 @@
 -- The loop over the pulses of a phase. Assumes nothing.
 use Prim.Native.Nat.{ℕ, zero, suc, _+_, _-_, _*_, _<_, _≤_}
-use mathlib.Core.Path.{_≡_, refl, ap, sym, _∙_}
+use mathlib.Core.Path.{_≡_, sym, subst}
 use mathlib.Core.Bool.{Bool, true, false}
 use mathlib.Core.List.{List, [], _∷_, _++_}
 use native.Mathlib.Omega.{arith}
@@ -13,11 +13,15 @@ use Rattle.motion.specs.declared.Counters.{Counters}
 use Rattle.motion.specs.declared.Move.{Move}
 use Rattle.motion.specs.declared.Signs.{Signs}
 use Rattle.motion.specs.declared.Stepped.{Stepped}
-use Rattle.motion.specs.declared.Next.{Next}
+use Rattle.motion.specs.declared.Beat.{Beat}
+use Rattle.motion.specs.declared.Beaten.{Beaten}
+use Rattle.motion.specs.declared.Beaten.the-variants as beat
 use Rattle.motion.specs.declared.Next.the-variants as next
 use Rattle.motion.specs.work.Here.{withinOf}
+use Rattle.motion.specs.work.Beat.{beaten}
 use Rattle.motion.specs.Next.{atPhase}
 use Rattle.motion.proofs.laws.Within.{within-rest}
+use Rattle.motion.proofs.laws.Beats.{hit, missed}
 use Rattle.course.specs.Text.{pulseText}
 use Rattle.course.specs.work.Work.{Wrote}
 use Rattle.course.specs.work.Machine.{Way, stays, way, Left}
@@ -44,9 +48,9 @@ abbrev pub GKept : ℕ → Move → Counters → List ℕ → ℕ → Move → C
 GKept limit m₀ at₀ out₀ n m at out k = Kept glides glideOn glideSaid limit (here m₀ at₀) out₀ n (here m at) out k
 
 module _ (m : Move) (at : Counters) where
-  pub over : {x : Next} → x ≡ withinOf m at → x ≡ next.Over → glides (here m at) ≡ false
+  pub over : {x : Beaten} → x ≡ beaten (withinOf m at) → x ≡ beat.Over → glides (here m at) ≡ false
   unfolding glides
-  over e p = rw (← e, p)
+  over e p = rw (missed (withinOf m at) e p)
 
   pub made : {s : Stepped} → withinOf m at ≡ next.Made s → glides (here m at) ≡ true
   unfolding glides
@@ -68,18 +72,24 @@ module _ (limit : ℕ) (m₀ : Move) (at₀ : Counters) (out₀ : List ℕ) (n :
   pub room : n < limit → 12 * limit ≤ length out₀ → 12 ≤ length out - k
   room h l = omega (arith, i .short, i .long)
 
-  turned : {x : Next} (s : Stepped) (ys : List ℕ) (j : ℕ) → x ≡ withinOf m at → x ≡ next.Made s → n < limit → 12 * limit ≤ length out₀ → s .speed ≤ 65535
+  turned : (s : Stepped) (ys : List ℕ) (j : ℕ) → withinOf m at ≡ next.Made s → n < limit → 12 * limit ≤ length out₀ → s .speed ≤ 65535
       → Wrote (pulseText (s .signs) (s .speed)) (take (length out - k) (drop k out)) j ys
       → GKept limit m₀ at₀ out₀ (n + 1) (s .rest) (s .at) (putMid k (length out - k) out ys) (k + j)
-  turned s ys j e p h l v w =
+  turned s ys j e h l v w =
       let r = room h l in
       let t = pulse-short (s .signs) (s .speed) v in
       kept-part glides glideOn glideSaid limit (here m₀ at₀) out₀ n (here m at) out k i
       (record { state = here (s .rest) (s .at); calls = 1; text = pulseText (s .signs) (s .speed) })
-      (part m at (limit - n) s (sym e ∙ p) (omega arith)) (omega arith) ys j w (omega arith) (omega arith)
+      (part m at (limit - n) s e (omega arith)) (omega arith) ys j w (omega arith) (omega arith)
 
-  pub turn : {x : Next} (s : Stepped) (ys : List ℕ) (j : ℕ) → x ≡ withinOf m at → x ≡ next.Made s → n < limit → 12 * limit ≤ length out₀ → s .speed ≤ 65535
-      → Wrote (pulseText (s .signs) (s .speed)) (take (length out - k) (drop k out)) j ys
-      → GKept limit m₀ at₀ out₀ (n + 1) (atPhase m (m .phase) (s .rest .made)) (s .at) (putMid k (length out - k) out ys) (k + j)
-  turn s ys j e p h l v w =
-      same-kept (within-rest m at (sym e ∙ p)) (turned s ys j e p h l v w)
+  pub turn : {x : Beaten} (b : Beat) (ys : List ℕ) (j : ℕ) → x ≡ beaten (withinOf m at) → x ≡ beat.Made b → n < limit → 12 * limit ≤ length out₀ → b .speed ≤ 65535
+      → Wrote (pulseText (b .signs) (b .speed)) (take (length out - k) (drop k out)) j ys
+      → GKept limit m₀ at₀ out₀ (n + 1) (atPhase m (m .phase) (b .mark .made)) (b .at) (putMid k (length out - k) out ys) (k + j)
+  turn b ys j e p h l =
+      let g = hit (withinOf m at) b e p in
+      let s = g .step in
+      let t : s .speed ≤ 65535 → Wrote (pulseText (s .signs) (s .speed)) (take (length out - k) (drop k out)) j ys
+          → GKept limit m₀ at₀ out₀ (n + 1) (atPhase m (m .phase) (s .rest .made)) (s .at) (putMid k (length out - k) out ys) (k + j)
+          = λ v w. same-kept (within-rest m at (g .is)) (turned s ys j (g .is) h l v w) in
+      subst (λ (c : Beat). c .speed ≤ 65535 → Wrote (pulseText (c .signs) (c .speed)) (take (length out - k) (drop k out)) j ys
+          → GKept limit m₀ at₀ out₀ (n + 1) (atPhase m (m .phase) (c .mark .made)) (c .at) (putMid k (length out - k) out ys) (k + j)) (sym (g .same)) t

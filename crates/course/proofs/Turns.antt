@@ -11,9 +11,12 @@ use Rattle.motion.specs.declared.Counters.{Counters}
 use Rattle.motion.specs.declared.Move.{Move}
 use Rattle.record.specs.Places.{fetchOf}
 use Rattle.engine.specs.declared.Engine.{Engine}
+use Rattle.engine.specs.declared.Under.{Under}
+use Rattle.engine.specs.declared.Under.the-variants as under
 use Rattle.engine.specs.declared.Told.{Told}
 use Rattle.engine.specs.declared.Job.{Job}
 use Rattle.engine.specs.declared.Job.the-variants as job
+use Rattle.engine.specs.work.Acts.{underOf}
 use Rattle.engine.specs.work.Glide.{glidedBy, glided}
 use Rattle.engine.specs.Tick.{ticked, runsOf}
 use Rattle.course.specs.declared.Went.{Went}
@@ -65,16 +68,26 @@ module _ (store : List ℕ) (limit : ℕ) (e₀ : Engine) (out₀ : List ℕ) (l
 -- ---- what the code of `glide_on` has
 
 module _ (e : Engine) (limit : ℕ) (out : List ℕ) where
-  pub stays-left : (j : Job) {w : Went} → e .run .job ≡ j → glideJob j limit e ≡ stays e → w ≡ record { engine = e; calls = 0; len = 0 }
+  none-by : (j : Job) → underOf j ≡ under.Nothing → glideJob j limit e ≡ stays e
+  unfolding glideJob
+  none-by job.Idle h = refl
+  none-by job.Storing h = refl
+  none-by (job.Direct m) h = let z : _≡_ {A = ℕ} 0 1 = cc in absurd (omega arith)
+  none-by job.Ready h = refl
+  none-by (job.Moving m) h = let z : _≡_ {A = ℕ} 0 1 = cc in absurd (omega arith)
+  none-by (job.Delay q) h = refl
+  none-by (job.Wait c t) h = refl
+
+  pub stays-left : {u : Under} {w : Went} → u ≡ underOf (e .run .job) → u ≡ under.Nothing → w ≡ record { engine = e; calls = 0; len = 0 }
       → (wentOf w out ≡ leftBy (glideJob (e .run .job) limit e) out) × (w .len ≤ 12 * w .calls)
-  stays-left j p h q =
-      (ap (λ (x : Went). wentOf x out) q ∙ sym (ap (λ (i : Job). leftBy (glideJob i limit e) out) p ∙ ap (λ (x : Way Engine). leftBy x out) h), rw q (omega arith))
+  stays-left p h q =
+      (ap (λ (x : Went). wentOf x out) q ∙ sym (ap (λ (x : Way Engine). leftBy x out) (none-by (e .run .job) (sym p ∙ h))), rw q (omega arith))
 
   abbrev mapLeft : (Gone → Engine) → Left Gone → Left Engine
   mapLeft f x = record { state = f (x .state); calls = x .calls; len = x .len; out = x .out }
 
   module _ {m : Move} {g : Glided} {d : Engine} {last : List ℕ} (q : G.glided g last ≡ G.gliding limit m (e .at) out) where
-    pub direct-left : e .run .job ≡ job.Direct m → d ≡ glided (g .at) (g .rest) e
+    direct-left : e .run .job ≡ job.Direct m → d ≡ glided (g .at) (g .rest) e
         → _≡_ {A = Left Engine} (record { state = d; calls = g .calls; len = g .len; out = last }) (leftBy (glideJob (e .run .job) limit e) out)
     unfolding glideJob glided
     direct-left p r =
@@ -83,7 +96,7 @@ module _ (e : Engine) (limit : ℕ) (out : List ℕ) where
         ∙ ap (λ (x : Left Gone). mapLeft (inDirect e) x) q
         ∙ sym (ap (λ (j : Job). leftBy (glideJob j limit e) out) p)
 
-    pub moving-left : e .run .job ≡ job.Moving m → d ≡ glided (g .at) (g .rest) e
+    moving-left : e .run .job ≡ job.Moving m → d ≡ glided (g .at) (g .rest) e
         → _≡_ {A = Left Engine} (record { state = d; calls = g .calls; len = g .len; out = last }) (leftBy (glideJob (e .run .job) limit e) out)
     unfolding glideJob glided
     moving-left p r =
@@ -91,3 +104,17 @@ module _ (e : Engine) (limit : ℕ) (out : List ℕ) where
         ∙ (λ i. record { state = glidedBy (p i) (g .at) (g .rest) e; calls = g .calls; len = g .len; out = last })
         ∙ ap (λ (x : Left Gone). mapLeft (inMoving e) x) q
         ∙ sym (ap (λ (j : Job). leftBy (glideJob j limit e) out) p)
+
+    going-by : (j : Job) → e .run .job ≡ j → underOf j ≡ under.Going m → d ≡ glided (g .at) (g .rest) e
+        → _≡_ {A = Left Engine} (record { state = d; calls = g .calls; len = g .len; out = last }) (leftBy (glideJob (e .run .job) limit e) out)
+    going-by (job.Direct n) p h r = let s : n ≡ m = cc in direct-left (p ∙ ap job.Direct s) r
+    going-by (job.Moving n) p h r = let s : n ≡ m = cc in moving-left (p ∙ ap job.Moving s) r
+    going-by job.Idle p h r = let z : _≡_ {A = ℕ} 0 1 = cc in absurd (omega arith)
+    going-by job.Storing p h r = let z : _≡_ {A = ℕ} 0 1 = cc in absurd (omega arith)
+    going-by job.Ready p h r = let z : _≡_ {A = ℕ} 0 1 = cc in absurd (omega arith)
+    going-by (job.Delay k) p h r = let z : _≡_ {A = ℕ} 0 1 = cc in absurd (omega arith)
+    going-by (job.Wait c t) p h r = let z : _≡_ {A = ℕ} 0 1 = cc in absurd (omega arith)
+
+    pub going-left : {u : Under} → u ≡ underOf (e .run .job) → u ≡ under.Going m → d ≡ glided (g .at) (g .rest) e
+        → _≡_ {A = Left Engine} (record { state = d; calls = g .calls; len = g .len; out = last }) (leftBy (glideJob (e .run .job) limit e) out)
+    going-left p h r = going-by (e .run .job) refl (sym p ∙ h) r

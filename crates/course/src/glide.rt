@@ -6,9 +6,9 @@ ghost use Rattle.motion.specs.Next.{atPhase};
 ghost use Rattle.course.specs.work.Glide.{glided, gliding};
 use super::Glided;
 use super::text::put_pulse;
+use motion::Beaten;
 use motion::Counters;
 use motion::Move;
-use motion::Next;
 
 // A movement with so many pulses of its phase made, the counters, and what that took.
 fn glided_to(m: Move, made: u32, at: Counters, calls: u32, len: usize) -> Glided
@@ -34,15 +34,15 @@ pub(crate) fn glide(start: Move, from: Counters, limit: u32, out: &mut [u8]) -> 
     let mut n: u32 = 0;
     let mut k = 0;
     while n < limit {
-        let next = start.within(made, at);
-        let Next::Made(s) = next else {
+        let next = start.beat_in(made, at);
+        let Beaten::Made(b) = next else {
             return glided_to(start, made, at, n, k);
         };
-        let signs = s.signs;
-        let rest = s.rest;
-        let there = s.at;
-        let j = put_pulse(&mut out[k..], signs, s.speed);
-        made = rest.made;
+        let signs = b.signs;
+        let mark = b.mark;
+        let there = b.at;
+        let j = put_pulse(&mut out[k..], signs, b.speed);
+        made = mark.made;
         at = there;
         k = k + j;
         n = n + 1;

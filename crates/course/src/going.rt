@@ -8,7 +8,7 @@ use super::Went;
 use super::glide::glide;
 use super::text::put_answer;
 use engine::Engine;
-use engine::Job;
+use engine::Under;
 
 fn stay(engine: Engine) -> Went
     ensures { λ r. ⌜ r ≡ record { engine = engine; calls = 0; len = 0 } ⌝ }
@@ -25,35 +25,17 @@ fn glide_on(e: Engine, limit: u32, out: &mut [u8]) -> Went
     requires { ⌜ 12 * limit ≤ length (now out) ⌝ }
     ensures { λ r. ⌜ (wentOf r (now (out .exit)) ≡ leftBy (glideJob (e .run .job) limit e) (now (out .entry))) × (r .len ≤ 12 * r .calls) ⌝ }
 {
-    let run = e.run;
-    let at = e.at;
-    let job = run.job;
-    match job {
-        Job::Idle => stay(e),
-        Job::Storing => stay(e),
-        Job::Direct(m) => {
-            let g = glide(m, at, limit, out);
-            let rest = g.rest;
-            let there = g.at;
-            Went {
-                engine: e.glide(there, rest),
-                calls: g.calls,
-                len: g.len,
-            }
-        }
-        Job::Ready => stay(e),
-        Job::Moving(m) => {
-            let g = glide(m, at, limit, out);
-            let rest = g.rest;
-            let there = g.at;
-            Went {
-                engine: e.glide(there, rest),
-                calls: g.calls,
-                len: g.len,
-            }
-        }
-        Job::Delay(_) => stay(e),
-        Job::Wait(_, _) => stay(e),
+    let under = e.under_way();
+    let Under::Going(m) = under else {
+        return stay(e);
+    };
+    let g = glide(m, e.at, limit, out);
+    let rest = g.rest;
+    let there = g.at;
+    Went {
+        engine: e.glide(there, rest),
+        calls: g.calls,
+        len: g.len,
     }
 }
 

@@ -5,7 +5,7 @@ ghost use lib.ListN.{getD};
 ghost use Rattle.motion.specs.work.Here.{nextOf};
 ghost use Rattle.motion.specs.Plan.{asked, planOf};
 ghost use Rattle.program.specs.Onward.{onwardOf};
-ghost use Rattle.engine.specs.State.{withAt, withRun, withThree, running, originOf};
+ghost use Rattle.engine.specs.State.{withRun, running};
 ghost use Rattle.engine.specs.Tick.{told, finished, failed, onTo, moving, movingBy, afterPause, delaying, leading, performed};
 ghost use Rattle.engine.specs.work.Work.{Fits};
 ghost use Rattle.engine.specs.work.Acts.{pulsed};

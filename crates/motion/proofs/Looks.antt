@@ -4,20 +4,18 @@ use mathlib.Core.Path.{_≡_, refl, ap, sym, _∙_}
 use mathlib.Core.Bool.{Bool, true, false, not, _&&_, _||_}
 use native.Mathlib.Omega.{arith}
 use lib.Dec.{ltb, leb, eqb}
-use borrow.Author.Tests.{lt-ltb, le-ltb, le-leb, lt-leb, leb-true, leb-false, ltb-true, ltb-false}
-use Rattle.count.specs.Pick.{pick}
+use borrow.Author.Tests.{lt-ltb, le-leb, leb-true, leb-false, ltb-true, ltb-false}
 use Rattle.count.specs.Numbers.{far}
 use Rattle.motion.specs.declared.Counters.{Counters}
 use Rattle.motion.specs.declared.Signs.{Signs}
 use Rattle.motion.specs.declared.Move.{Move}
 use Rattle.motion.specs.declared.Mark.{Mark}
 use Rattle.motion.specs.declared.Beat.{Beat}
-use Rattle.motion.specs.declared.Next.{Next}
 use Rattle.motion.specs.declared.Look.{Look}
 use Rattle.motion.specs.declared.Look.the-variants as look
 use Rattle.motion.specs.Phase.{pulses, countAfter}
 use Rattle.motion.specs.Next.{leg, fromOf, toOf, signsBy, stepped}
-use Rattle.motion.specs.Sound.{inRange, standsAt, underWay}
+use Rattle.motion.specs.Sound.{inRange, underWay}
 use Rattle.motion.specs.work.Here.{signHere, nextOf}
 use Rattle.motion.specs.work.Beat.{markOf, atMark, beatOf, lookedBy, lookOf}
 use Rattle.motion.proofs.Standing.{ready-at}

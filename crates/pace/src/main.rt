@@ -1,6 +1,6 @@
 // `pace`: makes the calls that its input asks for and counts them, so that `bench/run` can measure the calls alone. It reads at most
-// 65,536 bytes. Byte 0 asks for a listing, byte 1 for 1,000 conversions of the sheet and byte 2 for the end line of the stored program once
-// more; any other is received, and clock calls follow it until one answers nothing.
+// 65,536 bytes. Byte 0 asks for a listing, byte 1 for 1,000 conversions of the sheet, and byte 2 puts the board back to storing the program
+// that it holds, so that its end line can follow once more; any other is received, and clock calls follow it until one answers nothing.
 use board::Board;
 use engine::Answer;
 use libc::STDIN_FILENO;
@@ -33,27 +33,24 @@ fn plus(a: u64, b: u64) -> u64 {
 
 // Clock calls until one answers nothing, at most 100,000.
 fn run(start: Pace, store: &[u8]) -> Pace {
-    let mut pace = start;
+    let mut board = start.board;
+    let mut calls = start.calls;
+    let mut sum = start.sum;
     let mut turns: u32 = 100000;
     while 0 < turns {
-        let board = pace.board;
         let ticked = board.clock(store);
         let next = ticked.board;
         let answer = ticked.answer;
+        board = next;
         let w = weight(answer);
-        let calls = plus(pace.calls, 1);
-        let sum = plus(pace.sum, w);
-        pace = Pace {
-            board: next,
-            calls,
-            sum,
-        };
+        calls = plus(calls, 1);
+        sum = plus(sum, w);
         if w == 0 {
-            return pace;
+            return Pace { board, calls, sum };
         }
         turns = turns - 1;
     }
-    pace
+    Pace { board, calls, sum }
 }
 
 fn receive(pace: Pace, byte: u8, store: &mut [u8]) -> Pace {
@@ -80,13 +77,6 @@ fn storing(pace: Pace) -> Pace {
         calls: pace.calls,
         sum: pace.sum,
     }
-}
-
-// The end line once more, which has the stored program checked.
-fn check(pace: Pace, store: &mut [u8]) -> Pace {
-    let begun = storing(pace);
-    let nine = receive(begun, b'9', &mut *store);
-    receive(nine, b'\r', store)
 }
 
 fn list(pace: Pace, store: &[u8], text: &mut [u8]) -> Pace {
@@ -146,7 +136,7 @@ fn take_byte(pace: Pace, byte: u8, store: &mut [u8], text: &mut [u8]) -> Pace {
         return convert_all(pace);
     }
     if byte == 2 {
-        return check(pace, store);
+        return storing(pace);
     }
     let heard = receive(pace, byte, &mut *store);
     run(heard, store)

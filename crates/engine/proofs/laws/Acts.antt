@@ -6,7 +6,6 @@ use native.Mathlib.Omega.{arith}
 use Rattle.count.specs.Pick.{pick}
 use Rattle.motion.specs.declared.Counters.{Counters}
 use Rattle.motion.specs.declared.Move.{Move}
-use Rattle.motion.specs.declared.Mark.{Mark}
 use Rattle.motion.specs.declared.Stepped.{Stepped}
 use Rattle.motion.specs.declared.Beat.{Beat}
 use Rattle.motion.specs.declared.Beaten.{Beaten}
@@ -18,7 +17,7 @@ use Rattle.motion.specs.declared.Look.the-variants as look
 use Rattle.motion.specs.Sound.{underWay}
 use Rattle.motion.specs.work.Here.{nextOf}
 use Rattle.motion.specs.work.Beat.{markOf, atMark, beatOf, beaten, lookedBy, lookOf}
-use Rattle.motion.proofs.laws.Beats.{next-rest}
+use Rattle.motion.proofs.laws.Beats.{next-rest, hit, missed}
 use Rattle.program.specs.declared.Loops.{Loops}
 use Rattle.engine.specs.declared.Answer.the-variants as answer
 use Rattle.engine.specs.declared.Job.{Job}
@@ -29,27 +28,13 @@ use Rattle.engine.specs.declared.Act.{Act}
 use Rattle.engine.specs.declared.Act.the-variants as act
 use Rattle.engine.specs.declared.Under.{Under}
 use Rattle.engine.specs.declared.Under.the-variants as under
-use Rattle.engine.specs.State.{withAt, withRun, withJob, running}
+use Rattle.engine.specs.State.{paper, withAt, withRun, running}
 use Rattle.engine.specs.Sound.{jobSound, soundOf}
 use Rattle.engine.specs.Tick.{Fetching, told, onTo, moving, directly, movingOn, tickedBy, ticked}
-use Rattle.engine.specs.work.Acts.{underOf, markedJob, restOf, pulseAct, actUnder, actBy, lookAct, lookUnder, lookBy, fitsOf, seenOf, isWrong, pulsed, actedBy}
+use Rattle.engine.specs.work.Acts.{underOf, markedJob, restOf, pulseAct, actUnder, actBy, lookAct, lookBy, fitsOf, seenOf, isWrong, pulsed, actedBy, actPaper}
 use Rattle.engine.proofs.laws.Work.{next-moved}
 
 -- ---- a pulse without the movement
-
--- it is the movement's next, or there is none
-pub record Hit (n : Next) (b : Beat) : Type 0 where
-  pub step : Stepped
-  pub is : n ≡ next.Made step
-  pub same : b ≡ beatOf step
-
-pub hit : (n : Next) (b : Beat) {x : Beaten} → x ≡ beaten n → x ≡ beat.Made b → Hit n b
-hit (next.Made s) b e p = record { step = s; is = refl; same = let q : beat.Made (beatOf s) ≡ beat.Made b = sym e ∙ p in cc }
-hit next.Over b e p = let z : _≡_ {A = ℕ} 0 1 = cc in absurd (omega arith)
-
-pub missed : (n : Next) {x : Beaten} → x ≡ beaten n → x ≡ beat.Over → n ≡ next.Over
-missed (next.Made s) e p = let z : _≡_ {A = ℕ} 0 1 = cc in absurd (omega arith)
-missed next.Over e p = refl
 
 -- with the movement at its mark it is the pulse that 01 tells of
 module _ (kind : Move → Job) (place : ℕ) (l : Loops) (m : Move) (e : Engine) where
@@ -183,3 +168,18 @@ module _ (fetch : Fetching) (e : Engine) where
   pub acted-is-ticked : actedBy nextOf fetch (actBy nextOf (e .run .job) (e .at)) e ≡ ticked nextOf fetch e
   unfolding actBy ticked
   acted-is-ticked = job-by (e .run .job) refl
+
+  -- on paper an act is what it answers once done
+  acted-paper : (a : Act) → isWrong a ≡ false → actPaper fetch e a ≡ paper (actedBy nextOf fetch a e .answer)
+  acted-paper act.Wrong p = let z : _≡_ {A = ℕ} 0 1 = cc in absurd (omega arith)
+  acted-paper act.Still p = refl
+  acted-paper (act.Pulse b) p = refl
+  acted-paper (act.Pause q) p = refl
+  acted-paper act.Finish p = refl
+  acted-paper act.Record p = refl
+
+  pub seen-paper : soundOf e ≡ true → actPaper fetch e (seenOf e) ≡ paper (ticked nextOf fetch e .answer)
+  seen-paper s =
+      acted-paper (seenOf e) (seen-wrong e ∙ ap not s)
+      ∙ ap (λ (a : Act). paper (actedBy nextOf fetch a e .answer)) (seen-act e s)
+      ∙ ap (λ (t : Told). paper (t .answer)) acted-is-ticked

@@ -1,6 +1,5 @@
 -- What a clock call does, decided before it is done: `Engine::see`, `Engine::act` and `Engine::under_way` cite it. That doing what was
 -- decided is the clock call of Tick, and that 103's word on it is that of Sound, are the laws `acted-is-ticked` and `seen-wrong`.
-use Prim.Native.Nat.{ℕ}
 use mathlib.Core.Bool.{Bool, true, false, _&&_}
 use mathlib.Core.List.{[]}
 use lib.Dec.{leb}

@@ -122,11 +122,25 @@ pub next-here : (m : Move) (at : Counters) → m .made < leg m
 unfolding withinOf
 next-here m at h = next-settled m at ∙ ap (λ (x : Move). withinOf x at) (settled-here m h) ∙ rw (lt-ltb (m .made) (leg m) h)
 
--- a look at a pulse without the movement
-pub looked-made : (n : Next) (b : Beat) {x : Beaten} → x ≡ beaten n → x ≡ beat.Made b → look.Made b ≡ lookedBy n
-looked-made (Made s) b e p = let q : beat.Made (beatOf s) ≡ beat.Made b = sym e ∙ p in cc
-looked-made Over b e p = let z : _≡_ {A = ℕ} 0 1 = cc in absurd (omega arith)
+-- ---- a pulse without the movement is the movement's next, or there is none
 
-pub looked-over : (n : Next) {x : Beaten} → x ≡ beaten n → x ≡ beat.Over → look.Over ≡ lookedBy n
-looked-over (Made s) e p = let z : _≡_ {A = ℕ} 0 1 = cc in absurd (omega arith)
-looked-over Over e p = refl
+pub record Hit (n : Next) (b : Beat) : Type 0 where
+  pub step : Stepped
+  pub is : n ≡ Made step
+  pub same : b ≡ beatOf step
+
+pub hit : (n : Next) (b : Beat) {x : Beaten} → x ≡ beaten n → x ≡ beat.Made b → Hit n b
+hit (Made s) b e p = record { step = s; is = refl; same = let q : beat.Made (beatOf s) ≡ beat.Made b = sym e ∙ p in cc }
+hit Over b e p = let z : _≡_ {A = ℕ} 0 1 = cc in absurd (omega arith)
+
+pub missed : (n : Next) {x : Beaten} → x ≡ beaten n → x ≡ beat.Over → n ≡ Over
+missed (Made s) e p = let z : _≡_ {A = ℕ} 0 1 = cc in absurd (omega arith)
+missed Over e p = refl
+
+-- and so at a look
+module _ (n : Next) {x : Beaten} (e : x ≡ beaten n) where
+  pub looked-made : (b : Beat) → x ≡ beat.Made b → look.Made b ≡ lookedBy n
+  looked-made b p = let g = hit n b e p in ap look.Made (g .same) ∙ sym (ap lookedBy (g .is))
+
+  pub looked-over : x ≡ beat.Over → look.Over ≡ lookedBy n
+  looked-over p = sym (ap lookedBy (missed n e p))

@@ -1,13 +1,14 @@
 -- What a plan says on paper: its reply goes by its resting points' replies, its last point is where the pulses lead, and its points and
 -- speeds are those of the phases. Assumes nothing.
 use mathlib.Core.Path.{_≡_, refl, sym, ap, _∙_}
-use mathlib.Core.Bool.{Bool, true, _&&_}
+use mathlib.Core.Bool.{Bool, true, false, _&&_}
 use mathlib.Core.List.{[], _∷_}
 use Prim.Native.Nat.{ℕ}
 use lib.Dec.{eqb}
 use lib.IntN.{pos}
 use lib.ListN.{take, drop}
 use Rattle.count.specs.Pick.{pick}
+use Rattle.count.specs.Paper.{says}
 use Rattle.count.specs.Numbers.{paper}
 use Rattle.count.specs.declared.Placed.{Placed}
 use Rattle.count.specs.declared.Placed.the-variants as placed
@@ -15,9 +16,15 @@ use Rattle.motion.specs.declared.Counters.{Counters}
 use Rattle.motion.specs.declared.Move.{Move}
 use Rattle.motion.specs.declared.Planned.{Planned}
 use Rattle.motion.specs.declared.Planned.the-variants.{Going, Outside}
+use Rattle.motion.specs.declared.Next.{Next}
+use Rattle.motion.specs.declared.Next.the-variants.{Made, Over}
+use Rattle.motion.specs.declared.Look.the-variants as look
 use Rattle.motion.specs.Plan.{Asked, goalX, goalY, goalZ1, goalZ2, routed, goingTo, planOf, pointThen, plannedPaper}
-use Rattle.motion.specs.Next.{toOf, speedAt, atPhase}
-use Rattle.motion.specs.Sound.{counted}
+use Rattle.motion.specs.Next.{toOf, speedAt, atPhase, nextPaper}
+use Rattle.motion.specs.Sound.{counted, underWay}
+use Rattle.motion.specs.work.Here.{nextOf}
+use Rattle.motion.specs.work.Beat.{beaten, lookedBy, lookOf, beatenPaper, lookPaper}
+use Rattle.motion.proofs.laws.Beats.{next-back}
 use Rattle.motion.proofs.laws.Plans.{plan-sound}
 use Rattle.motion.proofs.laws.Whole.{allPulses, reached, whole}
 
@@ -51,3 +58,19 @@ pub phases-paper : (m : Move) (i j k n : ℕ)
     (pos (speedAt (atPhase m 0 i) n) ∷ pos (speedAt (atPhase m 1 j) n) ∷ pos (speedAt (atPhase m 2 k) n) ∷ [])))
 unfolding toOf speedAt
 phases-paper m i j k n = refl
+
+-- A PULSE WITHOUT THE MOVEMENT says what the pulse says, and so does a look at a movement that 103 lets pass; what it refuses is 103
+pub beaten-paper : (m : Move) (at : Counters) → beatenPaper m (beaten (nextOf m at)) ≡ nextPaper (nextOf m at)
+beaten-paper m at = ap nextPaper (next-back m at)
+
+looked-paper : (m : Move) (n : Next) → lookPaper m (lookedBy n) ≡ beatenPaper m (beaten n)
+looked-paper m (Made s) = refl
+looked-paper m Over = refl
+
+pub look-paper : (m : Move) (at : Counters) → lookPaper m (lookOf m at) ≡ pick (underWay m at) (nextPaper (nextOf m at)) (says 103 [])
+unfolding lookOf
+look-paper m at = by (underWay m at)
+  where
+    by : (b : Bool) → lookPaper m (pick b (lookedBy (nextOf m at)) look.Wrong) ≡ pick b (nextPaper (nextOf m at)) (says 103 [])
+    by true = looked-paper m (nextOf m at) ∙ beaten-paper m at
+    by false = refl

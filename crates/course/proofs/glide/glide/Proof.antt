@@ -22,8 +22,8 @@ abbrev μ-loop : tie.MeasureT-loop
 loop-holds : tie.Need-loop-holds Inv-loop μ-loop
 loop-holds c = (kept-first glides glideOn glideSaid (c .before .args .limit) (here (c .before .args .start) (c .before .args .from)) (c .before .args .out .now), c .before .pre)
 
-within-requires : tie.Need-within-requires Inv-loop μ-loop
-within-requires c κs = search needs
+beat-in-requires : tie.Need-beat-in-requires Inv-loop μ-loop
+beat-in-requires c κs = search needs
 
 enum-known-next : tie.Need-enum-known-next Inv-loop μ-loop
 enum-known-next c = search needs
@@ -42,7 +42,7 @@ returns c =
     let l = c .before .before .before .before .before .loop in
     let a = c .before .before .before .before .before .before .before .args in
     let g = c .glided-to .ensures in
-    (ap (λ (x : Glided). glided x (l .out)) g ∙ last (a .limit) (a .start) (a .from) (a .out .now) (l .n) (atPhase (a .start) (a .start .phase) (l .made)) (l .at) (l .out) (l .k) (l .inv .0) (way-off glides glideOn glideSaid _ _ (over (atPhase (a .start) (a .start .phase) (l .made)) (l .at) (c .before .before .before .within .ensures) (c .before .enum-told .given .1))), rw g (l .inv .0 .short))
+    (ap (λ (x : Glided). glided x (l .out)) g ∙ last (a .limit) (a .start) (a .from) (a .out .now) (l .n) (atPhase (a .start) (a .start .phase) (l .made)) (l .at) (l .out) (l .k) (l .inv .0) (way-off glides glideOn glideSaid _ _ (over (atPhase (a .start) (a .start .phase) (l .made)) (l .at) (c .before .before .before .beat-in .ensures) (c .before .enum-told .given .1))), rw g (l .inv .0 .short))
 
 sub-put-pulse : tie.Need-sub-put-pulse Inv-loop μ-loop
 sub-put-pulse c = search needs
@@ -76,7 +76,7 @@ loop-again : tie.Need-loop-again Inv-loop μ-loop
 loop-again c =
     let l = c .before .before .before .before .before .before .before .before .before .before .before .before .loop in
     let a = c .before .before .before .before .before .before .before .before .before .before .before .before .before .before .args in
-    (turn (a .limit) (a .start) (a .from) (a .out .now) (l .n) (atPhase (a .start) (a .start .phase) (l .made)) (l .at) (l .out) (l .k) (l .inv .0) (c .before .before .before .before .before .before .before .before .next .given .0 .0) _ (c .before .before .put-pulse .result) (c .before .before .before .before .before .before .before .before .before .before .within .ensures) (c .before .before .before .before .before .before .before .before .next .given .1) (c .before .before .before .before .before .before .before .before .before .before .before .loop-test .taken) (l .inv .1) (omega arith) (c .before .before .put-pulse .ensures .0), l .inv .1)
+    (turn (a .limit) (a .start) (a .from) (a .out .now) (l .n) (atPhase (a .start) (a .start .phase) (l .made)) (l .at) (l .out) (l .k) (l .inv .0) (c .before .before .before .before .before .before .before .before .next .given .0 .0) _ (c .before .before .put-pulse .result) (c .before .before .before .before .before .before .before .before .before .before .beat-in .ensures) (c .before .before .before .before .before .before .before .before .next .given .1) (c .before .before .before .before .before .before .before .before .before .before .before .loop-test .taken) (l .inv .1) (omega arith) (c .before .before .put-pulse .ensures .0), l .inv .1)
 
 glided-to-requires-2 : tie.Need-glided-to-requires-2 Inv-loop μ-loop
 glided-to-requires-2 c κs = search needs
@@ -98,7 +98,7 @@ glide-spec =
     Inv-loop
     μ-loop
     loop-holds
-    within-requires
+    beat-in-requires
     enum-known-next
     enum-told
     glided-to-requires

@@ -1,5 +1,4 @@
 -- `engine::Engine::first_pulse` meets its contract. Assumes nothing.
-use mathlib.Core.Path.{_∙_}
 use Rattle.engine.proofs.laws.Acts.{first-made, first-over}
 use borrow.Author.Needs.{needs}
 use Rattle.engine.proofs.Engine.first_pulse.Statement.{statement}

@@ -15,7 +15,7 @@ enum-told : tie.Need-enum-told
 enum-told c = search needs
 
 returns : tie.Need-returns
-returns c = looked-made (nextOf (c .before .before .before .before .args .self) (c .before .before .before .before .args .at)) _ (c .before .before .before .beat .ensures) (c .before .next .given .1)
+returns c = looked-made (nextOf (c .before .before .before .before .args .self) (c .before .before .before .before .args .at)) (c .before .before .before .beat .ensures) _ (c .before .next .given .1)
 
 returns-2 : tie.Need-returns-2
 returns-2 c = looked-over (nextOf (c .before .before .before .args .self) (c .before .before .before .args .at)) (c .before .before .beat .ensures) (c .enum-told .given .1)

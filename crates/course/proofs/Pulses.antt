@@ -1,12 +1,12 @@
 -- The loop over the pulses of a phase. Assumes nothing.
-use Prim.Native.Nat.{ℕ, zero, suc, _+_, _-_, _*_, _<_, _≤_}
+use Prim.Native.Nat.{ℕ, _+_, _-_, _*_, _<_, _≤_}
 use mathlib.Core.Path.{_≡_, sym, subst}
-use mathlib.Core.Bool.{Bool, true, false}
-use mathlib.Core.List.{List, [], _∷_, _++_}
+use mathlib.Core.Bool.{true, false}
+use mathlib.Core.List.{List, [], _∷_}
 use native.Mathlib.Omega.{arith}
 use borrow.Rule.Slice.PartMut.{putMid}
 use lib.ListN.{length, take, drop, length-drop, length-append}
-use Rattle.count.specs.Text.{decimal, digits}
+use Rattle.count.specs.Text.{digits}
 use Rattle.count.proofs.laws.Digits.{decimal-more, decimal-long}
 use Rattle.count.proofs.laws.Lists.{rest}
 use Rattle.motion.specs.declared.Counters.{Counters}
@@ -24,9 +24,9 @@ use Rattle.motion.proofs.laws.Within.{within-rest}
 use Rattle.motion.proofs.laws.Beats.{hit, missed}
 use Rattle.course.specs.Text.{pulseText}
 use Rattle.course.specs.work.Work.{Wrote}
-use Rattle.course.specs.work.Machine.{Way, stays, way, Left}
+use Rattle.course.specs.work.Machine.{stays, way, Left}
 use Rattle.course.specs.work.Glide.{Gone, here, glides, glideOn, glideSaid, gliding}
-use Rattle.course.proofs.Loop.{Part, one-part, Kept, kept-first, kept-last, kept-part}
+use Rattle.course.proofs.Loop.{Part, one-part, Kept, kept-last, kept-part}
 
 -- ---- a line of a pulse has at most twelve bytes
 
@@ -89,7 +89,7 @@ module _ (limit : ℕ) (m₀ : Move) (at₀ : Counters) (out₀ : List ℕ) (n :
       let g = hit (withinOf m at) b e p in
       let s = g .step in
       let t : s .speed ≤ 65535 → Wrote (pulseText (s .signs) (s .speed)) (take (length out - k) (drop k out)) j ys
-          → GKept limit m₀ at₀ out₀ (n + 1) (atPhase m (m .phase) (s .rest .made)) (s .at) (putMid k (length out - k) out ys) (k + j)
-          = λ v w. same-kept (within-rest m at (g .is)) (turned s ys j (g .is) h l v w) in
+      → GKept limit m₀ at₀ out₀ (n + 1) (atPhase m (m .phase) (s .rest .made)) (s .at) (putMid k (length out - k) out ys) (k + j)
+      = λ v w. same-kept (within-rest m at (g .is)) (turned s ys j (g .is) h l v w) in
       subst (λ (c : Beat). c .speed ≤ 65535 → Wrote (pulseText (c .signs) (c .speed)) (take (length out - k) (drop k out)) j ys
-          → GKept limit m₀ at₀ out₀ (n + 1) (atPhase m (m .phase) (c .mark .made)) (c .at) (putMid k (length out - k) out ys) (k + j)) (sym (g .same)) t
+      → GKept limit m₀ at₀ out₀ (n + 1) (atPhase m (m .phase) (c .mark .made)) (c .at) (putMid k (length out - k) out ys) (k + j)) (sym (g .same)) t

@@ -1,13 +1,12 @@
 -- One turn of the run's loop: a clock call, and the pulses that follow it. Assumes nothing.
-use Prim.Native.Nat.{ℕ, zero, suc, _+_, _-_, _*_, _<_, _≤_}
+use Prim.Native.Nat.{ℕ, _+_, _-_, _*_, _<_, _≤_}
 use mathlib.Core.Path.{_≡_, refl, ap, sym, _∙_}
-use mathlib.Core.Bool.{Bool, true, false}
-use mathlib.Core.List.{List, [], _∷_, _++_}
+use mathlib.Core.Bool.{true}
+use mathlib.Core.List.{List, _++_}
 use native.Mathlib.Omega.{arith}
 use borrow.Rule.Slice.PartMut.{putMid}
 use lib.ListN.{length, take, drop}
 use Rattle.motion.specs.work.Here.{nextOf}
-use Rattle.motion.specs.declared.Counters.{Counters}
 use Rattle.motion.specs.declared.Move.{Move}
 use Rattle.record.specs.Places.{fetchOf}
 use Rattle.engine.specs.declared.Engine.{Engine}
@@ -23,11 +22,11 @@ use Rattle.course.specs.declared.Went.{Went}
 use Rattle.course.specs.declared.Glided.{Glided}
 use Rattle.course.specs.Text.{answerText}
 use Rattle.course.specs.work.Work.{Wrote}
-use Rattle.course.specs.work.Machine.{Way, stays, way, Left, leftBy}
+use Rattle.course.specs.work.Machine.{Way, stays, Left, leftBy}
 use Rattle.course.specs.work.Glide as G
-use Rattle.course.specs.work.Glide.{Gone, here, glides, glideOn, glideSaid}
+use Rattle.course.specs.work.Glide.{Gone}
 use Rattle.course.proofs.laws.Going.{glide-joins, glide-few}
-use Rattle.course.specs.work.Going.{tickNext, tickSaid, goWay, inDirect, inMoving, glideJob, wentOf}
+use Rattle.course.specs.work.Going.{tickNext, tickSaid, inDirect, inMoving, glideJob, wentOf}
 use Rattle.course.proofs.Loop.{Part, one-part, Kept, kept-part}
 
 abbrev pub RKept : List ℕ → ℕ → Engine → List ℕ → ℕ → Engine → List ℕ → ℕ → Type 0

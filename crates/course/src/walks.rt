@@ -3,7 +3,6 @@ ghost use mathlib.Core.Path.{_≡_};
 ghost use mathlib.Core.Bool.{_&&_};
 ghost use Prim.Native.Nat.{_+_, _-_, _≤_};
 ghost use lib.Dec.{leb, eqb};
-ghost use lib.ListN.{length};
 ghost use Rattle.board.specs.State.{sound};
 ghost use Rattle.count.specs.Text.{written};
 ghost use Rattle.course.specs.Walk.{first, most, headDone, nextDone, onDone, tailDone};

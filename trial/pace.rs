@@ -1,7 +1,7 @@
 //! `pace`: makes the calls that its input asks for and counts them, for `bench/run`. It reads at most
-//! 65,536 bytes. Byte 0 asks for a listing, byte 1 for 1,000 conversions of the sheet and byte 2 for the
-//! end line of the stored program once more; any other is received, and clock calls follow it until one
-//! answers nothing.
+//! 65,536 bytes. Byte 0 asks for a listing and byte 1 for 1,000 conversions of the sheet; byte 2 puts the
+//! board back to storing the program that it holds, and is no call. Any other is received, and clock calls
+//! follow it until one answers nothing.
 
 use std::io::{self, Read};
 use trial::board::{Answer, Board, Job};
@@ -29,7 +29,7 @@ impl Pace {
         match byte {
             0 => self.list(),
             1 => self.convert_all(),
-            2 => self.check(),
+            2 => self.board.job = Job::Storing,
             _ => {
                 self.receive(byte);
                 self.run();
@@ -62,13 +62,6 @@ impl Pace {
     fn list(&mut self) {
         let len = self.board.list(&self.store, &mut self.text).unwrap_or(0);
         self.count(1, len as u64);
-    }
-
-    /// The end line once more, which has the stored program checked.
-    fn check(&mut self) {
-        self.board.job = Job::Storing;
-        self.receive(b'9');
-        self.receive(b'\r');
     }
 
     fn convert_all(&mut self) {

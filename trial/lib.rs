@@ -1,6 +1,7 @@
 //! A plain board in ordinary Rust, written from the paper: the second opinion on the proved one.
 #![allow(unexpected_cfgs)] // the planted slips: see README.md
 
+pub mod batched;
 pub mod board;
 pub mod by_value;
 pub mod chain;

@@ -119,7 +119,7 @@ impl Move {
     /// The step of axis `a` at pulse `self.made` of `n`: one more step is due exactly if
     /// (2·made·|d| + n) / 2n has passed the steps made so far.
     #[inline]
-    fn sign(&self, phase: usize, a: usize, n: u32, at: i32) -> i8 {
+    pub(crate) fn sign(&self, phase: usize, a: usize, n: u32, at: i32) -> i8 {
         let from = self.points[phase][a];
         let d = (self.points[phase + 1][a] - from) as i64;
         let steps = (at - from).abs() as i64;

@@ -7,10 +7,10 @@ use crate::motion::{self, Setting};
 use crate::number::{write_decimal, write_hexadecimal};
 use crate::record::{self, Record, RECORDS, STORE};
 
-const STOP: u8 = 253;
-const RESET: u8 = 254;
-const BREAK: u8 = 255;
-const RETURN: u8 = 13;
+pub(crate) const STOP: u8 = 253;
+pub(crate) const RESET: u8 = 254;
+pub(crate) const BREAK: u8 = 255;
+pub(crate) const RETURN: u8 = 13;
 
 /// The levels of the four input ports.
 pub type Ports = [u8; 4];

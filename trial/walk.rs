@@ -37,7 +37,12 @@ impl Walk {
             let Ok(answer) = self.board.tick(&self.store) else { break };
             calls += 1;
             match answer {
-                Answer::Pulse(pulse) => self.pulse(pulse),
+                Answer::Pulse(pulse) => {
+                    push_pulse(&mut self.out, pulse);
+                    if cfg!(batched) {
+                        calls += self.glide(LIMIT - calls);
+                    }
+                }
                 Answer::Send(byte) => self.reply(&[byte]),
                 Answer::Pause | Answer::Done | Answer::Nothing => {}
             }
@@ -46,21 +51,21 @@ impl Walk {
         Ok(calls)
     }
 
+    /// The pulses that are left of the phase, until the portion is full; says how many.
+    fn glide(&mut self, most: u32) -> u32 {
+        let out = &mut self.out;
+        self.board.glide(most, |pulse| {
+            push_pulse(out, pulse);
+            out.len() < PORTION
+        })
+    }
+
     fn reply(&mut self, reply: &[u8]) {
         if !reply.is_empty() {
             self.out.extend_from_slice(b"R ");
             self.out.extend_from_slice(reply);
             self.out.push(b'\n');
         }
-    }
-
-    #[inline]
-    fn pulse(&mut self, pulse: Pulse) {
-        let sign = |s: i8| b"-.+"[(s + 1) as usize];
-        let [x, y, z] = pulse.signs;
-        self.out.extend_from_slice(&[b'P', b' ', sign(x), sign(y), sign(z), b' ']);
-        push_decimal(&mut self.out, pulse.speed as i64);
-        self.out.push(b'\n');
     }
 
     fn flush_if_full(&mut self) -> io::Result<()> {
@@ -88,6 +93,15 @@ impl Walk {
     }
 }
 
+#[inline]
+fn push_pulse(out: &mut Vec<u8>, pulse: Pulse) {
+    let sign = |s: i8| b"-.+"[(s + 1) as usize];
+    let [x, y, z] = pulse.signs;
+    out.extend_from_slice(&[b'P', b' ', sign(x), sign(y), sign(z), b' ']);
+    push_decimal(out, pulse.speed as i64);
+    out.push(b'\n');
+}
+
 fn main() -> io::Result<()> {
     let mut walk =
         Walk { board: Board::fresh(), store: vec![0; STORE], out: Vec::with_capacity(PORTION + 64) };
@@ -98,9 +112,14 @@ fn main() -> io::Result<()> {
         if got == 0 {
             break;
         }
-        for &byte in &portion[..got] {
+        let mut left = portion[..got].iter();
+        while let Some(&byte) = left.next() {
             if !walk.byte(byte)? {
                 break 'all;
+            }
+            if cfg!(batched) {
+                let taken = walk.board.take(left.as_slice(), walk.store.len());
+                left = left.as_slice()[taken..].iter();
             }
         }
     }

@@ -37,27 +37,27 @@ impl Walk {
             let Ok(answer) = self.board.tick(&self.store) else { break };
             calls += 1;
             match answer {
-                Answer::Pulse(pulse) => {
-                    push_pulse(&mut self.out, pulse);
-                    if cfg!(batched) {
-                        calls += self.glide(LIMIT - calls);
-                    }
-                }
+                Answer::Pulse(pulse) => push_pulse(&mut self.out, pulse),
                 Answer::Send(byte) => self.reply(&[byte]),
                 Answer::Pause | Answer::Done | Answer::Nothing => {}
             }
             self.flush_if_full()?;
+            if cfg!(batched) && matches!(answer, Answer::Pulse(_)) {
+                calls += self.glide(LIMIT - calls)?;
+            }
         }
         Ok(calls)
     }
 
-    /// The pulses that are left of the phase, until the portion is full; says how many.
-    fn glide(&mut self, most: u32) -> u32 {
+    /// The pulses that are left of the phase, at most so many and until the portion is full; says how many.
+    fn glide(&mut self, most: u32) -> io::Result<u32> {
         let out = &mut self.out;
-        self.board.glide(most, |pulse| {
+        let made = self.board.glide(most, |pulse| {
             push_pulse(out, pulse);
             out.len() < PORTION
-        })
+        });
+        self.flush_if_full()?;
+        Ok(made)
     }
 
     fn reply(&mut self, reply: &[u8]) {

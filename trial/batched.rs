@@ -1,9 +1,11 @@
-//! Many calls as one: the pulses that are left of a phase, and the bytes of a line before its end. `walk` makes
-//! them if it is built with `batched`, and prints the same; `bench/run` measures what that saves in plain Rust.
+//! Many calls as one, for `walk` built with `batched`: the pulses that are left of a phase, and the bytes of a line
+//! before its end. And for `pace` a clock call whose test and pulse share their products.
 
-use crate::board::{Board, Job};
+use crate::board::{Answer, Board, Job, Refusal};
 use crate::motion::{Move, Point, Pulse};
+use crate::number::all_in_24_bits;
 use crate::receive::{BREAK, RESET, RETURN, STOP};
+use crate::record::STORE;
 
 impl Board {
     /// Behind a pulse that a clock call has made: makes those that are left of its phase, at most `most` and as
@@ -17,6 +19,21 @@ impl Board {
             }
             _ => 0,
         }
+    }
+
+    /// A clock call that tests a movement and makes its next pulse from the same products. What it doesn't
+    /// answer so, `clock` answers.
+    #[inline]
+    pub fn stride(&mut self, store: &[u8]) -> Result<Answer, Refusal> {
+        let moves = !self.standing && matches!(self.job, Job::Direct(_) | Job::Moving(_));
+        if moves && store.len() == STORE && self.right(false) {
+            if let Job::Direct(movement) | Job::Moving(movement) = &mut self.job {
+                if let Some(pulse) = movement.tested_pulse(&mut self.position) {
+                    return Ok(Answer::Pulse(pulse));
+                }
+            }
+        }
+        self.clock(store)
     }
 
     /// Takes the bytes at the front that only lengthen the line, if lines are gathered, and says how many.
@@ -56,5 +73,35 @@ impl Move {
         let made = movement.made - self.made;
         (self.made, *counters) = (movement.made, at);
         made
+    }
+
+    /// The next pulse of the phase, if it has one left and the movement is right. `rest` is what `right` has
+    /// between 0 and 2n: the part of a step that is gone, to which a pulse adds 2·|d|.
+    #[inline]
+    fn tested_pulse(&mut self, counters: &mut Point) -> Option<Pulse> {
+        let speeds = self.speeds.iter().all(|s| (30..=10_000).contains(s));
+        let points = all_in_24_bits(self.points.as_flattened());
+        let phase = self.phase as usize;
+        if !speeds || !points || phase > 2 || self.made >= self.pulses(phase) {
+            return None;
+        }
+        let (k, n) = (self.made as i64, self.pulses(phase) as i64);
+        let (mut right, mut signs) = (true, [0i8; 3]);
+        for a in 0..3 {
+            let from = self.points[phase][a];
+            let d = (self.points[phase + 1][a] - from) as i64;
+            let steps = (counters[a] - from) as i64 * if d < 0 { -1 } else { 1 };
+            let rest = 2 * k * d.abs() + n - 2 * n * steps;
+            right &= (0..2 * n).contains(&rest);
+            signs[a] = (rest + 2 * d.abs() >= 2 * n) as i8 * d.signum() as i8;
+        }
+        if !right {
+            return None;
+        }
+        for a in 0..3 {
+            counters[a] += signs[a] as i32;
+        }
+        self.made += 1;
+        Some(Pulse { signs, speed: self.speeds[phase] })
     }
 }

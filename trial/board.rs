@@ -103,14 +103,15 @@ impl Board {
         if store != STORE {
             return Err(STORE_WRONG);
         }
-        if !self.right() {
+        if !self.right(true) {
             return Err(STATE_WRONG);
         }
         Ok(())
     }
 
+    /// The test of 103, with the movement's own or without it.
     #[inline]
-    fn right(&self) -> bool {
+    pub(crate) fn right(&self, movement_too: bool) -> bool {
         all_in_24_bits(&self.position)
             && all_in_24_bits(&self.origin)
             && matches!(self.axes, 0 | 1 | 3 | 7)
@@ -120,7 +121,9 @@ impl Board {
             && self.depth <= 7
             && self.len <= 80
             && match &self.job {
-                Job::Direct(movement) | Job::Moving(movement) => movement.right(&self.position),
+                Job::Direct(movement) | Job::Moving(movement) => {
+                    !movement_too || movement.right(&self.position)
+                }
                 _ => true,
             }
     }

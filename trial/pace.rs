@@ -45,7 +45,9 @@ impl Pace {
 
     fn run(&mut self) {
         for _ in 0..LIMIT {
-            let weight = match self.board.tick(&self.store) {
+            let answer =
+                if cfg!(batched) { self.board.stride(&self.store) } else { self.board.tick(&self.store) };
+            let weight = match answer {
                 Ok(Answer::Pulse(pulse)) => 3 + pulse.speed as u64,
                 Ok(Answer::Pause) => 1,
                 Ok(Answer::Send(byte)) => 1 + byte as u64,

@@ -16,6 +16,7 @@ mod shrink_join;
 mod spaces;
 mod test_ask;
 mod test_ask_join;
+mod test_batched;
 mod test_chain;
 mod test_check;
 mod test_fault;

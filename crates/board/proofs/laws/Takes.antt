@@ -34,14 +34,20 @@ linedFrom i input l = record { line = gatheredAll (take (plainFront input) input
 pub lined-first : (input : List ℕ) (l : Line) → linedOf input l ≡ linedFrom 0 input l
 lined-first input l = rw zero-add
 
--- the code's test
-plain-is : (byte : ℕ) → isPlain byte ≡ not (eqb byte 13 || leb 253 byte)
-plain-is byte = by (eqb byte 13) (leb 253 byte) refl
+-- the code's test: it stops at a carriage return and from the first control code on
+abbrev codesFrom : ℕ
+codesFrom = 253
+
+abbrev stops : ℕ → Bool
+stops byte = eqb byte 13 || leb codesFrom byte
+
+plain-is : (byte : ℕ) → isPlain byte ≡ not (stops byte)
+plain-is byte = by (eqb byte 13) (leb codesFrom byte) refl
   where
-    by : (t u : Bool) → leb 253 byte ≡ u → not t && ltb byte 253 ≡ not (t || u)
+    by : (t u : Bool) → leb codesFrom byte ≡ u → not t && ltb byte codesFrom ≡ not (t || u)
     by true u e = refl
-    by false true e = le-ltb byte 253 (leb-true 253 byte e)
-    by false false e = lt-ltb byte 253 (leb-false 253 byte e)
+    by false true e = le-ltb byte codesFrom (leb-true codesFrom byte e)
+    by false false e = lt-ltb byte codesFrom (leb-false codesFrom byte e)
 
 lined-cons : (i byte : ℕ) (input : List ℕ) (l : Line) → isPlain byte ≡ true → linedFrom i (byte ∷ input) l ≡ linedFrom (i + 1) input (gathered byte l)
 unfolding plainFront gatheredAll
@@ -50,11 +56,11 @@ lined-cons i byte input l h =
     rw (h, e, one-add)
 
 module _ (input : List ℕ) (i : ℕ) (l : Line) where
-  pub lined-stop : i < length input → eqb (getD input i 0) 13 || leb 253 (getD input i 0) ≡ true → linedFrom i (drop i input) l ≡ record { line = l; count = i }
+  pub lined-stop : i < length input → stops (getD input i 0) ≡ true → linedFrom i (drop i input) l ≡ record { line = l; count = i }
   unfolding plainFront gatheredAll
   lined-stop h t = rw (next input i h, plain-is (getD input i 0) ∙ ap not t, add-zero)
 
-  pub lined-next : i < length input → eqb (getD input i 0) 13 || leb 253 (getD input i 0) ≡ false → {m : Line} → gathered (getD input i 0) l ≡ m
+  pub lined-next : i < length input → stops (getD input i 0) ≡ false → {m : Line} → gathered (getD input i 0) l ≡ m
       → linedFrom i (drop i input) l ≡ linedFrom (i + 1) (drop (i + 1) input) m
   lined-next h t e =
       ap (λ (s : List ℕ). linedFrom i s l) (next input i h)
@@ -102,8 +108,8 @@ module _ (b : Board) (h : takes b ≡ true) where
   plain-ear : (byte : ℕ) → isPlain byte ≡ true → ear.Gather ≡ earFor byte b
   unfolding earFor
   plain-ear byte p =
-      let n = and-left (not (eqb byte 13)) (ltb byte 253) p in
-      let l = ltb-true byte 253 (and-right (not (eqb byte 13)) (ltb byte 253) p) in
+      let n = and-left (not (eqb byte 13)) (ltb byte codesFrom) p in
+      let l = ltb-true byte codesFrom (and-right (not (eqb byte 13)) (ltb byte codesFrom) p) in
       rw (ne-eqb byte 253 (λ e. omega arith), ne-eqb byte 254 (λ e. omega arith), ne-eqb byte 255 (λ e. omega arith), resting, not-true (eqb byte 13) n)
 
   -- and a plain one comes to no more than that

@@ -1,4 +1,5 @@
--- `board::Line::gather_all` meets its contract. Assumes nothing.
+-- `board::Line::gather_all` meets its contract. The invariant: what the whole input comes to is what its rest comes to, on the line so far.
+-- The measure is what is left of the input. Assumes nothing.
 use Prim.Native.Nat.{_≤_, _-_}
 use mathlib.Core.Path.{_≡_, sym, _∙_}
 use mathlib.Core.Logic.{⊎-elim}

@@ -64,7 +64,7 @@ pub struct Mark {
     pub made: u32,
 }
 
-// One pulse without the movement, which only its mark tells from the one before: its signs and speed, the counters and the mark afterwards.
+// One pulse without the movement, of which it changes the mark alone: its signs and speed, the counters and the mark afterwards.
 pub struct Beat {
     pub signs: Signs,
     pub speed: u16,

@@ -1,5 +1,5 @@
 -- A pulse without the movement: `Move::beat`, `Move::beat_in` and `Move::look` cite it. The pulse is that of Here, and what is left of the
--- movement is told by its mark alone (the law `beaten-back`).
+-- movement is told by its mark alone (the laws `next-back` and `within-back`).
 use mathlib.Core.List.{[]}
 use Rattle.count.specs.Pick.{pick}
 use Rattle.count.specs.Paper.{Paper, says}

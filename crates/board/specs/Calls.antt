@@ -12,6 +12,7 @@ use Rattle.count.specs.Numbers.{full, value}
 use Rattle.motion.specs.declared.Counters.{Counters}
 use Rattle.motion.specs.Next.{pulseOf}
 use Rattle.record.specs.declared.Listed.{Listed}
+use Rattle.record.specs.Memory.{Memory}
 use Rattle.record.specs.Places.{fetchOf}
 use Rattle.record.specs.Listing.{Telling, telling, listOf}
 use Rattle.engine.specs.declared.Answer.{Answer}
@@ -28,27 +29,35 @@ use Rattle.board.specs.Receive.{hearing}
 
 -- ---- receiving a byte
 
--- the result and both lent buffers afterwards
+-- what it is lent: a reply buffer and the memory
+pub record Lent : Type 0 where
+  pub reply : List ℕ
+  pub memory : Memory
+
+abbrev pub lent : List ℕ → Memory → Lent
+lent reply m = record { reply = reply; memory = m }
+
+-- the result, and what was lent afterwards
 pub record Outcome : Type 0 where
   pub result : Received
-  pub reply : List ℕ
-  pub store : List ℕ
+  pub after : Lent
 
-abbrev pub did : Received → List ℕ → List ℕ → Outcome
-did r reply store = record { result = r; reply = reply; store = store }
+abbrev pub did : Received → Lent → Outcome
+did r l = record { result = r; after = l }
 
-abbrev pub refused : ℕ → Board → List ℕ → List ℕ → Outcome
-refused n b reply store = did (record { board = b; len = 0; refusal = n }) reply store
+abbrev pub refused : ℕ → Board → Lent → Outcome
+refused n b l = did (record { board = b; len = 0; refusal = n }) l
 
 -- bytes past a reply stay
 abbrev pub answered : Said → List ℕ → Outcome
-answered s reply = did (record { board = s .board; len = length (s .reply); refusal = 0 }) (s .reply ++ drop (length (s .reply)) reply) (s .store)
+answered s reply =
+    did (record { board = s .board; len = length (s .reply); refusal = 0 }) (lent (s .reply ++ drop (length (s .reply)) reply) (s .memory))
 
-unfoldable pub receiving : ℕ → List ℕ → Board → List ℕ → List ℕ → Outcome
-receiving byte ports b reply store =
-    pick (ltb (length reply) replyBytes) (refused 101 b reply store)
-    (pick (not (eqb (length store) storeBytes)) (refused 102 b reply store)
-    (pick (not (sound b)) (refused 103 b reply store) (answered (hearing byte ports b store) reply)))
+unfoldable pub receiving : ℕ → List ℕ → Board → Lent → Outcome
+receiving byte ports b l =
+    pick (ltb (length (l .reply)) replyBytes) (refused 101 b l)
+    (pick (not (eqb (length (l .memory .store)) storeBytes)) (refused 102 b l)
+    (pick (not (sound b)) (refused 103 b l) (answered (hearing byte ports b (l .memory)) (l .reply))))
 
 -- ---- a clock call
 
@@ -59,11 +68,11 @@ abbrev pub wentOn : Board → Told → Ticked
 wentOn b t = clocked 0 (board (t .engine) (b .standing) (b .line)) (t .answer)
 
 -- what stands stopped answers nothing and changes nothing; else the engine's call, by 01's formula, on the store's records
-unfoldable pub clocking : Board → List ℕ → Ticked
-clocking b store =
-    pick (not (eqb (length store) storeBytes)) (clocked 102 b answer.Nothing)
+unfoldable pub clocking : Board → Memory → Ticked
+clocking b m =
+    pick (not (eqb (length (m .store)) storeBytes)) (clocked 102 b answer.Nothing)
     (pick (not (sound b)) (clocked 103 b answer.Nothing)
-    (pick (b .standing) (clocked 0 b answer.Nothing) (wentOn b (ticked pulseOf (fetchOf (b .engine .held) store) (b .engine)))))
+    (pick (b .standing) (clocked 0 b answer.Nothing) (wentOn b (ticked pulseOf (fetchOf (b .engine .held) (m .store)) (b .engine)))))
 
 -- ---- the lister: 102, 103, 106, then G
 

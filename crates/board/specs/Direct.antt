@@ -10,6 +10,7 @@ use Rattle.count.specs.Text.{report, twoHex}
 use Rattle.motion.specs.declared.Planned.{Planned}
 use Rattle.motion.specs.declared.Planned.the-variants as planned
 use Rattle.motion.specs.Plan.{asked, planOf}
+use Rattle.record.specs.Memory.{Memory}
 use Rattle.record.specs.Fault.{Asks, asking, just, any, unknown, asks, numbersReply}
 use Rattle.line.specs.declared.Letter.{Letter}
 use Rattle.line.specs.declared.Letter.the-variants as letter
@@ -164,12 +165,12 @@ effectOf letter.Start l ports e s = pick s (effect e false []) (effect (started 
 effectOf letter.Wrong l ports e s = effect e s (ch "5" ∷ [])
 
 -- an accepted line has its effect; the line is empty after every return
-abbrev pub acceptedSaid : Effect → List ℕ → Said
-acceptedSaid f store = said (board (f .engine) (f .standing) noLine) (f .reply) store
+abbrev pub acceptedSaid : Effect → Memory → Said
+acceptedSaid f m = said (board (f .engine) (f .standing) noLine) (f .reply) m
 
 -- a refused one sends its one character and changes nothing but the line
-unfoldable pub directSaid : Direct → List ℕ → Board → List ℕ → Said
-directSaid d ports b store =
+unfoldable pub directSaid : Direct → List ℕ → Board → Memory → Said
+directSaid d ports b m =
     pick (eqb (replyOf (b .engine) (b .standing) d) (ch "0"))
-    (acceptedSaid (effectOf (d .letter) (d .words) ports (b .engine) (b .standing)) store)
-    (said (lineDone b) (replyOf (b .engine) (b .standing) d ∷ []) store)
+    (acceptedSaid (effectOf (d .letter) (d .words) ports (b .engine) (b .standing)) m)
+    (said (lineDone b) (replyOf (b .engine) (b .standing) d ∷ []) m)

@@ -5,6 +5,7 @@ use mathlib.Core.List.{List, [], _∷_}
 use lib.Dec.{ltb, eqb}
 use Rattle.count.specs.Chars.{ch}
 use Rattle.count.specs.Pick.{pick}
+use Rattle.record.specs.Memory.{Memory}
 use Rattle.line.specs.Lines.{directOf, storedOf}
 use Rattle.engine.specs.declared.Job.{Job}
 use Rattle.engine.specs.Kinds.{Ear, kind, rowOf}
@@ -29,21 +30,21 @@ abbrev pub isStoring : Job → Bool
 isStoring j = rowOf (kind j) .isStoring
 
 -- a carriage return ends the line: one of more than 80 bytes is refused 5; while storing, and nothing stands, it is a record's or the end
-unfoldable pub returned : List ℕ → Board → List ℕ → Said
-returned ports b store =
-    pick (b .line .over) (said (lineDone b) (ch "5" ∷ []) store)
-    (pick (isStoring (b .engine .run .job) && not (b .standing)) (storedSaid (storedOf (textOf (b .line))) b store)
-    (directSaid (directOf (textOf (b .line))) ports b store))
+unfoldable pub returned : List ℕ → Board → Memory → Said
+returned ports b m =
+    pick (b .line .over) (said (lineDone b) (ch "5" ∷ []) m)
+    (pick (isStoring (b .engine .run .job) && not (b .standing)) (storedSaid (storedOf (textOf (b .line))) b m)
+    (directSaid (directOf (textOf (b .line))) ports b m))
 
-unfoldable pub gathering : ℕ → List ℕ → Board → List ℕ → Said
-gathering byte ports b store =
-    pick (eqb byte (ch "\r")) (returned ports b store)
-    (said (withLine b (gathered byte (b .line))) [] store)
+unfoldable pub gathering : ℕ → List ℕ → Board → Memory → Said
+gathering byte ports b m =
+    pick (eqb byte (ch "\r")) (returned ports b m)
+    (said (withLine b (gathered byte (b .line))) [] m)
 
-abbrev pub ordinary : Ear → ℕ → List ℕ → Board → List ℕ → Said
-ordinary gathers byte ports b store = gathering byte ports b store
-ordinary drops byte ports b store = said b [] store
-ordinary waits byte ports b store = said (board (heard byte (b .engine)) (b .standing) (b .line)) [] store
+abbrev pub ordinary : Ear → ℕ → List ℕ → Board → Memory → Said
+ordinary gathers byte ports b m = gathering byte ports b m
+ordinary drops byte ports b m = said b [] m
+ordinary waits byte ports b m = said (board (heard byte (b .engine)) (b .standing) (b .line)) [] m
 
 -- ---- the three control codes
 
@@ -60,31 +61,31 @@ breakCode = 255
 abbrev pub holdsBy : Job → Bool
 holdsBy j = rowOf (kind j) .stops
 
-unfoldable pub stopped : Board → List ℕ → Said
-stopped b store =
+unfoldable pub stopped : Board → Memory → Said
+stopped b m =
     pick (holdsBy (b .engine .run .job) && not (b .standing))
-    (said (board (b .engine) true (b .line)) (ch "F" ∷ []) store)
-    (said b [] store)
+    (said (board (b .engine) true (b .line)) (ch "F" ∷ []) m)
+    (said b [] m)
 
 -- break (255) ends what runs, waits or stands stopped, sends F and keeps the positions reached; when idle or storing it does nothing
 abbrev pub endsBy : Job → Bool
 endsBy j = rowOf (kind j) .breaks
 
-unfoldable pub broken : Board → List ℕ → Said
-broken b store =
+unfoldable pub broken : Board → Memory → Said
+broken b m =
     pick (endsBy (b .engine .run .job) || b .standing)
-    (said (board (ceased (b .engine)) false (b .line)) (ch "F" ∷ []) store)
-    (said b [] store)
+    (said (board (ceased (b .engine)) false (b .line)) (ch "F" ∷ []) m)
+    (said b [] m)
 
 -- reset (254) clears line and run, sends nothing
-unfoldable pub resetSaid : Board → List ℕ → Said
-resetSaid b store = said (board (resetOf (b .engine)) false noLine) [] store
+unfoldable pub resetSaid : Board → Memory → Said
+resetSaid b m = said (board (resetOf (b .engine)) false noLine) [] m
 
 -- ---- one byte
 
-unfoldable pub hearing : ℕ → List ℕ → Board → List ℕ → Said
-hearing byte ports b store =
-    pick (eqb byte stopCode) (stopped b store)
-    (pick (eqb byte resetCode) (resetSaid b store)
-    (pick (eqb byte breakCode) (broken b store)
-    (ordinary (earOf b) byte ports b store)))
+unfoldable pub hearing : ℕ → List ℕ → Board → Memory → Said
+hearing byte ports b m =
+    pick (eqb byte stopCode) (stopped b m)
+    (pick (eqb byte resetCode) (resetSaid b m)
+    (pick (eqb byte breakCode) (broken b m)
+    (ordinary (earOf b) byte ports b m)))

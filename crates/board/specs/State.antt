@@ -6,6 +6,7 @@ use lib.Dec.{leb, ltb}
 use lib.ListN.{take, set, replicate}
 use Rattle.count.specs.Sizes.{lineBytes}
 use Rattle.count.specs.Pick.{pick}
+use Rattle.record.specs.Memory.{Memory}
 use Rattle.engine.specs.declared.Engine.{Engine}
 use Rattle.engine.specs.Sound.{soundOf}
 use Rattle.board.specs.declared.Line.{Line}
@@ -39,14 +40,14 @@ withLine b l = board (b .engine) (b .standing) l
 abbrev pub lineDone : Board → Board
 lineDone b = withLine b noLine
 
--- what a byte comes to in a call that is not refused: the board, the bytes of its reply, and the store
+-- what a byte comes to in a call that is not refused: the board, the bytes of its reply, and the memory
 pub record Said : Type 0 where
   pub board : Board
   pub reply : List ℕ
-  pub store : List ℕ
+  pub memory : Memory
 
-abbrev pub said : Board → List ℕ → List ℕ → Said
-said b reply store = record { board = b; reply = reply; store = store }
+abbrev pub said : Board → List ℕ → Memory → Said
+said b reply m = record { board = b; reply = reply; memory = m }
 
 -- ---- 103: what is asked of the engine, and a line of at most 80 bytes
 

@@ -9,6 +9,7 @@ use Rattle.count.specs.Text.{fourDigits}
 use Rattle.record.specs.declared.Held.{Held}
 use Rattle.record.specs.declared.Record.{Record}
 use Rattle.record.specs.Fault.{countRight, axesRight, rangesRight, speedsRight, numbersReply}
+use Rattle.record.specs.Memory.{Memory, memory}
 use Rattle.record.specs.Keep.{storeOf}
 use Rattle.program.specs.declared.Verdict.{Verdict}
 use Rattle.program.specs.declared.Verdict.the-variants.{Sound, Fault, Unreadable}
@@ -24,18 +25,18 @@ abbrev pub recordOf : ℕ → Stored → Record
 recordOf c d = record { code = c; count = d .count; words = d .words }
 
 -- the rows of the table that a record can meet: 7, 3, 1, D and 6; counts and ranges go by the store's axes, and 4 and 9 are never given here
-unfoldable pub recordReply : Held → Record → List ℕ → ℕ
-recordReply h r store =
+unfoldable pub recordReply : Held → Record → Memory → ℕ
+recordReply h r m =
     numbersReply (countRight (h .axes) (r .code) (r .count)) (axesRight (h .axes) (r .code) (r .words))
     (rangesRight (h .axes) (r .code) (r .words)) (speedsRight (h .axes) (r .code) (r .words))
-    (pick (not (storeOf h r store .kept .stored)) (ch "6") (ch "0"))
+    (pick (not (storeOf h r (m .store) .kept .stored)) (ch "6") (ch "0"))
 
 -- a right record is written at the end of the part in use; a refused one isn't stored and storing goes on
-abbrev pub recordSaid : Record → Board → List ℕ → Said
-recordSaid r b store =
-    pick (eqb (recordReply (b .engine .held) r store) (ch "0"))
-    (said (board (withHeld (b .engine) (storeOf (b .engine .held) r store .kept .held)) (b .standing) noLine) (ch "0" ∷ []) (storeOf (b .engine .held) r store .bytes))
-    (said (lineDone b) (recordReply (b .engine .held) r store ∷ []) store)
+abbrev pub recordSaid : Record → Board → Memory → Said
+recordSaid r b m =
+    pick (eqb (recordReply (b .engine .held) r m) (ch "0"))
+    (said (board (withHeld (b .engine) (storeOf (b .engine .held) r (m .store) .kept .held)) (b .standing) noLine) (ch "0" ∷ []) (memory (storeOf (b .engine .held) r (m .store) .bytes)))
+    (said (lineDone b) (recordReply (b .engine .held) r m ∷ []) m)
 
 -- behind the G of a failed check: the letter of the fault and the record's place as four digits; nothing if the store isn't readable
 abbrev pub namedFault : Verdict → List ℕ
@@ -44,16 +45,16 @@ namedFault (Fault letter place) = letter ∷ fourDigits place
 namedFault Unreadable = []
 
 -- `9` ends storing: 0, or G with the store emptied if the check fails
-abbrev pub endSaid : Board → List ℕ → Said
-endSaid b store =
-    pick (isSound (verdictOf (b .engine .held) store))
-    (said (board (ceased (b .engine)) (b .standing) noLine) (ch "0" ∷ []) store)
-    (said (board (ceased (emptied (b .engine))) (b .standing) noLine) (ch "G" ∷ namedFault (verdictOf (b .engine .held) store)) store)
+abbrev pub endSaid : Board → Memory → Said
+endSaid b m =
+    pick (isSound (verdictOf (b .engine .held) (m .store)))
+    (said (board (ceased (b .engine)) (b .standing) noLine) (ch "0" ∷ []) m)
+    (said (board (ceased (emptied (b .engine))) (b .standing) noLine) (ch "G" ∷ namedFault (verdictOf (b .engine .held) (m .store))) m)
 
-abbrev pub storedBy : Code → Stored → Board → List ℕ → Said
-storedBy code.Wrong d b store = said (lineDone b) (ch "5" ∷ []) store
-storedBy (code.Record c) d b store = recordSaid (recordOf c d) b store
-storedBy code.End d b store = endSaid b store
+abbrev pub storedBy : Code → Stored → Board → Memory → Said
+storedBy code.Wrong d b m = said (lineDone b) (ch "5" ∷ []) m
+storedBy (code.Record c) d b m = recordSaid (recordOf c d) b m
+storedBy code.End d b m = endSaid b m
 
-unfoldable pub storedSaid : Stored → Board → List ℕ → Said
-storedSaid d b store = storedBy (d .code) d b store
+unfoldable pub storedSaid : Stored → Board → Memory → Said
+storedSaid d b m = storedBy (d .code) d b m

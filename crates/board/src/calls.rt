@@ -1,9 +1,10 @@
 // The calls, with their refusals 101, 102 and 103 in this order, and what a host reads of a board.
 ghost use mathlib.Core.Path.{_≡_};
+ghost use Rattle.record.specs.Memory.{memory};
 ghost use Rattle.record.specs.Listing.{telling};
 ghost use Rattle.engine.specs.work.Acts.{isWrong};
 ghost use Rattle.board.specs.State.{sound};
-ghost use Rattle.board.specs.Calls.{did, receiving, clocked, clocking, listing, fresh, point};
+ghost use Rattle.board.specs.Calls.{lent, did, receiving, clocked, clocking, listing, fresh, point};
 use crate::Board;
 use crate::Ear;
 use crate::Line;
@@ -95,7 +96,7 @@ impl Board {
 
     // A byte received, with the input ports; the reply stands at the front of its buffer.
     pub fn receive(self, byte: u8, ports: [u8; 4], reply: &mut [u8], store: &mut [u8]) -> Received
-        ensures { λ r. ⌜ did r (now (reply .exit)) (now (store .exit)) ≡ receiving byte ports self (now (reply .entry)) (now (store .entry)) ⌝ }
+        ensures { λ r. ⌜ did r (lent (now (reply .exit)) (memory (now (store .exit)))) ≡ receiving byte ports self (lent (now (reply .entry)) (memory (now (store .entry)))) ⌝ }
     {
         if reply.len() < 32 {
             return self.refuse(101);
@@ -125,7 +126,7 @@ impl Board {
 
     // A clock call; what stands stopped answers nothing.
     pub fn clock(self, store: &[u8]) -> Ticked
-        ensures { λ r. ⌜ r ≡ clocking self (now (store .entry)) ⌝ }
+        ensures { λ r. ⌜ r ≡ clocking self (memory (now (store .entry))) ⌝ }
     {
         if store.len() != 16384 {
             return self.still(102);

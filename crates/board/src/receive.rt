@@ -1,6 +1,7 @@
 // One received byte: gathered, dropped or taken by a wait, and the three control codes.
 ghost use mathlib.Core.Path.{_≡_};
 ghost use Prim.Native.Nat.{_≤_};
+ghost use Rattle.record.specs.Memory.{memory};
 ghost use Rattle.engine.specs.State.{heard};
 ghost use Rattle.board.specs.State.{board, gathered, withLine};
 ghost use mathlib.Core.Bool.{false, _||_};
@@ -205,7 +206,7 @@ impl Board {
     // A carriage return ends the line.
     fn end_line(self, ports: [u8; 4], store: &mut [u8]) -> Spoke
         requires { ⌜ self .line .len ≤ 80 ⌝ }
-        ensures { λ r. ⌜ spoke r (now (store .exit)) ≡ returned ports self (now (store .entry)) ⌝ }
+        ensures { λ r. ⌜ spoke r (memory (now (store .exit))) ≡ returned ports self (memory (now (store .entry))) ⌝ }
     {
         let l = self.line;
         let e = self.engine;
@@ -234,7 +235,7 @@ impl Board {
     // What a byte comes to that is not gathered.
     pub(crate) fn hear(self, ear: Ear, byte: u8, ports: [u8; 4], store: &mut [u8]) -> Spoke
         requires { ⌜ (self .line .len ≤ 80) × (isGather ear ≡ false) ⌝ }
-        ensures { λ r. ⌜ spoke r (now (store .exit)) ≡ heardAs ear byte ports self (now (store .entry)) ⌝ }
+        ensures { λ r. ⌜ spoke r (memory (now (store .exit))) ≡ heardAs ear byte ports self (memory (now (store .entry))) ⌝ }
     {
         match ear {
             Ear::Gather => self.says(Saying::Silent),

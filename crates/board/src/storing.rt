@@ -2,6 +2,7 @@
 ghost use mathlib.Core.Path.{_≡_};
 ghost use mathlib.Core.Bool.{true};
 ghost use Prim.Native.Nat.{_≤_};
+ghost use Rattle.record.specs.Memory.{memory};
 ghost use Rattle.record.specs.Fault.{isCode};
 ghost use Rattle.line.specs.Lines.{storedOf};
 ghost use Rattle.board.specs.State.{textOf};
@@ -18,7 +19,7 @@ use record::Record;
 impl Board {
     // A right record is written at the end of the part in use, where there is room for it.
     fn keep(self, item: Record, store: &mut [u8]) -> Spoke
-        ensures { λ r. ⌜ spoke r (now (store .exit)) ≡ keptSaid item self (now (store .entry)) ⌝ }
+        ensures { λ r. ⌜ spoke r (memory (now (store .exit))) ≡ keptSaid item self (memory (now (store .entry))) ⌝ }
     {
         let e = self.engine;
         let held = e.held;
@@ -31,7 +32,7 @@ impl Board {
 
     fn record_line(self, code: u8, d: Stored, store: &mut [u8]) -> Spoke
         requires { ⌜ isCode code ≡ true ⌝ }
-        ensures { λ r. ⌜ spoke r (now (store .exit)) ≡ recordSaid (recordOf code d) self (now (store .entry)) ⌝ }
+        ensures { λ r. ⌜ spoke r (memory (now (store .exit))) ≡ recordSaid (recordOf code d) self (memory (now (store .entry))) ⌝ }
     {
         let e = self.engine;
         let held = e.held;
@@ -51,7 +52,7 @@ impl Board {
 
     // `9` ends storing: 0; or, with the store emptied, G with the letter and the place of the fault, alone if the store isn't readable.
     fn end_storing(self, store: &[u8]) -> Spoke
-        ensures { λ r. ⌜ spoke r (now (store .entry)) ≡ endSaid self (now (store .entry)) ⌝ }
+        ensures { λ r. ⌜ spoke r (memory (now (store .entry))) ≡ endSaid self (memory (now (store .entry))) ⌝ }
     {
         let e = self.engine;
         let verdict = program::check(store, e.held);
@@ -65,7 +66,7 @@ impl Board {
 
     pub(crate) fn store_line(self, store: &mut [u8]) -> Spoke
         requires { ⌜ self .line .len ≤ 80 ⌝ }
-        ensures { λ r. ⌜ spoke r (now (store .exit)) ≡ storedSaid (storedOf (textOf (self .line))) self (now (store .entry)) ⌝ }
+        ensures { λ r. ⌜ spoke r (memory (now (store .exit))) ≡ storedSaid (storedOf (textOf (self .line))) self (memory (now (store .entry))) ⌝ }
     {
         let l = self.line;
         let d = l.as_stored();

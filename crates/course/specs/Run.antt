@@ -6,6 +6,7 @@ use lib.Dec.{eqb}
 use lib.ListN.{length, drop}
 use Rattle.count.specs.Sizes.{storeBytes}
 use Rattle.count.specs.Pick.{pick}
+use Rattle.record.specs.Memory.{Memory}
 use Rattle.engine.specs.Tick.{runsOf}
 use Rattle.board.specs.declared.Board.{Board}
 use Rattle.board.specs.declared.Ticked.{Ticked}
@@ -32,11 +33,11 @@ abbrev pub then : List ℕ → Course → Course
 then t c = record { board = c .board; calls = 1 + c .calls; text = t ++ c .text }
 
 -- at most k clock calls
-unfoldable pub course : ℕ → List ℕ → Board → Course
-course zero store b = noCalls b
-course (suc k) store b =
+unfoldable pub course : ℕ → Memory → Board → Course
+course zero m b = noCalls b
+course (suc k) m b =
     (elim (runsNow b) [
-      | true ↦ then (answerText (clocking b store .answer)) (course k store (clocking b store .board))
+      | true ↦ then (answerText (clocking b m .answer)) (course k m (clocking b m .board))
       | false ↦ noCalls b
     ])
 
@@ -62,7 +63,7 @@ ran c out =
     didRun (record { board = c .board; calls = c .calls; over = not (runsNow (c .board)); len = length (c .text); refusal = 0 })
     (c .text ++ drop (length (c .text)) out)
 
-unfoldable pub runOutcome : ℕ → Board → List ℕ → List ℕ → RunOutcome
-runOutcome limit b store out =
-    pick (not (eqb (length store) storeBytes)) (refusedRun 102 b out)
-    (pick (not (sound b)) (refusedRun 103 b out) (ran (course (allowed limit out) store b) out))
+unfoldable pub runOutcome : ℕ → Board → Memory → List ℕ → RunOutcome
+runOutcome limit b m out =
+    pick (not (eqb (length (m .store)) storeBytes)) (refusedRun 102 b out)
+    (pick (not (sound b)) (refusedRun 103 b out) (ran (course (allowed limit out) m b) out))

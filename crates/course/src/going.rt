@@ -2,6 +2,7 @@
 ghost use mathlib.Core.Path.{_≡_};
 ghost use Prim.Native.Nat.{_≤_, _*_};
 ghost use lib.ListN.{length};
+ghost use Rattle.record.specs.Memory.{memory};
 ghost use Rattle.course.specs.work.Machine.{leftBy};
 ghost use Rattle.course.specs.work.Going.{wentOf, glideJob, goWay};
 use super::Went;
@@ -42,7 +43,7 @@ fn glide_on(e: Engine, limit: u32, out: &mut [u8]) -> Went
 // At most so many clock calls, with twelve bytes of room for each.
 pub(crate) fn go(start: Engine, store: &[u8], limit: u32, out: &mut [u8]) -> Went
     requires { ⌜ 12 * limit ≤ length (now out) ⌝ }
-    ensures { λ r. ⌜ wentOf r (now (out .exit)) ≡ leftBy (goWay (now (store .entry)) limit start) (now (out .entry)) ⌝ }
+    ensures { λ r. ⌜ wentOf r (now (out .exit)) ≡ leftBy (goWay (memory (now (store .entry))) limit start) (now (out .entry)) ⌝ }
 {
     let mut e = start;
     let mut n: u32 = 0;

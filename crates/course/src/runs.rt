@@ -2,6 +2,7 @@
 ghost use mathlib.Core.Path.{_≡_};
 ghost use Prim.Native.Nat.{_/_, min};
 ghost use lib.ListN.{length};
+ghost use Rattle.record.specs.Memory.{memory};
 ghost use Rattle.course.specs.Run.{runsNow, allowed, didRun, runOutcome};
 ghost use Rattle.course.specs.work.Work.{stood};
 use super::Ran;
@@ -42,7 +43,7 @@ fn rest(board: Board, refusal: u16) -> Ran
 
 // Clock calls until the board is idle, storing, stopped or waiting, at most so many, and what `walk` prints of them.
 pub fn run(board: Board, store: &[u8], limit: u32, out: &mut [u8]) -> Ran
-    ensures { λ r. ⌜ didRun r (now (out .exit)) ≡ runOutcome limit board (now (store .entry)) (now (out .entry)) ⌝ }
+    ensures { λ r. ⌜ didRun r (now (out .exit)) ≡ runOutcome limit board (memory (now (store .entry))) (now (out .entry)) ⌝ }
 {
     if store.len() != 16384 {
         return rest(board, 102);

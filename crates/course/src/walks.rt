@@ -3,6 +3,7 @@ ghost use mathlib.Core.Path.{_≡_};
 ghost use mathlib.Core.Bool.{_&&_};
 ghost use Prim.Native.Nat.{_+_, _-_, _≤_};
 ghost use lib.Dec.{leb, eqb};
+ghost use Rattle.record.specs.Memory.{memory};
 ghost use Rattle.board.specs.State.{sound};
 ghost use Rattle.count.specs.Text.{written};
 ghost use Rattle.course.specs.Walk.{first, most, headDone, nextDone, onDone, tailDone};
@@ -89,7 +90,7 @@ impl Walk {
 
     // A byte, if the run before it is over: its reply, and as much of its run as the rest of the buffer holds.
     pub fn next(self, byte: u8, store: &mut [u8], out: &mut [u8]) -> Portion
-        ensures { λ r. ⌜ doneOf r (now (store .exit)) (now (out .exit)) ≡ nextDone byte self (now (store .entry)) (now (out .entry)) ⌝ }
+        ensures { λ r. ⌜ doneOf r (memory (now (store .exit))) (now (out .exit)) ≡ nextDone byte self (memory (now (store .entry))) (now (out .entry)) ⌝ }
     {
         if !self.over {
             return self.stay();
@@ -149,7 +150,7 @@ impl Walk {
 
     // A run that is not over goes on, up to its 100,000 calls.
     pub fn go_on(self, store: &[u8], out: &mut [u8]) -> Portion
-        ensures { λ r. ⌜ doneOf r (now (store .entry)) (now (out .exit)) ≡ onDone self (now (store .entry)) (now (out .entry)) ⌝ }
+        ensures { λ r. ⌜ doneOf r (memory (now (store .entry))) (now (out .exit)) ≡ onDone self (memory (now (store .entry))) (now (out .entry)) ⌝ }
     {
         if self.over {
             return self.stay();

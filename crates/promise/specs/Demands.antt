@@ -15,6 +15,7 @@ use Rattle.motion.specs.declared.Counters.{Counters}
 use Rattle.line.specs.declared.Direct.{Direct}
 use Rattle.line.specs.Lines.{letterPaper, directOf}
 use Rattle.record.specs.declared.Held.{Held}
+use Rattle.record.specs.Memory.{Memory}
 use Rattle.record.specs.Places.{inUse}
 use Rattle.record.specs.Bytes.{Below}
 use Rattle.program.specs.Program.{verdictOf, accepted}
@@ -25,9 +26,10 @@ use Rattle.engine.specs.State.{ceased, emptied}
 use Rattle.board.specs.declared.Board.{Board}
 use Rattle.board.specs.State.{board, noLine, textOf, lineDone}
 use Rattle.board.specs.Storing.{namedFault}
+use Rattle.board.specs.Calls.{Lent, lent}
 use Rattle.board.specs.Receive.{isStoring, resetCode}
 use Rattle.course.specs.Run.{runsNow}
-use Rattle.promise.specs.Machine.{Machine, Lent, lent, Heard, Event, byte, clock, next, afterAll}
+use Rattle.promise.specs.Machine.{Machine, RightMemory, Heard, Event, byte, clock, next, afterAll}
 
 -- ---- what a host reads
 
@@ -67,14 +69,14 @@ abbrev pub unstored : Board → Board
 unstored b = board (ceased (emptied (b .engine))) (b .standing) noLine
 
 -- a refused line: the reply is one character; at the end line it is G, and with a fault six: G, the letter of the fault and the record's
--- place as four digits (02 §1). Both buffers are else as given, and the board is the very board before with an empty line; G at the end line
+-- place as four digits (02 §1). What is lent is else as given, and the board is the very board before with an empty line; G at the end line
 -- also leaves the store empty
 pub record Untouched (b b′ : Board) (l l′ : Lent) (c : ℕ) (t : List ℕ) : Type 0 where
   pub alone : endLine b ≡ false → t ≡ []
   pub letter : endLine b ≡ true → c ≡ ch "G"
-  pub named : endLine b ≡ true → t ≡ namedFault (verdictOf (b .engine .held) (l .store))
+  pub named : endLine b ≡ true → t ≡ namedFault (verdictOf (b .engine .held) (l .memory .store))
   pub reply : l′ .reply ≡ (c ∷ t) ++ drop (length (c ∷ t)) (l .reply)
-  pub store : l′ .store ≡ l .store
+  pub memory : l′ .memory ≡ l .memory
   pub board : b′ ≡ pick (endLine b) (unstored b) (lineDone b)
 
 -- no reply at a return
@@ -120,8 +122,8 @@ module _ (m : Machine) where
   RefusedCall =
       ((v : ℕ) (ports : List ℕ) (l : Lent) (s : m .State) → (hears v ports l s .refusal ≡ 0 → ⊥)
       → ((m .hear v ports l s) .0 ≡ s) × (hears v ports l s .after ≡ l) × (hears v ports l s .len ≡ 0))
-      × ((store : List ℕ) (s : m .State) → ((m .tick store s) .1 .refusal ≡ 0 → ⊥)
-      → ((m .tick store s) .0 ≡ s) × ((m .tick store s) .1 .answer ≡ says 5 []))
+      × ((mem : Memory) (s : m .State) → ((m .tick mem s) .1 .refusal ≡ 0 → ⊥)
+      → ((m .tick mem s) .0 ≡ s) × ((m .tick mem s) .1 .answer ≡ says 5 []))
       × ((store text : List ℕ) (s : m .State) → (m .list store text s .listed .refusal ≡ 0 → ⊥)
       → (m .list store text s .text ≡ text) × (m .list store text s .listed .len ≡ 0))
 
@@ -129,8 +131,8 @@ module _ (m : Machine) where
 
   abbrev pub Quiet : Type 0
   Quiet =
-      (store : List ℕ) (s : m .State) → m .board s .standing || idles (m .board s) || stores (m .board s) || waits (m .board s) ≡ true
-      → ((m .tick store s) .0 ≡ s) × ((m .tick store s) .1 .answer ≡ says 5 [])
+      (mem : Memory) (s : m .State) → m .board s .standing || idles (m .board s) || stores (m .board s) || waits (m .board s) ≡ true
+      → ((m .tick mem s) .0 ≡ s) × ((m .tick mem s) .1 .answer ≡ says 5 [])
 
 -- ---- demand 2: a position is the sum of that axis's pulses since it was last set to zero
 
@@ -177,7 +179,7 @@ module _ (m : Machine) where
   -- the sum so far with one event more
   abbrev pub sumAfter : Axis → Event → m .State → ℤ → ℤ
   sumAfter a (byte v ports l) s t = pick (zeroes a v (m .board s) ((m .hear v ports l s) .1)) (pos 0) t
-  sumAfter a (clock store) s t = t +ℤ adds a ((m .tick store s) .1 .answer)
+  sumAfter a (clock mem) s t = t +ℤ adds a ((m .tick mem s) .1 .answer)
 
   unfoldable pub pulseSum : Axis → List Event → m .State → ℤ → ℤ
   pulseSum a [] s t = t
@@ -190,32 +192,32 @@ module _ (m : Machine) where
   -- ---- the run's number of clock calls (01, "How tight the statements are", last fake)
 
   -- so many clock calls one after the other
-  unfoldable pub ticks : ℕ → List ℕ → m .State → m .State
-  ticks zero store s = s
-  ticks (suc k) store s = ticks k store ((m .tick store s) .0)
+  unfoldable pub ticks : ℕ → Memory → m .State → m .State
+  ticks zero mem s = s
+  ticks (suc k) mem s = ticks k mem ((m .tick mem s) .0)
 
   -- the calls that a run says it used are the clock calls it made: at most the limit, each on a board that runs, and fewer only if the
   -- board runs no more
-  pub record CountedRun (limit : ℕ) (store : List ℕ) (s s′ : m .State) (calls : ℕ) : Type 0 where
-    pub made : s′ ≡ ticks calls store s
+  pub record CountedRun (limit : ℕ) (mem : Memory) (s s′ : m .State) (calls : ℕ) : Type 0 where
+    pub made : s′ ≡ ticks calls mem s
     pub most : calls ≤ limit
-    pub each : (j : ℕ) → j < calls → runsNow (m .board (ticks j store s)) ≡ true
+    pub each : (j : ℕ) → j < calls → runsNow (m .board (ticks j mem s)) ≡ true
     pub over : calls < limit → runsNow (m .board s′) ≡ false
 
   abbrev pub Counted : Type 0
-  Counted = (limit : ℕ) (store : List ℕ) (s : m .State) → CountedRun limit store s ((m .go limit store s) .0) ((m .go limit store s) .1)
+  Counted = (limit : ℕ) (mem : Memory) (s : m .State) → CountedRun limit mem s ((m .go limit mem s) .0) ((m .go limit mem s) .1)
 
 -- ---- no dead end: from the first state on, with buffers of the right lengths, no call is refused
 
--- a reply buffer of at least 32 bytes and a store of 16,384
+-- a reply buffer of at least 32 bytes and a memory as asked for
 abbrev pub RightLent : Event → Type 0
-RightLent (byte v ports l) = (replyBytes ≤ length (l .reply)) × (length (l .store) ≡ storeBytes)
-RightLent (clock store) = length store ≡ storeBytes
+RightLent (byte v ports l) = (replyBytes ≤ length (l .reply)) × RightMemory (l .memory)
+RightLent (clock mem) = RightMemory mem
 
 module _ (m : Machine) where
   abbrev pub refusalOf : Event → m .State → ℕ
   refusalOf (byte v ports l) s = (m .hear v ports l s) .1 .refusal
-  refusalOf (clock store) s = (m .tick store s) .1 .refusal
+  refusalOf (clock mem) s = (m .tick mem s) .1 .refusal
 
   abbrev pub NoDeadEnd : Type 0
   NoDeadEnd = (es : List Event) (e : Event) → RightLent e → refusalOf e (afterAll m es (m .first)) ≡ 0
@@ -239,27 +241,27 @@ zeroAtReturns [] = []
 zeroAtReturns (v ∷ t) = pick (eqb v (ch "\r")) (ch "0" ∷ []) [] ∷ zeroAtReturns t
 
 module _ (m : Machine) where
-  -- the state and the store after sending bytes, and the reply to each byte
+  -- the state and the memory after sending bytes, and the reply to each byte
   pub record Sent : Type 0 where
     pub state : m .State
-    pub store : List ℕ
+    pub memory : Memory
     pub replies : List (List ℕ)
 
   abbrev pub after : List ℕ → Sent → Sent
-  after r x = record { state = x .state; store = x .store; replies = r ∷ x .replies }
+  after r x = record { state = x .state; memory = x .memory; replies = r ∷ x .replies }
 
-  -- bytes from the i-th on, the store handed on from byte to byte
-  unfoldable pub sent : Host → ℕ → List ℕ → m .State → List ℕ → Sent
-  sent h i [] s store = record { state = s; store = store; replies = [] }
-  sent h i (v ∷ l) s store =
-      let r = m .hear v (h .ports i) (lent (h .reply i) store) (ticks m (h .calls i) store s) in
-      after (replied (r .1)) (sent h (suc i) l (r .0) (r .1 .after .store))
+  -- bytes from the i-th on, the memory handed on from byte to byte
+  unfoldable pub sent : Host → ℕ → List ℕ → m .State → Memory → Sent
+  sent h i [] s mem = record { state = s; memory = mem; replies = [] }
+  sent h i (v ∷ l) s mem =
+      let r = m .hear v (h .ports i) (lent (h .reply i) mem) (ticks m (h .calls i) mem s) in
+      after (replied (r .1)) (sent h (suc i) l (r .0) (r .1 .after .memory))
 
   -- every line is accepted, and the store's part in use is the same: its bytes, used length, records and axes
   pub record Restored (h : Held) (store t : List ℕ) (x : Sent) : Type 0 where
     pub replies : x .replies ≡ zeroAtReturns t
     pub held : m .board (x .state) .engine .held ≡ h
-    pub bytes : inUse h (x .store) ≡ inUse h store
+    pub bytes : inUse h (x .memory .store) ≡ inUse h store
     pub idle : idles (m .board (x .state)) ≡ true
 
   -- what is sent to store the program again that a state lists: its axes, `i`, and what the lister wrote into a text buffer
@@ -267,17 +269,17 @@ module _ (m : Machine) where
   listedLines store text s =
       storingText (m .board s .engine .held .axes) (take (m .list store text s .listed .len) (m .list store text s .text))
 
-  -- it is listed, and its lines sent to the first state with any other store are accepted and store the same
-  pub record ListedAgain (store text other : List ℕ) (host : Host) (s : m .State) : Type 0 where
+  -- it is listed, and its lines sent to the first state with any other memory are accepted and store the same
+  pub record ListedAgain (store text : List ℕ) (other : Memory) (host : Host) (s : m .State) : Type 0 where
     pub listed : m .list store text s .listed .refusal ≡ 0
     pub restored : Restored (m .board s .engine .held) store (listedLines store text s) (sent host 0 (listedLines store text s) (m .first) other)
 
   -- from the first state on, after any events, whatever was lent: an accepted program
   abbrev pub RoundTrip : Type 0
   RoundTrip =
-      (es : List Event) (store text other : List ℕ) (host : Host)
+      (es : List Event) (store text : List ℕ) (other : Memory) (host : Host)
       → length store ≡ storeBytes → Below 256 store → accepted (m .board (afterAll m es (m .first)) .engine .held) store ≡ true
-      → textBytes ≤ length text → length other ≡ storeBytes → Below 256 other
+      → textBytes ≤ length text → RightMemory other → Below 256 (other .store)
       → ListedAgain store text other host (afterAll m es (m .first))
 
   -- from the first state on, after any events, whatever was lent: the end line answered 0 makes the store an accepted program
@@ -285,12 +287,12 @@ module _ (m : Machine) where
   EndAccepts =
       (es : List Event) (ports : List ℕ) (l : Lent) → endLine (m .board (afterAll m es (m .first))) ≡ true
       → hears m (ch "\r") ports l (afterAll m es (m .first)) .refusal ≡ 0 → getD (replied (hears m (ch "\r") ports l (afterAll m es (m .first)))) 0 0 ≡ ch "0"
-      → accepted (boardThen m (ch "\r") ports l (afterAll m es (m .first)) .engine .held) (hears m (ch "\r") ports l (afterAll m es (m .first)) .after .store) ≡ true
+      → accepted (boardThen m (ch "\r") ports l (afterAll m es (m .first)) .engine .held) (hears m (ch "\r") ports l (afterAll m es (m .first)) .after .memory .store) ≡ true
 
   -- both ends joined: once the end line is answered 0, with bytes lent as the store, the program is listed, and its lines store the same
   abbrev pub EndToEnd : Type 0
   EndToEnd =
-      (es : List Event) (ports : List ℕ) (l : Lent) (text other : List ℕ) (host : Host) → endLine (m .board (afterAll m es (m .first))) ≡ true
+      (es : List Event) (ports : List ℕ) (l : Lent) (text : List ℕ) (other : Memory) (host : Host) → endLine (m .board (afterAll m es (m .first))) ≡ true
       → hears m (ch "\r") ports l (afterAll m es (m .first)) .refusal ≡ 0 → getD (replied (hears m (ch "\r") ports l (afterAll m es (m .first)))) 0 0 ≡ ch "0"
-      → Below 256 (l .store) → textBytes ≤ length text → length other ≡ storeBytes → Below 256 other
-      → ListedAgain (hears m (ch "\r") ports l (afterAll m es (m .first)) .after .store) text other host ((m .hear (ch "\r") ports l (afterAll m es (m .first))) .0)
+      → Below 256 (l .memory .store) → textBytes ≤ length text → RightMemory other → Below 256 (other .store)
+      → ListedAgain (hears m (ch "\r") ports l (afterAll m es (m .first)) .after .memory .store) text other host ((m .hear (ch "\r") ports l (afterAll m es (m .first))) .0)

@@ -17,6 +17,7 @@ use Rattle.sheet.specs.Chain.{results, chained, chainOf}
 use Rattle.motion.specs.declared.Counters.{Counters}
 use Rattle.motion.specs.Next.{pulseOf}
 use Rattle.record.specs.declared.Record.{Record}
+use Rattle.record.specs.Memory.{Memory}
 use Rattle.record.specs.Places.{inUse, Records, recordsOf, fetchOf, encodeAll}
 use Rattle.record.specs.Places.Records.{are, none-are}
 use Rattle.program.specs.declared.Verdict.{Verdict}
@@ -36,9 +37,9 @@ use Rattle.board.specs.declared.Ticked.{Ticked}
 use Rattle.board.specs.State.{board, textOf, lineDone}
 use Rattle.board.specs.Storing.{namedFault}
 use Rattle.board.specs.Receive.{hearing, stopCode}
-use Rattle.board.specs.Calls.{Outcome, refused, answered, clocked, wentOn, receiving, clocking, fresh}
-use Rattle.course.specs.Walk.{noStore}
-use Rattle.promise.specs.Machine.{Machine, Lent, Heard, Clocked, lent, heardBy, clockedBy, ours}
+use Rattle.board.specs.Calls.{Lent, lent, Outcome, refused, answered, clocked, wentOn, receiving, clocking, fresh}
+use Rattle.course.specs.Walk.{noMemory}
+use Rattle.promise.specs.Machine.{Machine, Heard, Clocked, heardBy, clockedBy, ours}
 use Rattle.promise.specs.Demands.{idles, stores}
 use Rattle.promise.specs.Named.{faulty}
 use Rattle.promise.specs.Stop.{stoppable}
@@ -51,17 +52,17 @@ use Rattle.promise.specs.Route.{comes}
 abbrev hearsSo : (ℕ → List ℕ → Lent → Board → Board × Heard) → Machine
 hearsSo h = record { State = Board; board = λ b. b; first = fresh; hear = h; tick = ours .tick; go = ours .go; list = ours .list }
 
-abbrev ticksSo : (List ℕ → Board → Board × Clocked) → Machine
+abbrev ticksSo : (Memory → Board → Board × Clocked) → Machine
 ticksSo t = record { State = Board; board = λ b. b; first = fresh; hear = ours .hear; tick = t; go = ours .go; list = ours .list }
 
-abbrev goesSo : (ℕ → List ℕ → Board → Board × ℕ) → Machine
+abbrev goesSo : (ℕ → Memory → Board → Board × ℕ) → Machine
 goesSo g = record { State = Board; board = λ b. b; first = fresh; hear = ours .hear; tick = ours .tick; go = g; list = ours .list }
 
 -- ---- 01's first, second and third
 
 -- every return is answered with one byte
 abbrev saysAlone : ℕ → Lent → Heard
-saysAlone c l = record { len = 1; refusal = 0; after = lent (c ∷ drop 1 (l .reply)) (l .store) }
+saysAlone c l = record { len = 1; refusal = 0; after = lent (c ∷ drop 1 (l .reply)) (l .memory) }
 
 -- it refuses all lines: every return is answered 5
 abbrev pub refuses : Machine
@@ -73,7 +74,7 @@ agrees = hearsSo (λ v ports l b. pick (eqb v (ch "\r")) (lineDone b, saysAlone 
 
 -- its clock call does nothing
 abbrev pub sleeps : Machine
-sleeps = ticksSo (λ store b. (b, record { answer = says 5 []; refusal = 0 }))
+sleeps = ticksSo (λ mem b. (b, record { answer = says 5 []; refusal = 0 }))
 
 -- ---- 01's fourth: ours with a flag that is set once it has stood stopped; from then on a host reads another board, or hears other answers
 
@@ -86,8 +87,8 @@ sinceStop shows tells = record {
   board = λ s. pick (s .1) (shows (s .0)) (s .0);
   first = (fresh, false);
   hear = λ v ports l s. (((ours .hear v ports l (s .0)) .0, s .1 || (ours .hear v ports l (s .0)) .0 .standing), (ours .hear v ports l (s .0)) .1);
-  tick = λ store s. (((ours .tick store (s .0)) .0, s .1), pick (s .1) (toldAs tells ((ours .tick store (s .0)) .1)) ((ours .tick store (s .0)) .1));
-  go = λ limit store s. (((ours .go limit store (s .0)) .0, s .1), (ours .go limit store (s .0)) .1);
+  tick = λ mem s. (((ours .tick mem (s .0)) .0, s .1), pick (s .1) (toldAs tells ((ours .tick mem (s .0)) .1)) ((ours .tick mem (s .0)) .1));
+  go = λ limit mem s. (((ours .go limit mem (s .0)) .0, s .1), (ours .go limit mem (s .0)) .1);
   list = λ store text s. ours .list store text (s .0);
 }
 
@@ -117,7 +118,7 @@ mutes = sinceStop (λ b. b) muted
 -- ---- 01's fifth: it invents its number of clock calls, by any rule; one more than it made
 
 abbrev pub miscounts : (ℕ → ℕ) → Machine
-miscounts f = goesSo (λ limit store b. ((ours .go limit store b) .0, f ((ours .go limit store b) .1)))
+miscounts f = goesSo (λ limit mem b. ((ours .go limit mem b) .0, f ((ours .go limit mem b) .1)))
 
 abbrev pub invents : Machine
 invents = miscounts (λ n. n + 1)
@@ -144,36 +145,36 @@ turns = spoils turned
 
 -- a stop loses a pulse: it makes one clock call whose answer nobody sees
 abbrev pub losesPulse : Machine
-losesPulse = hearsSo (λ v ports l b. ours .hear v ports l (pick (eqb v stopCode && stoppable b) ((ours .tick (l .store) b) .0) b))
+losesPulse = hearsSo (λ v ports l b. ours .hear v ports l (pick (eqb v stopCode && stoppable b) ((ours .tick (l .memory) b) .0) b))
 
 -- ---- calls that are to be refused
 
 -- a state that 103 refuses is not refused: it hears and ticks on
-abbrev pub unseen : ℕ → List ℕ → Board → List ℕ → List ℕ → Outcome
-unseen v ports b reply store =
-    pick (ltb (length reply) replyBytes) (refused 101 b reply store)
-    (pick (not (eqb (length store) storeBytes)) (refused 102 b reply store) (answered (hearing v ports b store) reply))
+abbrev pub unseen : ℕ → List ℕ → Board → Lent → Outcome
+unseen v ports b l =
+    pick (ltb (length (l .reply)) replyBytes) (refused 101 b l)
+    (pick (not (eqb (length (l .memory .store)) storeBytes)) (refused 102 b l) (answered (hearing v ports b (l .memory)) (l .reply)))
 
-abbrev pub unseenTick : Board → List ℕ → Ticked
-unseenTick b store =
-    pick (not (eqb (length store) storeBytes)) (clocked 102 b answer.Nothing)
-    (pick (b .standing) (clocked 0 b answer.Nothing) (wentOn b (ticked pulseOf (fetchOf (b .engine .held) store) (b .engine))))
+abbrev pub unseenTick : Board → Memory → Ticked
+unseenTick b mem =
+    pick (not (eqb (length (mem .store)) storeBytes)) (clocked 102 b answer.Nothing)
+    (pick (b .standing) (clocked 0 b answer.Nothing) (wentOn b (ticked pulseOf (fetchOf (b .engine .held) (mem .store)) (b .engine))))
 
 abbrev pub blind : Machine
 blind = record {
   State = Board;
   board = λ b. b;
   first = fresh;
-  hear = λ v ports l b. (unseen v ports b (l .reply) (l .store) .result .board, heardBy (unseen v ports b (l .reply) (l .store)));
-  tick = λ store b. (unseenTick b store .board, clockedBy (unseenTick b store));
+  hear = λ v ports l b. (unseen v ports b l .result .board, heardBy (unseen v ports b l));
+  tick = λ mem b. (unseenTick b mem .board, clockedBy (unseenTick b mem));
   go = ours .go;
   list = ours .list;
 }
 
 -- a clock call that is refused 102 is answered so, and yet makes the call on an empty store
 abbrev pub stirs : Machine
-stirs = ticksSo (λ store b.
-    pick (eqb (length store) storeBytes) (ours .tick store b) ((ours .tick noStore b) .0, record { answer = says 5 []; refusal = 102 }))
+stirs = ticksSo (λ mem b.
+    pick (eqb (length (mem .store)) storeBytes) (ours .tick mem b) ((ours .tick noMemory b) .0, record { answer = says 5 []; refusal = 102 }))
 
 -- ---- where a program goes
 
@@ -182,7 +183,7 @@ abbrev pub further : Board → Board
 further b = board (withRun (b .engine) (running (b .engine .run .job) (b .engine .run .place + 1) (b .engine .run .loops))) (b .standing) (b .line)
 
 abbrev pub shiftsIf : (Board → Ticked → Bool) → Machine
-shiftsIf when = ticksSo (λ store b. (pick (when b (clocking b store)) (further (clocking b store .board)) (clocking b store .board), clockedBy (clocking b store)))
+shiftsIf when = ticksSo (λ mem b. (pick (when b (clocking b mem)) (further (clocking b mem .board)) (clocking b mem .board), clockedBy (clocking b mem)))
 
 -- whatever goes back and runs on goes back one record short: a loop at i with offset -k to i - k + 1
 abbrev pub shorts : Machine
@@ -195,20 +196,20 @@ overleaps = shiftsIf (λ b t. eqb (clockedBy t .answer .number) 1 && comes (t .b
 -- ---- what is stored
 
 -- every line is answered as ours answers it, and the store's bytes are lost where storing has ended
-abbrev pub lost : Board → Outcome → List ℕ
-lost b o = pick (stores b && idles (o .result .board)) noStore (o .store)
+abbrev pub lost : Board → Outcome → Memory
+lost b o = pick (stores b && idles (o .result .board)) noMemory (o .after .memory)
 
 abbrev pub lossy : Board → Outcome → Board × Heard
-lossy b o = (o .result .board, record { len = o .result .len; refusal = o .result .refusal; after = lent (o .reply) (lost b o) })
+lossy b o = (o .result .board, record { len = o .result .len; refusal = o .result .refusal; after = lent (o .after .reply) (lost b o) })
 
 abbrev pub losesBytes : Machine
-losesBytes = hearsSo (λ v ports l b. lossy b (receiving v ports b (l .reply) (l .store)))
+losesBytes = hearsSo (λ v ports l b. lossy b (receiving v ports b l))
 
 -- ---- the fault that the end line names (02 §1)
 
--- a reply, and both buffers else as given
+-- a reply, and what is lent else as given
 abbrev saysText : List ℕ → Lent → Heard
-saysText t l = record { len = length t; refusal = 0; after = lent (t ++ drop (length t) (l .reply)) (l .store) }
+saysText t l = record { len = length t; refusal = 0; after = lent (t ++ drop (length t) (l .reply)) (l .memory) }
 
 abbrev toldOn : (List Record → Verdict) → Records → Verdict
 toldOn f (are l) = f l
@@ -217,7 +218,7 @@ toldOn f none-are = Unreadable
 -- where ours names a fault, which is where a reply has six bytes, this one says another verdict on the program
 abbrev pub renamed : (List Record → Verdict) → Lent → Board → Board × Heard → Board × Heard
 renamed f l b x =
-    pick (eqb (x .1 .len) 6) (x .0, saysText (ch "G" ∷ namedFault (toldOn f (recordsOf (b .engine .held) (l .store)))) l) x
+    pick (eqb (x .1 .len) 6) (x .0, saysText (ch "G" ∷ namedFault (toldOn f (recordsOf (b .engine .held) (l .memory .store)))) l) x
 
 abbrev renames : (List Record → Verdict) → Machine
 renames f = hearsSo (λ v ports l b. renamed f l b (ours .hear v ports l b))

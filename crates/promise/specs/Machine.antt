@@ -1,25 +1,23 @@
 -- A machine: anything that hears bytes and clock calls and that a host can read as a board. The demands speak of any machine; ours is
 -- the one that the definitions of the board and of its runs make.
 use Prim.Native.Nat.{ℕ, _+_}
-use mathlib.Core.Bool.{Bool, true, false}
+use mathlib.Core.Path.{_≡_}
 use mathlib.Core.List.{List, [], _∷_}
-use lib.IntN.{ℤ}
+use lib.ListN.{length}
+use Rattle.count.specs.Sizes.{storeBytes}
 use Rattle.count.specs.Paper.{Paper}
 use Rattle.engine.specs.State.{paper}
+use Rattle.record.specs.Memory.{Memory}
 use Rattle.record.specs.Listing.{Telling}
 use Rattle.board.specs.declared.Board.{Board}
 use Rattle.board.specs.declared.Received.{Received}
 use Rattle.board.specs.declared.Ticked.{Ticked}
-use Rattle.board.specs.Calls.{Outcome, receiving, clocking, listing, fresh}
+use Rattle.board.specs.Calls.{Lent, Outcome, receiving, clocking, listing, fresh}
 use Rattle.course.specs.Run.{Course, course}
 
--- what a call is lent: a reply buffer and a store
-pub record Lent : Type 0 where
-  pub reply : List ℕ
-  pub store : List ℕ
-
-abbrev pub lent : List ℕ → List ℕ → Lent
-lent reply store = record { reply = reply; store = store }
+-- a memory as every call asks for it: a store of 16,384 bytes
+abbrev pub RightMemory : Memory → Type 0
+RightMemory mem = length (mem .store) ≡ storeBytes
 
 -- what hearing a byte comes to beside the next state: the length of the reply, the refusal's number or 0, and what was lent afterwards
 pub record Heard : Type 0 where
@@ -39,17 +37,17 @@ pub record Machine : Type 1 where
   pub first : State
   -- a byte with the input ports and what is lent
   pub hear : ℕ → List ℕ → Lent → State → State × Heard
-  -- a clock call with the store that is lent
-  pub tick : List ℕ → State → State × Clocked
+  -- a clock call with the memory that is lent
+  pub tick : Memory → State → State × Clocked
   -- a run of at most so many clock calls, with the number of calls that it says it used
-  pub go : ℕ → List ℕ → State → State × ℕ
+  pub go : ℕ → Memory → State → State × ℕ
   -- the lister with the store and the text buffer that are lent: it is only told of the state, so it changes nothing of it
   pub list : List ℕ → List ℕ → State → Telling
 
 -- ---- ours
 
 abbrev pub heardBy : Outcome → Heard
-heardBy o = record { len = o .result .len; refusal = o .result .refusal; after = lent (o .reply) (o .store) }
+heardBy o = record { len = o .result .len; refusal = o .result .refusal; after = o .after }
 
 abbrev pub clockedBy : Ticked → Clocked
 clockedBy t = record { answer = paper (t .answer); refusal = t .refusal }
@@ -59,9 +57,9 @@ ours = record {
   State = Board;
   board = λ b. b;
   first = fresh;
-  hear = λ byte ports l b. (receiving byte ports b (l .reply) (l .store) .result .board, heardBy (receiving byte ports b (l .reply) (l .store)));
-  tick = λ store b. (clocking b store .board, clockedBy (clocking b store));
-  go = λ limit store b. (course limit store b .board, course limit store b .calls);
+  hear = λ byte ports l b. (receiving byte ports b l .result .board, heardBy (receiving byte ports b l));
+  tick = λ mem b. (clocking b mem .board, clockedBy (clocking b mem));
+  go = λ limit mem b. (course limit mem b .board, course limit mem b .calls);
   list = λ store text b. listing b store text;
 }
 
@@ -69,12 +67,12 @@ ours = record {
 
 pub data Event : Type 0 where
   byte : ℕ → List ℕ → Lent → Event
-  clock : List ℕ → Event
+  clock : Memory → Event
 
 module _ (m : Machine) where
   abbrev pub next : Event → m .State → m .State
   next (byte b ports l) s = (m .hear b ports l s) .0
-  next (clock store) s = (m .tick store s) .0
+  next (clock mem) s = (m .tick mem s) .0
 
   unfoldable pub afterAll : List Event → m .State → m .State
   afterAll [] s = s

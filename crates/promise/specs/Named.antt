@@ -14,7 +14,8 @@ use Rattle.record.specs.Places.{recordsOf}
 use Rattle.record.specs.Places.Records.{are, none-are}
 use Rattle.program.specs.Check.{outside, early, overlaps, holders, strays}
 use Rattle.program.specs.Program.{loopAt, turnAt, targetAt, axesSet, accepted}
-use Rattle.promise.specs.Machine.{Machine, Lent}
+use Rattle.board.specs.Calls.{Lent}
+use Rattle.promise.specs.Machine.{Machine}
 use Rattle.promise.specs.Demands.{replied, endLine, hears}
 
 -- place p of a program has the fault that a letter stands for
@@ -50,7 +51,7 @@ pub data EndReply (h : Held) (store reply : List ℕ) : Type 0 where
 abbrev pub EndNames : Machine → Type 0
 EndNames m =
     (ports : List ℕ) (l : Lent) (s : m .State) → endLine (m .board s) ≡ true → hears m (ch "\r") ports l s .refusal ≡ 0
-    → EndReply (m .board s .engine .held) (l .store) (replied (hears m (ch "\r") ports l s))
+    → EndReply (m .board s .engine .held) (l .memory .store) (replied (hears m (ch "\r") ports l s))
 
 -- a program is accepted exactly if at most 16,384 bytes and 1,000 records are in use, it was written under axes 1, 3 or 7, is readable, and
 -- no place has a fault

@@ -7,7 +7,6 @@ use mathlib.Core.Path.{_≡_}
 use lib.Dec.{eqb}
 use lib.IntN.{ℤ, pos, negsuc}
 use lib.ListN.{length, getD}
-use Rattle.count.specs.Sizes.{storeBytes}
 use Rattle.count.specs.Chars.{ch}
 use Rattle.count.specs.Pick.{pick}
 use Rattle.count.specs.Ranges.{nth}
@@ -24,12 +23,13 @@ use Rattle.engine.specs.declared.Job.the-variants as job
 use Rattle.engine.specs.State.{running, noPulse}
 use Rattle.board.specs.declared.Board.{Board}
 use Rattle.board.specs.State.{textOf, sound}
-use Rattle.promise.specs.Machine.{Machine, Lent, Event, afterAll}
+use Rattle.board.specs.Calls.{Lent}
+use Rattle.promise.specs.Machine.{Machine, RightMemory, Event, afterAll}
 use Rattle.promise.specs.Demands.{idles}
 use Rattle.promise.specs.Steps.{Each}
 use Rattle.promise.specs.Stop.{Step, Lending, receive, call, Elsewhere, isOwn, rests, Place, boardAt, ahead}
 
--- the one store is altered by nobody else
+-- the one memory is altered by nobody else
 abbrev pub Alone : Step → Type 0
 Alone (receive v ports reply d) = Elsewhere d
 Alone (call d) = Elsewhere d
@@ -107,12 +107,12 @@ module _ (m : Machine) where
     pub standing : boardAt m p .standing ≡ false
     pub held : boardAt m p .engine .held ≡ h
     pub run : boardAt m p .engine .run ≡ running job.Ready 0 noLoops
-    pub store : length (p .1) ≡ storeBytes
+    pub memory : RightMemory (p .1)
 
   -- whatever bytes and clock calls come then, and however they are lent: its visits are a route through the program
   abbrev pub Routes : Type 0
   Routes =
-      (h : Held) (l : List Record) (p : Place m) (es : List Step) → Started h p → accepted h (p .1) ≡ true → recordsOf h (p .1) ≡ are l →
+      (h : Held) (l : List Record) (p : Place m) (es : List Step) → Started h p → accepted h (p .1 .store) ≡ true → recordsOf h (p .1 .store) ≡ are l →
       Each Alone es → Route l (visits m p es)
 
   -- from the first state on, after any events, whatever was lent: S on an idle board, in a call that is not refused and without a reply,
@@ -123,4 +123,4 @@ module _ (m : Machine) where
       letterPaper (directOf (textOf (m .board (afterAll m es (m .first)) .line)) .letter) .number ≡ ch "S" →
       (m .hear (ch "\r") ports l (afterAll m es (m .first))) .1 .refusal ≡ 0 → (m .hear (ch "\r") ports l (afterAll m es (m .first))) .1 .len ≡ 0 →
       Started (m .board (afterAll m es (m .first)) .engine .held)
-      ((m .hear (ch "\r") ports l (afterAll m es (m .first))) .0, (m .hear (ch "\r") ports l (afterAll m es (m .first))) .1 .after .store)
+      ((m .hear (ch "\r") ports l (afterAll m es (m .first))) .0, (m .hear (ch "\r") ports l (afterAll m es (m .first))) .1 .after .memory)

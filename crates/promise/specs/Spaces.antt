@@ -1,5 +1,5 @@
 -- 02 §8, of any machine: two lines of at most 80 bytes that differ only in the spaces after their commas get the same reply and leave the
--- same state and the same store bytes.
+-- same state and the same memory, store bytes and all.
 use Prim.Native.Nat.{ℕ, _≤_}
 use mathlib.Core.Path.{_≡_}
 use mathlib.Core.Bool.{true, false, _||_}
@@ -8,6 +8,7 @@ use lib.ListN.{length}
 use Rattle.count.specs.Sizes.{lineBytes}
 use Rattle.count.specs.Chars.{ch}
 use Rattle.line.specs.Spaces.{SameButSpaces}
+use Rattle.record.specs.Memory.{Memory}
 use Rattle.board.specs.declared.Board.{Board}
 use Rattle.promise.specs.Machine.{Machine}
 use Rattle.promise.specs.Demands.{idles, stores, Host, Sent, sent}
@@ -40,21 +41,21 @@ silence (v ∷ t) = [] ∷ silence t
 
 module _ (m : Machine) where
   -- a line and its return, byte by byte
-  abbrev pub sending : Host → List ℕ → m .State → List ℕ → Sent m
-  sending h t s store = sent m h 0 (t ++ ch "\r" ∷ []) s store
+  abbrev pub sending : Host → List ℕ → m .State → Memory → Sent m
+  sending h t s mem = sent m h 0 (t ++ ch "\r" ∷ []) s mem
 
-  -- the same state, the same store, and the same reply, to the return alone
+  -- the same state, the same memory, and the same reply, to the return alone
   pub record SameOutcome (t u : List ℕ) (x y : Sent m) : Type 0 where
     pub state : x .state ≡ y .state
-    pub store : x .store ≡ y .store
+    pub memory : x .memory ≡ y .memory
     pub reply : List ℕ
     pub one : x .replies ≡ silence t ++ reply ∷ []
     pub other : y .replies ≡ silence u ++ reply ∷ []
 
-  -- on every state with no line begun and every store, sound or refused, with any reply buffers of 32 or more bytes and the same ports at
+  -- on every state with no line begun and every memory, sound or refused, with any reply buffers of 32 or more bytes and the same ports at
   -- both returns
   abbrev pub SpacesChangeNothing : Type 0
   SpacesChangeNothing =
-      (g h : Host) (t u : List ℕ) (s : m .State) (store : List ℕ)
+      (g h : Host) (t u : List ℕ) (s : m .State) (mem : Memory)
       → IsLine t → IsLine u → SameButSpaces t u → NoneBegun (m .board s) → Between g (m .board s) → Between h (m .board s)
-      → g .ports (length t) ≡ h .ports (length u) → SameOutcome t u (sending g t s store) (sending h u s store)
+      → g .ports (length t) ≡ h .ports (length u) → SameOutcome t u (sending g t s mem) (sending h u s mem)

@@ -11,6 +11,7 @@ use Rattle.count.specs.Sizes.{storeBytes, replyBytes}
 use Rattle.count.specs.Chars.{ch}
 use Rattle.count.specs.Pick.{pick}
 use Rattle.count.specs.Paper.{Paper, says}
+use Rattle.record.specs.Memory.{Memory}
 use Rattle.engine.specs.declared.Engine.{Engine}
 use Rattle.engine.specs.declared.Job.{Job}
 use Rattle.engine.specs.Kinds.{kind, rowOf}
@@ -19,31 +20,32 @@ use Rattle.line.specs.Lines.{letterPaper, directOf}
 use Rattle.board.specs.State.{board, noLine, textOf, sound}
 use Rattle.board.specs.Direct.{replyOf}
 use Rattle.board.specs.Receive.{stopCode, resetCode}
-use Rattle.promise.specs.Machine.{Machine, Lent, Heard, lent, Event, afterAll}
+use Rattle.board.specs.Calls.{Lent, lent}
+use Rattle.promise.specs.Machine.{Machine, RightMemory, Heard, Event, afterAll}
 use Rattle.promise.specs.Demands.{isWaiting, idles}
 use Rattle.promise.specs.Steps.{Each, reached, shown, Along, keptOf}
 
--- ---- schedules: received bytes with their ports, and clock calls. Each is lent a reply buffer of any length and either the one store, as
--- the call before it left it, or another slice.
+-- ---- schedules: received bytes with their ports, and clock calls. Each is lent a reply buffer of any length and either the one memory,
+-- as the call before it left it, or another.
 
 pub data Lending : Type 0 where
   own : Lending
-  other : List ℕ → Lending
+  other : Memory → Lending
 
 pub data Step : Type 0 where
   receive : ℕ → List ℕ → List ℕ → Lending → Step
   call : Lending → Step
 
--- the one store is altered by nobody else: whatever else is lent as a store has another length, and every call with it is refused 102
+-- the one memory is altered by nobody else: whatever else is lent has a store of another length, and every call with it is refused 102
 abbrev pub Elsewhere : Lending → Type 0
 Elsewhere own = Unit
-Elsewhere (other t) = length t ≡ storeBytes → ⊥
+Elsewhere (other t) = RightMemory t → ⊥
 
 abbrev pub isOwn : Lending → Bool
 isOwn own = true
 isOwn (other t) = false
 
--- neither 101 nor 102: a reply buffer of at least 32 bytes and the one store
+-- neither 101 nor 102: a reply buffer of at least 32 bytes and the one memory
 abbrev pub rightly : Step → Bool
 rightly (receive v ports reply d) = leb replyBytes (length reply) && isOwn d
 rightly (call d) = isOwn d
@@ -109,30 +111,30 @@ abbrev pub speedsOf : List Paper → List ℤ
 speedsOf [] = []
 speedsOf (a ∷ l) = speedOf a ++ speedsOf l
 
--- what a run leaves beside the store: positions, origins, output, 3D, axes, the store's part in use, job, place, loops
+-- what a run leaves beside the memory: positions, origins, output, 3D, axes, the store's part in use, job, place, loops
 abbrev pub final : Board → Engine
 final b = b .engine
 
 module _ (m : Machine) where
-  -- a machine and the bytes of the one store
+  -- a machine and the one memory
   abbrev pub Place : Type 0
-  Place = m .State × List ℕ
+  Place = m .State × Memory
 
   abbrev pub boardAt : Place → Board
   boardAt p = m .board (p .0)
 
-  -- the store that a step is lent, and the one store after it
-  abbrev pub lentTo : Place → Lending → List ℕ
+  -- the memory that a step is lent, and the one memory after it
+  abbrev pub lentTo : Place → Lending → Memory
   lentTo p own = p .1
   lentTo p (other t) = t
 
-  abbrev pub storeAfter : Place → Lending → List ℕ → List ℕ
-  storeAfter p own s = s
-  storeAfter p (other t) s = p .1
+  abbrev pub memoryAfter : Place → Lending → Memory → Memory
+  memoryAfter p own t = t
+  memoryAfter p (other u) t = p .1
 
   abbrev pub ahead : Place → Step → Place
   ahead p (receive v ports reply d) =
-      ((m .hear v ports (lent reply (lentTo p d)) (p .0)) .0, storeAfter p d ((m .hear v ports (lent reply (lentTo p d)) (p .0)) .1 .after .store))
+      ((m .hear v ports (lent reply (lentTo p d)) (p .0)) .0, memoryAfter p d ((m .hear v ports (lent reply (lentTo p d)) (p .0)) .1 .after .memory))
   ahead p (call d) = ((m .tick (lentTo p d) (p .0)) .0, p .1)
 
   abbrev pub answerOf : Place → Step → List Paper
@@ -161,21 +163,21 @@ module _ (m : Machine) where
   abbrev pub taken : Place → List Step → List ℕ
   taken p es = shown ahead byteOf p es
 
-  -- a direct movement or a started program is under way on a sound board, nothing stands, no line is begun; any store
+  -- a direct movement or a started program is under way on a sound board, nothing stands, no line is begun; any memory
   pub record Begun (p : Place) : Type 0 where
     pub sound : sound (boardAt p) ≡ true
     pub runs : rests (boardAt p) ≡ false
     pub standing : boardAt p .standing ≡ false
     pub line : boardAt p .line ≡ noLine
-    pub store : length (p .1) ≡ storeBytes
+    pub memory : RightMemory (p .1)
 
   -- ---- the same run: the clock answers other than nothing, with the axes of the pulses; the speeds of the pulses; the engine
-  -- (positions, origins, output, 3D, axes, the store's part in use, job, place, loops); the bytes of the store
+  -- (positions, origins, output, 3D, axes, the store's part in use, job, place, loops); the memory
   pub record Same (p : Place) (es fs : List Step) : Type 0 where
     pub axes : map unsped (answers p es) ≡ map unsped (answers p fs)
     pub speeds : speedsOf (answers p es) ≡ speedsOf (answers p fs)
     pub engine : final (boardAt (last p es)) ≡ final (boardAt (last p fs))
-    pub store : last p es .1 ≡ last p fs .1
+    pub memory : last p es .1 ≡ last p fs .1
 
   -- DEMAND 3. Two schedules with as many clock calls that count and the same bytes taken are the same run, wherever they are stopped,
   -- whatever is sent while it stands, and however often.
@@ -226,17 +228,17 @@ module _ (m : Machine) where
   -- ---- demand 3 is not empty. A stop, at every moment that 01 allows, stands and sends F; at every other it does nothing.
   pub record Called (p : Place) : Type 0 where
     pub sound : sound (boardAt p) ≡ true
-    pub store : length (p .1) ≡ storeBytes
+    pub memory : RightMemory (p .1)
 
   abbrev pub heardAt : ℕ → List ℕ → List ℕ → Place → m .State × Heard
   heardAt v ports reply p = m .hear v ports (lent reply (p .1)) (p .0)
 
-  pub record Comes (got : m .State × Heard) (to : Board) (said lent store : List ℕ) : Type 0 where
+  pub record Comes (got : m .State × Heard) (to : Board) (said lent : List ℕ) (mem : Memory) : Type 0 where
     pub board : m .board (got .0) ≡ to
     pub len : got .1 .len ≡ length said
     pub refusal : got .1 .refusal ≡ 0
     pub reply : got .1 .after .reply ≡ said ++ drop (length said) lent
-    pub bytes : got .1 .after .store ≡ store
+    pub memory : got .1 .after .memory ≡ mem
 
   abbrev pub StopHolds : Type 0
   StopHolds =
@@ -270,7 +272,7 @@ module _ (m : Machine) where
   LineBegins =
       (es : List Event) (ports : List ℕ) (l : Lent) → idles (m .board (afterAll m es (m .first))) ≡ true →
       (m .hear (ch "\r") ports l (afterAll m es (m .first))) .1 .refusal ≡ 0 → (m .hear (ch "\r") ports l (afterAll m es (m .first))) .1 .len ≡ 0 →
-      Begun ((m .hear (ch "\r") ports l (afterAll m es (m .first))) .0, (m .hear (ch "\r") ports l (afterAll m es (m .first))) .1 .after .store)
+      Begun ((m .hear (ch "\r") ports l (afterAll m es (m .first))) .0, (m .hear (ch "\r") ports l (afterAll m es (m .first))) .1 .after .memory)
 
   -- a stop and the line `@0S`, wherever a stop is allowed, leave everything as it was
   abbrev pub startLine : List ℕ → List ℕ → List Step
@@ -278,8 +280,8 @@ module _ (m : Machine) where
 
   abbrev pub StopAndStart : Type 0
   StopAndStart =
-      (es : List Event) (store ports reply : List ℕ) → length store ≡ storeBytes → replyBytes ≤ length reply →
+      (es : List Event) (mem : Memory) (ports reply : List ℕ) → RightMemory mem → replyBytes ≤ length reply →
       stoppable (m .board (afterAll m es (m .first))) ≡ true →
-      (boardAt (ahead (afterAll m es (m .first), store) (receive stopCode ports reply own)) .standing ≡ true)
-      × (boardAt (last (afterAll m es (m .first), store) (receive stopCode ports reply own ∷ startLine ports reply)) ≡ m .board (afterAll m es (m .first)))
-      × (last (afterAll m es (m .first), store) (receive stopCode ports reply own ∷ startLine ports reply) .1 ≡ store)
+      (boardAt (ahead (afterAll m es (m .first), mem) (receive stopCode ports reply own)) .standing ≡ true)
+      × (boardAt (last (afterAll m es (m .first), mem) (receive stopCode ports reply own ∷ startLine ports reply)) ≡ m .board (afterAll m es (m .first)))
+      × (last (afterAll m es (m .first), mem) (receive stopCode ports reply own ∷ startLine ports reply) .1 ≡ mem)

@@ -25,7 +25,7 @@ module _ (m : Machine) where
   abbrev pub sent : Place m → List Step → List Paper
   sent p es = only 3 (map unsped (answers m p es))
 
-  -- the same pulses and speeds, the same characters sent, and in the end the same positions, origins, outputs and store
+  -- the same pulses and speeds, the same characters sent, and in the end the same positions, origins, outputs and memory
   pub record Equals (p : Place m) (es fs : List Step) : Type 0 where
     pub pulses : pulses p es ≡ pulses p fs
     pub speeds : speedsOf (answers m p es) ≡ speedsOf (answers m p fs)
@@ -34,7 +34,7 @@ module _ (m : Machine) where
     pub origins : boardAt m (last m p es) .engine .origin ≡ boardAt m (last m p fs) .engine .origin
     pub outputs : boardAt m (last m p es) .engine .output ≡ boardAt m (last m p fs) .engine .output
     pub held : boardAt m (last m p es) .engine .held ≡ boardAt m (last m p fs) .engine .held
-    pub store : last m p es .1 ≡ last m p fs .1
+    pub memory : last m p es .1 ≡ last m p fs .1
 
   -- one run has the pulses, speeds and sent characters of the other at its front
   pub record Agrees (p : Place m) (es fs : List Step) : Type 0 where

@@ -15,17 +15,18 @@ use Rattle.sheet.specs.declared.Rate.the-variants.{PerMinute}
 use Rattle.sheet.specs.Sheet.{float, minusFloat, found, distanceOf, speedOf}
 use Rattle.sheet.specs.Sheet.{axis}
 use Rattle.engine.specs.State.{paper, zeroes, nothingHeld, idle}
+use Rattle.record.specs.Memory.{Memory}
 use Rattle.board.specs.declared.Board.{Board}
 use Rattle.board.specs.State.{board, noLine}
-use Rattle.board.specs.Calls.{receiving, clocking, fresh}
+use Rattle.board.specs.Calls.{lent, receiving, clocking, fresh}
 use Rattle.course.specs.Run.{course}
-use Rattle.course.specs.Walk.{walked, noPorts, noStore, most}
+use Rattle.course.specs.Walk.{walked, noPorts, noMemory, most}
 
 -- ---- a history: bytes through `receiving`, each with a reply buffer of 32 bytes, and clock calls through `clocking`
 
 pub record History : Type 0 where
   pub board : Board
-  pub store : List ℕ
+  pub memory : Memory
   -- the replies end to end, the clock's answers on paper, and the last refusal's number or 0
   pub replies : List ℕ
   pub answers : List Paper
@@ -33,16 +34,16 @@ pub record History : Type 0 where
 
 -- from a board with an empty store
 abbrev pub from : Board → History
-from b = record { board = b; store = noStore; replies = []; answers = []; refusal = 0 }
+from b = record { board = b; memory = noMemory; replies = []; answers = []; refusal = 0 }
 
 unfoldable pub sends : List ℕ → History → History
 sends [] h = h
 sends (v ∷ l) h =
-    let o = receiving v noPorts (h .board) (replicate replyBytes 0) (h .store) in
+    let o = receiving v noPorts (h .board) (lent (replicate replyBytes 0) (h .memory)) in
     sends l (record {
       board = o .result .board;
-      store = o .store;
-      replies = h .replies ++ take (o .result .len) (o .reply);
+      memory = o .after .memory;
+      replies = h .replies ++ take (o .result .len) (o .after .reply);
       answers = h .answers;
       refusal = h .refusal + o .result .refusal;
     })
@@ -50,10 +51,10 @@ sends (v ∷ l) h =
 unfoldable pub ticks : ℕ → History → History
 ticks zero h = h
 ticks (suc k) h =
-    let t = clocking (h .board) (h .store) in
+    let t = clocking (h .board) (h .memory) in
     ticks k (record {
       board = t .board;
-      store = h .store;
+      memory = h .memory;
       replies = h .replies;
       answers = h .answers ++ paper (t .answer) ∷ [];
       refusal = h .refusal + t .refusal;
@@ -105,7 +106,7 @@ abbrev pub Three : Type 0
 Three =
     let h = told "@01\r@0i\r01,600\r3 25,-1\r9\r@0S\r" in
     (h .replies ≡ codes "00000") × (ticks 53 h .answers ≡ times 26 (pulse (pos 1) (pos 0)) done ++ send0 ∷ [])
-    × (value (course most (h .store) (h .board) .board .engine .at .x) ≡ pos 26) × (course most (h .store) (h .board) .calls ≡ 53)
+    × (value (course most (h .memory) (h .board) .board .engine .at .x) ≡ pos 26) × (course most (h .memory) (h .board) .calls ≡ 53)
 
 -- (4) `3 0,5` at place 0 goes to 5 by one clock call
 abbrev pub Four : Type 0
@@ -152,7 +153,7 @@ Eleven =
 abbrev pub Twelfth : Type 0
 Twelfth =
     let h = sends (codes "@0A1,600\r") (from (standsAt (pos 8388607))) in
-    (h .replies ≡ codes "9") × (h .board ≡ standsAt (pos 8388607)) × (h .store ≡ noStore) × (h .refusal ≡ 0)
+    (h .replies ≡ codes "9") × (h .board ≡ standsAt (pos 8388607)) × (h .memory ≡ noMemory) × (h .refusal ≡ 0)
 
 -- the whole list
 abbrev pub Twelve : Type 0

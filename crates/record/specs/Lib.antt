@@ -1,4 +1,5 @@
 pub mod Fault
+pub mod Memory
 pub mod Bytes
 pub mod Places
 pub mod Keep

@@ -5,6 +5,7 @@ use mathlib.Core.Bool.{Bool, true, false, _||_}
 use mathlib.Core.List.{List, []}
 use lib.Dec.{eqb}
 use Rattle.count.specs.Pick.{pick}
+use Rattle.record.specs.Memory.{Memory}
 use Rattle.engine.specs.declared.Job.{Job}
 use Rattle.engine.specs.State.{heard}
 use Rattle.board.specs.declared.Board.{Board}
@@ -38,11 +39,11 @@ isGather ear.Reset = false
 isGather ear.Quit = false
 
 -- what a byte comes to
-abbrev pub heardAs : Ear → ℕ → List ℕ → Board → List ℕ → Said
-heardAs ear.Gather byte ports b store = said (withLine b (gathered byte (b .line))) [] store
-heardAs ear.Return byte ports b store = returned ports b store
-heardAs ear.Listen byte ports b store = said (board (heard byte (b .engine)) (b .standing) (b .line)) [] store
-heardAs ear.Ignore byte ports b store = said b [] store
-heardAs ear.Stop byte ports b store = stopped b store
-heardAs ear.Reset byte ports b store = resetSaid b store
-heardAs ear.Quit byte ports b store = broken b store
+abbrev pub heardAs : Ear → ℕ → List ℕ → Board → Memory → Said
+heardAs ear.Gather byte ports b m = said (withLine b (gathered byte (b .line))) [] m
+heardAs ear.Return byte ports b m = returned ports b m
+heardAs ear.Listen byte ports b m = said (board (heard byte (b .engine)) (b .standing) (b .line)) [] m
+heardAs ear.Ignore byte ports b m = said b [] m
+heardAs ear.Stop byte ports b m = stopped b m
+heardAs ear.Reset byte ports b m = resetSaid b m
+heardAs ear.Quit byte ports b m = broken b m

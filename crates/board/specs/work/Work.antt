@@ -12,6 +12,7 @@ use Rattle.count.specs.Text.{Written, written, report, twoHex, fourDigits}
 use Rattle.motion.specs.declared.Counters.{Counters}
 use Rattle.record.specs.declared.Record.{Record}
 use Rattle.record.specs.Fault.{numbersReply, faultOf}
+use Rattle.record.specs.Memory.{Memory, memory}
 use Rattle.record.specs.Keep.{storeOf}
 use Rattle.line.specs.declared.Letter.{Letter}
 use Rattle.line.specs.declared.Letter.the-variants as letter
@@ -42,9 +43,9 @@ bytesOf (saying.Fault l p) at = 71 ∷ l ∷ fourDigits p
 abbrev pub spokeOf : Board → Saying → Spoke
 spokeOf b s = record { board = b; say = s }
 
--- with the store, it is what a byte comes to
-abbrev pub spoke : Spoke → List ℕ → Said
-spoke s store = said (s .board) (bytesOf (s .say) (s .board .engine .at)) store
+-- with the memory, it is what a byte comes to
+abbrev pub spoke : Spoke → Memory → Said
+spoke s m = said (s .board) (bytesOf (s .say) (s .board .engine .at)) m
 
 abbrev pub textOf : Spoke → List ℕ
 textOf s = bytesOf (s .say) (s .board .engine .at)
@@ -131,11 +132,11 @@ obeyed d ports b =
 
 -- ---- a record without such a fault
 
-abbrev pub keptSaid : Record → Board → List ℕ → Said
-keptSaid r b store =
-    pick (storeOf (b .engine .held) r store .kept .stored)
-    (said (board (withHeld (b .engine) (storeOf (b .engine .held) r store .kept .held)) (b .standing) noLine) (48 ∷ []) (storeOf (b .engine .held) r store .bytes))
-    (said (lineDone b) (54 ∷ []) store)
+abbrev pub keptSaid : Record → Board → Memory → Said
+keptSaid r b m =
+    pick (storeOf (b .engine .held) r (m .store) .kept .stored)
+    (said (board (withHeld (b .engine) (storeOf (b .engine .held) r (m .store) .kept .held)) (b .standing) noLine) (48 ∷ []) (memory (storeOf (b .engine .held) r (m .store) .bytes)))
+    (said (lineDone b) (54 ∷ []) m)
 
 -- ---- the control codes, and whether an ordinary byte is gathered or a wait takes it
 

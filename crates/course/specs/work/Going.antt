@@ -2,6 +2,7 @@
 use Prim.Native.Nat.{ℕ}
 use mathlib.Core.List.{List}
 use Rattle.motion.specs.work.Here.{nextOf}
+use Rattle.record.specs.Memory.{Memory}
 use Rattle.record.specs.Places.{fetchOf}
 use Rattle.engine.specs.declared.Engine.{Engine}
 use Rattle.engine.specs.declared.Job.{Job}
@@ -13,15 +14,15 @@ use Rattle.course.specs.Text.{answerText}
 use Rattle.course.specs.work.Machine.{Way, stays, way, Left}
 use Rattle.course.specs.work.Glide.{Gone, here, glides, glideOn, glideSaid}
 
-abbrev pub tickNext : List ℕ → Engine → Engine
-tickNext store e = ticked nextOf (fetchOf (e .held) store) e .engine
+abbrev pub tickNext : Memory → Engine → Engine
+tickNext m e = ticked nextOf (fetchOf (e .held) (m .store)) e .engine
 
-abbrev pub tickSaid : List ℕ → Engine → List ℕ
-tickSaid store e = answerText (ticked nextOf (fetchOf (e .held) store) e .answer)
+abbrev pub tickSaid : Memory → Engine → List ℕ
+tickSaid m e = answerText (ticked nextOf (fetchOf (e .held) (m .store)) e .answer)
 
 -- clock calls while something runs
-abbrev pub goWay : List ℕ → ℕ → Engine → Way Engine
-goWay store = way runsOf (tickNext store) (tickSaid store)
+abbrev pub goWay : Memory → ℕ → Engine → Way Engine
+goWay m = way runsOf (tickNext m) (tickSaid m)
 
 abbrev pub inDirect : Engine → Gone → Engine
 inDirect e g = withJob (withAt e (g .at)) (job.Direct (g .rest))

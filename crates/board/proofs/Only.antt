@@ -37,7 +37,7 @@ pub receive-one : (κs : _) (a : _) (r r′ : _) (s s′ : _) → receive.Post �
     → (r ≡ r′) × (now (receive-reply s) ≡ now (receive-reply s′)) × (now (receive-store s) ≡ now (receive-store s′))
 receive-one κs a r r′ s s′ p q =
     let e = p ∙ sym q in
-    (ap (λ (o : Outcome). o .result) e, ap (λ (o : Outcome). o .reply) e, ap (λ (o : Outcome). o .store) e)
+    (ap (λ (o : Outcome). o .result) e, ap (λ (o : Outcome). o .after .reply) e, ap (λ (o : Outcome). o .after .memory .store) e)
 
 pub take-one : (κs : _) (a : _) (r r′ : _) (s s′ : _) → take.Post κs a r s → take.Post κs a r′ s′ → r ≡ r′
 take-one κs a r r′ s s′ p q = p ∙ sym q

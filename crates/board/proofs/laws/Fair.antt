@@ -13,6 +13,7 @@ use Rattle.count.proofs.laws.Truth.{never}
 use Rattle.motion.specs.declared.Counters.{Counters}
 use Rattle.record.specs.declared.Held.{Held}
 use Rattle.record.specs.declared.Record.{Record}
+use Rattle.record.specs.Memory.{Memory, memory}
 use Rattle.record.specs.Bytes.{encode}
 use Rattle.record.specs.Keep.{storing, longer, hasRoom, storeOf}
 use Rattle.record.proofs.laws.Put.{room-so}
@@ -50,15 +51,15 @@ use Rattle.board.proofs.laws.Hears.{ear-so, sound-engine, sound-line}
 
 -- ---- how the bytes of the store may change
 
-pub data Change (byte : ℕ) (b : Board) (store : List ℕ) (s : Said) : Type 0 where
-  same : s .store ≡ store → Change byte b store s
+pub data Change (byte : ℕ) (b : Board) (m : Memory) (s : Said) : Type 0 where
+  same : s .memory ≡ m → Change byte b m s
   stored : (r : Record) → byte ≡ 13 → isStoring (b .engine .run .job) && not (b .standing) ≡ true → s .reply ≡ 48 ∷ []
-      → s .store ≡ storeOf (b .engine .held) r store .bytes → Change byte b store s
+      → s .memory ≡ memory (storeOf (b .engine .held) r (m .store) .bytes) → Change byte b m s
 
-pub record Fair (byte : ℕ) (b : Board) (store : List ℕ) (s : Said) : Type 0 where
+pub record Fair (byte : ℕ) (b : Board) (m : Memory) (s : Said) : Type 0 where
   pub kept : sound (s .board) ≡ true
   pub short : length (s .reply) ≤ 19
-  pub change : Change byte b store s
+  pub change : Change byte b m s
 
 -- ---- soundness of a board from its engine's
 
@@ -158,64 +159,64 @@ held-by true d n x y e h q f =
     held-keeps e h (longer d n) a (r .1) (r .0)
 held-by false d n x y e h q f = rw q h
 
-pub stored-sound : (r : Record) (store : List ℕ) (e : Engine) → soundOf e ≡ true → soundOf (withHeld e (storeOf (e .held) r store .kept .held)) ≡ true
+pub stored-sound : (r : Record) (m : Memory) (e : Engine) → soundOf e ≡ true → soundOf (withHeld e (storeOf (e .held) r (m .store) .kept .held)) ≡ true
 unfolding storeOf
-stored-sound r store e h =
-    held-by (hasRoom (e .held) (length (encode r)) (length store)) (e .held) (length (encode r)) _ _ e h refl
-    (λ p. let z = room-so (e .held) (length (encode r)) (length store) p in (z .0, z .1))
+stored-sound r m e h =
+    held-by (hasRoom (e .held) (length (encode r)) (length (m .store))) (e .held) (length (encode r)) _ _ e h refl
+    (λ p. let z = room-so (e .held) (length (encode r)) (length (m .store)) p in (z .0, z .1))
 
 -- ---- every byte
 
-module _ (byte : ℕ) (b : Board) (store : List ℕ) (h : sound b ≡ true) where
+module _ (byte : ℕ) (b : Board) (m : Memory) (h : sound b ≡ true) where
   abbrev fair : Said → Type 0
-  fair s = Fair byte b store s
+  fair s = Fair byte b m s
 
   fair-pick : (t : Bool) (x y : Said) → (t ≡ true → fair x) → (t ≡ false → fair y) → fair (pick t x y)
   fair-pick true x y p q = p refl
   fair-pick false x y p q = q refl
 
-  quiet : (s : Spoke) → sound (s .board) ≡ true → fair (spoke s store)
+  quiet : (s : Spoke) → sound (s .board) ≡ true → fair (spoke s m)
   quiet s p = record { kept = p; short = say-short (s .say) (s .board .engine .at); change = same refl }
 
-  as-was : fair (said b [] store)
+  as-was : fair (said b [] m)
   as-was = quiet (spokeOf b saying.Silent) h
 
-  replied : (n : ℕ) → fair (said (lineDone b) (n ∷ []) store)
+  replied : (n : ℕ) → fair (said (lineDone b) (n ∷ []) m)
   replied n = quiet (repliedWith b (b .engine) n) (done-sound (b .engine) (b .standing) (sound-engine b h))
 
   -- a failed check, with what it names
-  failed : (v : Verdict) → fair (said (board (ceased (emptied (b .engine))) (b .standing) noLine) (71 ∷ namedFault v) store)
+  failed : (v : Verdict) → fair (said (board (ceased (emptied (b .engine))) (b .standing) noLine) (71 ∷ namedFault v) m)
   failed v = by v (done-sound _ (b .standing) (cease-keeps (emptied (b .engine)) (empty-keeps (b .engine) (sound-engine b h))))
     where
       empty : Board
       empty = board (ceased (emptied (b .engine))) (b .standing) noLine
 
-      by : (v : Verdict) → sound empty ≡ true → fair (said empty (71 ∷ namedFault v) store)
+      by : (v : Verdict) → sound empty ≡ true → fair (said empty (71 ∷ namedFault v) m)
       by verdict.Sound p = quiet (spokeOf empty (saying.One 71)) p
       by (verdict.Fault l q) p = quiet (spokeOf empty (saying.Fault l q)) p
       by verdict.Unreadable p = quiet (spokeOf empty (saying.One 71)) p
 
   module _ (r : byte ≡ 13) (k : isStoring (b .engine .run .job) && not (b .standing) ≡ true) where
-    stored-fair : (c : Code) (d : Stored) → fair (storedBy c d b store)
+    stored-fair : (c : Code) (d : Stored) → fair (storedBy c d b m)
     stored-fair code.Wrong d = replied 53
     stored-fair (code.Record c) d =
-        fair-pick (eqb (recordReply (b .engine .held) (recordOf c d) store) 48) _ _
+        fair-pick (eqb (recordReply (b .engine .held) (recordOf c d) m) 48) _ _
         (λ p. record {
-          kept = done-sound _ (b .standing) (stored-sound (recordOf c d) store (b .engine) (sound-engine b h));
+          kept = done-sound _ (b .standing) (stored-sound (recordOf c d) m (b .engine) (sound-engine b h));
           short = omega arith;
           change = stored (recordOf c d) r k refl refl;
         })
         (λ p. replied _)
     stored-fair code.End d =
-        fair-pick (isSound (verdictOf (b .engine .held) store)) _ _
+        fair-pick (isSound (verdictOf (b .engine .held) (m .store))) _ _
         (λ p. quiet (repliedWith b (ceased (b .engine)) 48) (done-sound _ (b .standing) (cease-keeps (b .engine) (sound-engine b h))))
-        (λ p. failed (verdictOf (b .engine .held) store))
+        (λ p. failed (verdictOf (b .engine .held) (m .store)))
 
   module _ (ports : List ℕ) where
-    direct-fair : (d : Direct) → (b .standing ≡ false → Still (b .engine .run .job)) → fair (directSaid d ports b store)
-    direct-fair d still = rw (obey-so d ports b store) (quiet (obeyed d ports b) (obeyed-okay b h still d ports))
+    direct-fair : (d : Direct) → (b .standing ≡ false → Still (b .engine .run .job)) → fair (directSaid d ports b m)
+    direct-fair d still = rw (obey-so d ports b m) (quiet (obeyed d ports b) (obeyed-okay b h still d ports))
 
-    return-fair : byte ≡ 13 → (b .standing ≡ false → Still (b .engine .run .job)) → fair (returned ports b store)
+    return-fair : byte ≡ 13 → (b .standing ≡ false → Still (b .engine .run .job)) → fair (returned ports b m)
     unfolding returned storedSaid
     return-fair r still =
         fair-pick (b .line .over) _ _ (λ p. replied 53)
@@ -223,7 +224,7 @@ module _ (byte : ℕ) (b : Board) (store : List ℕ) (h : sound b ≡ true) wher
         (λ k. stored-fair r k (storedOf (textOf (b .line)) .code) (storedOf (textOf (b .line))))
         (λ k. direct-fair (directOf (textOf (b .line))) still))
 
-    gather-fair : (b .standing ≡ false → Still (b .engine .run .job)) → fair (gathering byte ports b store)
+    gather-fair : (b .standing ≡ false → Still (b .engine .run .job)) → fair (gathering byte ports b m)
     unfolding gathering
     gather-fair still =
         fair-pick (eqb byte 13) _ _ (λ p. return-fair (eqb-true byte 13 p) still)
@@ -232,9 +233,9 @@ module _ (byte : ℕ) (b : Board) (store : List ℕ) (h : sound b ≡ true) wher
     still-by : (j : Job) → gathersBy j ≡ true → Still j
     still-by job.Idle p = λ c. refl
     still-by job.Storing p = λ c. refl
-    still-by (job.Direct m) p = never p
+    still-by (job.Direct v) p = never p
     still-by job.Ready p = never p
-    still-by (job.Moving m) p = never p
+    still-by (job.Moving v) p = never p
     still-by (job.Delay q) p = never p
     still-by (job.Wait k t) p = never p
 
@@ -242,9 +243,9 @@ module _ (byte : ℕ) (b : Board) (store : List ℕ) (h : sound b ≡ true) wher
     rests true j p q = let z : _≡_ {A = ℕ} 0 1 = cc in absurd (omega arith)
     rests false j p q = still-by j p
 
-    ordinary-fair : fair (ordinary (earOf b) byte ports b store)
+    ordinary-fair : fair (ordinary (earOf b) byte ports b m)
     ordinary-fair =
-        rw (ear-so byte ports b store)
+        rw (ear-so byte ports b m)
         (fair-pick (b .standing || gathersBy (b .engine .run .job)) _ _
         (λ p. gather-fair (rests (b .standing) (b .engine .run .job) p))
         (λ p. fair-pick (waitsBy (b .engine .run .job)) _ _
@@ -253,7 +254,7 @@ module _ (byte : ℕ) (b : Board) (store : List ℕ) (h : sound b ≡ true) wher
         (λ q. as-was)))
 
     -- WHATEVER BYTE, PORTS AND STORE
-    pub hearing-fair : Fair byte b store (hearing byte ports b store)
+    pub hearing-fair : Fair byte b m (hearing byte ports b m)
     unfolding hearing stopped broken resetSaid
     hearing-fair =
         fair-pick (eqb byte 253) _ _

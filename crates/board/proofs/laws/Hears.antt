@@ -11,6 +11,7 @@ use Rattle.count.specs.Pick.{pick}
 use Rattle.count.proofs.laws.Truth.{and-left, and-right}
 use Rattle.motion.specs.work.Here.{nextOf}
 use Rattle.motion.specs.Next.{pulseOf}
+use Rattle.record.specs.Memory.{Memory}
 use Rattle.record.specs.Places.{fetchOf}
 use Rattle.record.specs.Listing.{Telling, listOf}
 use Rattle.line.specs.declared.Direct.{Direct}
@@ -33,70 +34,70 @@ use Rattle.board.specs.State.{board, textOf, Said, said, sound}
 use Rattle.board.specs.Storing.{storedSaid}
 use Rattle.engine.specs.Kinds.Ear.{gathers}
 use Rattle.board.specs.Receive.{earBy, earOf, isStoring, holdsBy, endsBy, returned, gathering, ordinary, stopped, broken, hearing}
-use Rattle.board.specs.Calls.{did, answered, receiving, wentOn, clocking, listing}
+use Rattle.board.specs.Calls.{lent, did, answered, receiving, wentOn, clocking, listing}
 use Rattle.board.specs.work.Work as work
 use Rattle.board.specs.work.Work.{spoke, spokeOf, repliedWith, obeyed, receivedOf, stopSpoke, breakSpoke, gathersBy, waitsBy}
 use Rattle.board.proofs.laws.Obeys.{obey-so}
 
-pub spoke-as : (store : List ℕ) {r s : Spoke} → r ≡ s → spoke r store ≡ spoke s store
-spoke-as store e = ap (λ (x : Spoke). spoke x store) e
+pub spoke-as : (m : Memory) {r s : Spoke} → r ≡ s → spoke r m ≡ spoke s m
+spoke-as m e = ap (λ (x : Spoke). spoke x m) e
 
 -- ---- the carriage return
 
-module _ (ports : List ℕ) (b : Board) (store : List ℕ) where
-  pub return-over : b .line .over ≡ true → {r : Spoke} → r ≡ repliedWith b (b .engine) 53 → spoke r store ≡ returned ports b store
+module _ (ports : List ℕ) (b : Board) (m : Memory) where
+  pub return-over : b .line .over ≡ true → {r : Spoke} → r ≡ repliedWith b (b .engine) 53 → spoke r m ≡ returned ports b m
   unfolding returned
-  return-over h p = spoke-as store p ∙ rw h
+  return-over h p = spoke-as m p ∙ rw h
 
   module _ (o : b .line .over ≡ false) {g : Bool} (e : g ≡ isStoring (b .engine .run .job)) where
-    pub return-stored : g && not (b .standing) ≡ true → {x : Said} → x ≡ storedSaid (storedOf (textOf (b .line))) b store → x ≡ returned ports b store
+    pub return-stored : g && not (b .standing) ≡ true → {x : Said} → x ≡ storedSaid (storedOf (textOf (b .line))) b m → x ≡ returned ports b m
     unfolding returned
     return-stored h p = p ∙ rw (o, ← e, h)
 
     pub return-direct : g && not (b .standing) ≡ false → {d : Direct} → d ≡ directOf (textOf (b .line)) → {r : Spoke} → r ≡ obeyed d ports b
-        → spoke r store ≡ returned ports b store
+        → spoke r m ≡ returned ports b m
     unfolding returned
-    return-direct h q p = spoke-as store p ∙ sym (obey-so _ ports b store) ∙ rw (o, ← e, h, ← q)
+    return-direct h q p = spoke-as m p ∙ sym (obey-so _ ports b m) ∙ rw (o, ← e, h, ← q)
 
 -- ---- an ordinary byte
 
-module _ (byte : ℕ) (ports : List ℕ) (b : Board) (store : List ℕ) where
+module _ (byte : ℕ) (ports : List ℕ) (b : Board) (m : Memory) where
   abbrev waited : Said
-  waited = said (board (heard byte (b .engine)) (b .standing) (b .line)) [] store
+  waited = said (board (heard byte (b .engine)) (b .standing) (b .line)) [] m
 
   ear-by : (s : Bool) (j : Job)
-      → ordinary (pick s gathers (earBy j)) byte ports b store ≡ pick (s || gathersBy j) (gathering byte ports b store) (pick (waitsBy j) waited (said b [] store))
+      → ordinary (pick s gathers (earBy j)) byte ports b m ≡ pick (s || gathersBy j) (gathering byte ports b m) (pick (waitsBy j) waited (said b [] m))
   ear-by true j = refl
   ear-by false job.Idle = refl
   ear-by false job.Storing = refl
-  ear-by false (job.Direct m) = refl
+  ear-by false (job.Direct v) = refl
   ear-by false job.Ready = refl
-  ear-by false (job.Moving m) = refl
+  ear-by false (job.Moving v) = refl
   ear-by false (job.Delay q) = refl
   ear-by false (job.Wait c t) = refl
 
-  pub ear-so : ordinary (earOf b) byte ports b store
-      ≡ pick (b .standing || gathersBy (b .engine .run .job)) (gathering byte ports b store) (pick (waitsBy (b .engine .run .job)) waited (said b [] store))
+  pub ear-so : ordinary (earOf b) byte ports b m
+      ≡ pick (b .standing || gathersBy (b .engine .run .job)) (gathering byte ports b m) (pick (waitsBy (b .engine .run .job)) waited (said b [] m))
   unfolding earOf
   ear-so = ear-by (b .standing) (b .engine .run .job)
 
 -- ---- the control codes
 
-module _ (b : Board) (store : List ℕ) where
-  by-pick : (t : Bool) (x y : Spoke) → spoke (pick t x y) store ≡ pick t (spoke x store) (spoke y store)
+module _ (b : Board) (m : Memory) where
+  by-pick : (t : Bool) (x y : Spoke) → spoke (pick t x y) m ≡ pick t (spoke x m) (spoke y m)
   by-pick true x y = refl
   by-pick false x y = refl
 
-  pub stop-so : {r : Spoke} → r ≡ stopSpoke b → spoke r store ≡ stopped b store
+  pub stop-so : {r : Spoke} → r ≡ stopSpoke b → spoke r m ≡ stopped b m
   unfolding stopSpoke stopped
   stop-so p =
-      spoke-as store p
+      spoke-as m p
       ∙ by-pick (holdsBy (b .engine .run .job) && not (b .standing)) (spokeOf (board (b .engine) true (b .line)) (saying.One 70)) (spokeOf b saying.Silent)
 
-  pub break-so : {r : Spoke} → r ≡ breakSpoke b → spoke r store ≡ broken b store
+  pub break-so : {r : Spoke} → r ≡ breakSpoke b → spoke r m ≡ broken b m
   unfolding breakSpoke broken
   break-so p =
-      spoke-as store p
+      spoke-as m p
       ∙ by-pick (endsBy (b .engine .run .job) || b .standing) (spokeOf (board (ceased (b .engine)) false (b .line)) (saying.One 70)) (spokeOf b saying.Silent)
 
 -- ---- the calls
@@ -109,13 +110,13 @@ pub sound-line : (b : Board) → sound b ≡ true → b .line .len ≤ 80
 unfolding sound
 sound-line b h = leb-true (b .line .len) 80 (and-right (soundOf (b .engine)) (leb (b .line .len) 80) h)
 
-pub received-so : (byte : ℕ) (ports : List ℕ) (b : Board) (reply store : List ℕ) → 32 ≤ length reply → length store ≡ 16384 → sound b ≡ true
-    → (s : Spoke) {store′ reply′ : List ℕ} {r : Received} → spoke s store′ ≡ hearing byte ports b store → r ≡ receivedOf s
-    → reply′ ≡ work.textOf s ++ drop (length (work.textOf s)) reply → did r reply′ store′ ≡ receiving byte ports b reply store
+pub received-so : (byte : ℕ) (ports : List ℕ) (b : Board) (reply : List ℕ) (m : Memory) → 32 ≤ length reply → length (m .store) ≡ 16384 → sound b ≡ true
+    → (s : Spoke) {reply′ : List ℕ} {m′ : Memory} {r : Received} → spoke s m′ ≡ hearing byte ports b m → r ≡ receivedOf s
+    → reply′ ≡ work.textOf s ++ drop (length (work.textOf s)) reply → did r (lent reply′ m′) ≡ receiving byte ports b (lent reply m)
 unfolding receiving
-received-so byte ports b reply store l m h s {store′} {reply′} {r} e p q =
-    let z : did r reply′ store′ ≡ answered (spoke s store′) reply = rw (p, q) in
-    z ∙ ap (λ (x : Said). answered x reply) e ∙ rw (le-ltb (length reply) 32 l, eq-eqb (length store) 16384 m, h)
+received-so byte ports b reply m l k h s {reply′} {m′} {r} e p q =
+    let z : did r (lent reply′ m′) ≡ answered (spoke s m′) reply = rw (p, q) in
+    z ∙ ap (λ (x : Said). answered x reply) e ∙ rw (le-ltb (length reply) 32 l, eq-eqb (length (m .store)) 16384 k, h)
 
 -- the code's test of 103, on what a clock call would do and on the line
 long-by : (n : ℕ) → ltb 80 n ≡ not (leb n 80)
@@ -137,17 +138,17 @@ refused-so b e p =
     rw (p, e, seen-wrong (b .engine), long-by (b .line .len)) (neither (soundOf (b .engine)) (leb (b .line .len) 80))
 
 -- and what it then does
-pub acted-so : (b : Board) (store : List ℕ) → sound b ≡ true → {a : Act} {t : Told} → a ≡ seenOf (b .engine)
-    → t ≡ actedBy nextOf (fetchOf (b .engine .held) store) a (b .engine) → t ≡ ticked nextOf (fetchOf (b .engine .held) store) (b .engine)
-acted-so b store h e p =
-    rw (p, e, seen-act (b .engine) (sound-engine b h)) (acted-is-ticked (fetchOf (b .engine .held) store) (b .engine))
+pub acted-so : (b : Board) (m : Memory) → sound b ≡ true → {a : Act} {t : Told} → a ≡ seenOf (b .engine)
+    → t ≡ actedBy nextOf (fetchOf (b .engine .held) (m .store)) a (b .engine) → t ≡ ticked nextOf (fetchOf (b .engine .held) (m .store)) (b .engine)
+acted-so b m h e p =
+    rw (p, e, seen-act (b .engine) (sound-engine b h)) (acted-is-ticked (fetchOf (b .engine .held) (m .store)) (b .engine))
 
-pub clocked-so : (b : Board) (store : List ℕ) → length store ≡ 16384 → sound b ≡ true → b .standing ≡ false
-    → {t : Told} → t ≡ ticked nextOf (fetchOf (b .engine .held) store) (b .engine) → wentOn b t ≡ clocking b store
+pub clocked-so : (b : Board) (m : Memory) → length (m .store) ≡ 16384 → sound b ≡ true → b .standing ≡ false
+    → {t : Told} → t ≡ ticked nextOf (fetchOf (b .engine .held) (m .store)) (b .engine) → wentOn b t ≡ clocking b m
 unfolding clocking
-clocked-so b store l h s {t} e =
-    let p : t ≡ ticked pulseOf (fetchOf (b .engine .held) store) (b .engine) = e ∙ rules-agree (fetchOf (b .engine .held) store) (b .engine) (sound-engine b h) in
-    ap (λ (x : Told). wentOn b x) p ∙ rw (eq-eqb (length store) 16384 l, h, s)
+clocked-so b m l h s {t} e =
+    let p : t ≡ ticked pulseOf (fetchOf (b .engine .held) (m .store)) (b .engine) = e ∙ rules-agree (fetchOf (b .engine .held) (m .store)) (b .engine) (sound-engine b h) in
+    ap (λ (x : Told). wentOn b x) p ∙ rw (eq-eqb (length (m .store)) 16384 l, h, s)
 
 pub listed-so : (b : Board) (store text : List ℕ) → length store ≡ 16384 → sound b ≡ true → {x : Telling} → x ≡ listOf (b .engine .held) store text
     → x ≡ listing b store text

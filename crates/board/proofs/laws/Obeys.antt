@@ -17,6 +17,7 @@ use Rattle.count.proofs.laws.Truth.{and-left, and-right}
 use Rattle.motion.specs.declared.Planned.{Planned}
 use Rattle.motion.specs.declared.Planned.the-variants as planned
 use Rattle.motion.specs.Plan.{asked, planOf}
+use Rattle.record.specs.Memory.{Memory}
 use Rattle.record.specs.Fault.{isCode, countRight, axesRight, rangesRight, speedsRight, numbersReply, faultOf}
 use Rattle.record.proofs.laws.Faultless.{fault-none}
 use Rattle.line.specs.declared.Letter.{Letter}
@@ -147,59 +148,59 @@ named-small axes n l p =
 
 -- ---- the effect of each letter
 
-begun-by : (t : Bool) (b : Board) (g : Begun) (store : List ℕ)
-    → said (board (g .engine) (b .standing) noLine) (pick t [] (g .reply ∷ [])) store ≡ spoke (pick t (silentWith b (g .engine)) (repliedWith b (g .engine) (g .reply))) store
-begun-by true b g store = refl
-begun-by false b g store = refl
+begun-by : (t : Bool) (b : Board) (g : Begun) (m : Memory)
+    → said (board (g .engine) (b .standing) noLine) (pick t [] (g .reply ∷ [])) m ≡ spoke (pick t (silentWith b (g .engine)) (repliedWith b (g .engine) (g .reply))) m
+begun-by true b g m = refl
+begun-by false b g m = refl
 
-begin-so : (p : Planned) (b : Board) (store : List ℕ)
-    → pick (eqb (pick (isOutside p) 57 48) 48) (acceptedSaid (started-with (begunBy p (b .engine)) (b .standing)) store) (said (lineDone b) (pick (isOutside p) 57 48 ∷ []) store)
-    ≡ spoke (begunWith b (begunBy p (b .engine))) store
+begin-so : (p : Planned) (b : Board) (m : Memory)
+    → pick (eqb (pick (isOutside p) 57 48) 48) (acceptedSaid (started-with (begunBy p (b .engine)) (b .standing)) m) (said (lineDone b) (pick (isOutside p) 57 48 ∷ []) m)
+    ≡ spoke (begunWith b (begunBy p (b .engine))) m
 unfolding begunWith
-begin-so (planned.Going m) b store = begun-by (eqb (begunBy (planned.Going m) (b .engine) .reply) 0) b (begunBy (planned.Going m) (b .engine)) store
-begin-so planned.Outside b store = refl
+begin-so (planned.Going v) b m = begun-by (eqb (begunBy (planned.Going v) (b .engine) .reply) 0) b (begunBy (planned.Going v) (b .engine)) m
+begin-so planned.Outside b m = refl
 
-start-by : (s r a : Bool) (b : Board) (e : Engine) (store : List ℕ) → b .standing ≡ s
+start-by : (s r a : Bool) (b : Board) (e : Engine) (m : Memory) → b .standing ≡ s
     → pick (eqb (pick (true && not s && r) 56 (pick (true && not s && not a) 71 48)) 48)
-    (acceptedSaid (pick s (effect (b .engine) false []) (effect e false [])) store)
-    (said (lineDone b) (pick (true && not s && r) 56 (pick (true && not s && not a) 71 48) ∷ []) store)
-    ≡ spoke (pick s (spokeOf (board (b .engine) false noLine) saying.Silent) (pick r (repliedWith b (b .engine) 56) (pick a (silentWith b e) (repliedWith b (b .engine) 71)))) store
-start-by true r a b e store p = refl
-start-by false true a b e store p = refl
-start-by false false true b e store p = rw p
-start-by false false false b e store p = refl
+    (acceptedSaid (pick s (effect (b .engine) false []) (effect e false [])) m)
+    (said (lineDone b) (pick (true && not s && r) 56 (pick (true && not s && not a) 71 48) ∷ []) m)
+    ≡ spoke (pick s (spokeOf (board (b .engine) false noLine) saying.Silent) (pick r (repliedWith b (b .engine) 56) (pick a (silentWith b e) (repliedWith b (b .engine) 71)))) m
+start-by true r a b e m p = refl
+start-by false true a b e m p = refl
+start-by false false true b e m p = rw p
+start-by false false false b e m p = refl
 
-module _ (axes n : ℕ) (l ports : List ℕ) (b : Board) (store : List ℕ) where
+module _ (axes n : ℕ) (l ports : List ℕ) (b : Board) (m : Memory) where
   effect-so : (k : Letter) → numbersFault k axes n l ≡ 48
-      → pick (eqb (restOf k (b .engine) (b .standing) l) 48) (acceptedSaid (effectOf k l ports (b .engine) (b .standing)) store)
-      (said (lineDone b) (restOf k (b .engine) (b .standing) l ∷ []) store)
-      ≡ spoke (affected k l ports b) store
+      → pick (eqb (restOf k (b .engine) (b .standing) l) 48) (acceptedSaid (effectOf k l ports (b .engine) (b .standing)) m)
+      (said (lineDone b) (restOf k (b .engine) (b .standing) l ∷ []) m)
+      ≡ spoke (affected k l ports b) m
   unfolding startedBy beginOf
   effect-so letter.Wrong p = refl
   effect-so letter.Axes p =
       let q : getD l 0 0 % 256 ≡ getD l 0 0 = mod-eq-of-lt (axes-small n (getD l 0 0) p) in
-      ap (λ (w : ℕ). said (board (axesOf w (b .engine)) (b .standing) noLine) (48 ∷ []) store) (sym q)
-  effect-so letter.Relative p = begin-so (planOf (asked (b .engine .axes) (b .engine .three) (b .engine .at) (b .engine .origin) false l)) b store
-  effect-so letter.Absolute p = begin-so (planOf (asked (b .engine .axes) (b .engine .three) (b .engine .at) (b .engine .origin) true l)) b store
+      ap (λ (w : ℕ). said (board (axesOf w (b .engine)) (b .standing) noLine) (48 ∷ []) m) (sym q)
+  effect-so letter.Relative p = begin-so (planOf (asked (b .engine .axes) (b .engine .three) (b .engine .at) (b .engine .origin) false l)) b m
+  effect-so letter.Absolute p = begin-so (planOf (asked (b .engine .axes) (b .engine .three) (b .engine .at) (b .engine .origin) true l)) b m
   effect-so letter.Origin p =
       let q : getD l 0 0 % 256 ≡ getD l 0 0 = mod-eq-of-lt (named-small axes n l p) in
-      ap (λ (w : ℕ). said (board (originOf w (b .engine)) (b .standing) noLine) (48 ∷ []) store) (sym q)
+      ap (λ (w : ℕ). said (board (originOf w (b .engine)) (b .standing) noLine) (48 ∷ []) m) (sym q)
   effect-so letter.Zero p =
       let q : getD l 0 0 % 256 ≡ getD l 0 0 = mod-eq-of-lt (named-small axes n l p) in
-      ap (λ (w : ℕ). said (board (zeroOf w (b .engine)) (b .standing) noLine) (48 ∷ []) store) (sym q)
+      ap (λ (w : ℕ). said (board (zeroOf w (b .engine)) (b .standing) noLine) (48 ∷ []) m) (sym q)
   effect-so letter.Three p = refl
   effect-so letter.Position p = refl
   effect-so letter.Input p = refl
   effect-so letter.Output p =
       let q : getD l 1 0 % 256 ≡ getD l 1 0 = mod-eq-of-lt (byte-small n (getD l 0 0) (getD l 1 0) p) in
-      ap (λ (w : ℕ). said (board (withOutput (b .engine) w) (b .standing) noLine) (48 ∷ []) store) (sym q)
+      ap (λ (w : ℕ). said (board (withOutput (b .engine) w) (b .standing) noLine) (48 ∷ []) m) (sym q)
   effect-so letter.Store p = refl
   effect-so letter.Empty p = refl
-  effect-so letter.Start p = start-by (b .standing) (eqb (b .engine .held .records) 0) (eqb (b .engine .axes) (b .engine .held .axes)) b (started (b .engine)) store refl
+  effect-so letter.Start p = start-by (b .standing) (eqb (b .engine .held .records) 0) (eqb (b .engine .axes) (b .engine .held .axes)) b (started (b .engine)) m refl
 
 -- ---- the whole line
 
-module _ (d : Direct) (ports : List ℕ) (b : Board) (store : List ℕ) where
+module _ (d : Direct) (ports : List ℕ) (b : Board) (m : Memory) where
   abbrev faulty : ℕ
   faulty = lineFault (b .engine .axes) (b .standing) d
 
@@ -207,14 +208,14 @@ module _ (d : Direct) (ports : List ℕ) (b : Board) (store : List ℕ) where
   behind = restOf (d .letter) (b .engine) (b .standing) (d .words)
 
   abbrev effected : Said
-  effected = acceptedSaid (effectOf (d .letter) (d .words) ports (b .engine) (b .standing)) store
+  effected = acceptedSaid (effectOf (d .letter) (d .words) ports (b .engine) (b .standing)) m
 
   line-by : (t : Bool) → eqb faulty 48 ≡ t
-      → pick (eqb (pick t behind faulty) 48) effected (said (lineDone b) (pick t behind faulty ∷ []) store)
-      ≡ spoke (pick t (affected (d .letter) (d .words) ports b) (repliedWith b (b .engine) faulty)) store
-  line-by true e = effect-so (b .engine .axes) (d .count) (d .words) ports b store (d .letter) (no-fault (b .engine .axes) (b .standing) d (eqb-true faulty 48 e))
+      → pick (eqb (pick t behind faulty) 48) effected (said (lineDone b) (pick t behind faulty ∷ []) m)
+      ≡ spoke (pick t (affected (d .letter) (d .words) ports b) (repliedWith b (b .engine) faulty)) m
+  line-by true e = effect-so (b .engine .axes) (d .count) (d .words) ports b m (d .letter) (no-fault (b .engine .axes) (b .standing) d (eqb-true faulty 48 e))
   line-by false e = rw e
 
-  pub obey-so : directSaid d ports b store ≡ spoke (obeyed d ports b) store
+  pub obey-so : directSaid d ports b m ≡ spoke (obeyed d ports b) m
   unfolding directSaid obeyed
   obey-so = rw (reply-so (b .engine) (b .standing) d) (line-by (eqb faulty 48) refl)

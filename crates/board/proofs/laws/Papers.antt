@@ -8,6 +8,7 @@ use lib.ListN.{getD}
 use borrow.Author.Tests.{eq-eqb}
 use Rattle.count.specs.Pick.{pick}
 use Rattle.count.specs.Text.{fourDigits}
+use Rattle.record.specs.Memory.{Memory, memory}
 use Rattle.record.specs.Keep.{storeOf}
 use Rattle.program.specs.declared.Verdict.{Verdict}
 use Rattle.program.specs.declared.Verdict.the-variants as verdict
@@ -31,25 +32,25 @@ spelled [] = []
 spelled (letter ∷ l) = whole letter ∷ fourDigits (whole (getD l 0 (pos 0)))
 
 -- THE END LINE replies the number of the verdict, and behind it the letter and the place, if it has them
-pub end-paper : (b : Board) (store : List ℕ)
-    → endSaid b store .reply ≡ verdictPaper (verdictOf (b .engine .held) store) .number ∷ spelled (verdictPaper (verdictOf (b .engine .held) store) .values)
-end-paper b store =
-    by (board (ceased (b .engine)) (b .standing) noLine) (board (ceased (emptied (b .engine))) (b .standing) noLine) (verdictOf (b .engine .held) store)
+pub end-paper : (b : Board) (m : Memory)
+    → endSaid b m .reply ≡ verdictPaper (verdictOf (b .engine .held) (m .store)) .number ∷ spelled (verdictPaper (verdictOf (b .engine .held) (m .store)) .values)
+end-paper b m =
+    by (board (ceased (b .engine)) (b .standing) noLine) (board (ceased (emptied (b .engine))) (b .standing) noLine) (verdictOf (b .engine .held) (m .store))
   where
     by : (c d : Board) (v : Verdict)
-        → pick (isSound v) (said c (48 ∷ []) store) (said d (71 ∷ namedFault v) store) .reply ≡ verdictPaper v .number ∷ spelled (verdictPaper v .values)
+        → pick (isSound v) (said c (48 ∷ []) m) (said d (71 ∷ namedFault v) m) .reply ≡ verdictPaper v .number ∷ spelled (verdictPaper v .values)
     by c d verdict.Sound = refl
     by c d (verdict.Fault l p) = refl
     by c d verdict.Unreadable = refl
 
-module _ (d : Stored) (b : Board) (store : List ℕ) where
+module _ (d : Stored) (b : Board) (m : Memory) where
   -- A WRONG SHAPE replies its number
-  pub shape-paper : storedBy code.Wrong d b store .reply ≡ codePaper code.Wrong .number ∷ []
+  pub shape-paper : storedBy code.Wrong d b m .reply ≡ codePaper code.Wrong .number ∷ []
   shape-paper = refl
 
   -- A RECORD'S LINE that no row refuses replies its number, and the record that is written has the code on paper
-  pub record-paper : (c : ℕ) → recordReply (b .engine .held) (recordOf c d) store ≡ 48
-      → (storedBy (code.Record c) d b store .reply ≡ codePaper (code.Record c) .number ∷ [])
-      × (storedBy (code.Record c) d b store .store ≡ storeOf (b .engine .held) (recordOf c d) store .bytes)
+  pub record-paper : (c : ℕ) → recordReply (b .engine .held) (recordOf c d) m ≡ 48
+      → (storedBy (code.Record c) d b m .reply ≡ codePaper (code.Record c) .number ∷ [])
+      × (storedBy (code.Record c) d b m .memory ≡ memory (storeOf (b .engine .held) (recordOf c d) (m .store) .bytes))
       × (pos (recordOf c d .code) ∷ [] ≡ codePaper (code.Record c) .values)
-  record-paper c e = let t = eq-eqb (recordReply (b .engine .held) (recordOf c d) store) 48 e in (rw t, rw t, refl)
+  record-paper c e = let t = eq-eqb (recordReply (b .engine .held) (recordOf c d) m) 48 e in (rw t, rw t, refl)

@@ -11,6 +11,7 @@ use Rattle.count.specs.Pick.{pick}
 use Rattle.record.specs.declared.Held.{Held}
 use Rattle.record.specs.declared.Kept.{Kept}
 use Rattle.record.specs.declared.Record.{Record}
+use Rattle.record.specs.Memory.{Memory}
 use Rattle.record.specs.Bytes.{encode}
 use Rattle.record.specs.Fault.{isCode, countRight, axesRight, rangesRight, speedsRight, numbersReply, faultOf}
 use Rattle.record.proofs.laws.Faultless.{fault-none}
@@ -38,14 +39,14 @@ four false b c d o = refl
 
 -- ---- a record's reply
 
-module _ (r : Record) (b : Board) (store : List ℕ) (k : isCode (r .code) ≡ true) where
+module _ (r : Record) (b : Board) (m : Memory) (k : isCode (r .code) ≡ true) where
   abbrev fault : ℕ
   fault = faultOf (b .engine .held .axes) (r .code) (r .count) (r .words)
 
   abbrev fits : Bool
-  fits = storeOf (b .engine .held) r store .kept .stored
+  fits = storeOf (b .engine .held) r (m .store) .kept .stored
 
-  reply-so : recordReply (b .engine .held) r store ≡ pick (eqb fault 48) (pick (not fits) 54 48) fault
+  reply-so : recordReply (b .engine .held) r m ≡ pick (eqb fault 48) (pick (not fits) 54 48) fault
   unfolding recordReply faultOf
   reply-so =
       let axes = b .engine .held .axes in
@@ -53,20 +54,20 @@ module _ (r : Record) (b : Board) (store : List ℕ) (k : isCode (r .code) ≡ t
       (speedsRight axes (r .code) (r .words)) (pick (not fits) 54 48))
 
   said-by : (t s : Bool) (f : ℕ) (x : Said) → eqb f 48 ≡ t
-      → pick (eqb (pick t (pick (not s) 54 48) f) 48) x (said (lineDone b) (pick t (pick (not s) 54 48) f ∷ []) store)
-      ≡ pick t (pick s x (said (lineDone b) (54 ∷ []) store)) (said (lineDone b) (f ∷ []) store)
+      → pick (eqb (pick t (pick (not s) 54 48) f) 48) x (said (lineDone b) (pick t (pick (not s) 54 48) f ∷ []) m)
+      ≡ pick t (pick s x (said (lineDone b) (54 ∷ []) m)) (said (lineDone b) (f ∷ []) m)
   said-by true true f x e = refl
   said-by true false f x e = refl
   said-by false s f x e = rw e
 
-  record-so : recordSaid r b store ≡ pick (eqb fault 48) (keptSaid r b store) (said (lineDone b) (fault ∷ []) store)
+  record-so : recordSaid r b m ≡ pick (eqb fault 48) (keptSaid r b m) (said (lineDone b) (fault ∷ []) m)
   record-so = rw reply-so (said-by (eqb fault 48) fits fault _ refl)
 
   module _ {f : ℕ} (e : f ≡ fault) where
-    pub record-refused : (f ≡ 48 → ⊥) → {s : Spoke} → s ≡ repliedWith b (b .engine) f → spoke s store ≡ recordSaid r b store
-    record-refused h p = ap (λ (x : Spoke). spoke x store) p ∙ sym (record-so ∙ rw (← e, ne-eqb f 48 h))
+    pub record-refused : (f ≡ 48 → ⊥) → {s : Spoke} → s ≡ repliedWith b (b .engine) f → spoke s m ≡ recordSaid r b m
+    record-refused h p = ap (λ (x : Spoke). spoke x m) p ∙ sym (record-so ∙ rw (← e, ne-eqb f 48 h))
 
-    pub record-kept : f ≡ 48 → {x : Said} → x ≡ keptSaid r b store → x ≡ recordSaid r b store
+    pub record-kept : f ≡ 48 → {x : Said} → x ≡ keptSaid r b m → x ≡ recordSaid r b m
     record-kept h p = p ∙ sym (record-so ∙ rw (← e, eq-eqb f 48 h))
 
 -- a record that isn't stored leaves the store as it was
@@ -132,15 +133,15 @@ code-right s {d} {c} e p = ap okay (sym (sym (ap (λ (x : Stored). x .code) e) �
 
 -- ---- a line, by its code
 
-module _ (s : List ℕ) (b : Board) (store : List ℕ) {d : Stored} (e : d ≡ storedOf s) where
-  pub stored-wrong : d .code ≡ code.Wrong → {r : Spoke} → r ≡ repliedWith b (b .engine) 53 → spoke r store ≡ storedSaid (storedOf s) b store
+module _ (s : List ℕ) (b : Board) (m : Memory) {d : Stored} (e : d ≡ storedOf s) where
+  pub stored-wrong : d .code ≡ code.Wrong → {r : Spoke} → r ≡ repliedWith b (b .engine) 53 → spoke r m ≡ storedSaid (storedOf s) b m
   unfolding storedSaid
-  stored-wrong p q = ap (λ (x : Spoke). spoke x store) q ∙ rw (← e, p)
+  stored-wrong p q = ap (λ (x : Spoke). spoke x m) q ∙ rw (← e, p)
 
-  pub stored-record : {c : ℕ} → d .code ≡ code.Record c → {x : Said} → x ≡ recordSaid (recordOf c d) b store → x ≡ storedSaid (storedOf s) b store
+  pub stored-record : {c : ℕ} → d .code ≡ code.Record c → {x : Said} → x ≡ recordSaid (recordOf c d) b m → x ≡ storedSaid (storedOf s) b m
   unfolding storedSaid
   stored-record p q = q ∙ rw (← e, p)
 
-  pub stored-end : d .code ≡ code.End → {x : Said} → x ≡ endSaid b store → x ≡ storedSaid (storedOf s) b store
+  pub stored-end : d .code ≡ code.End → {x : Said} → x ≡ endSaid b m → x ≡ storedSaid (storedOf s) b m
   unfolding storedSaid
   stored-end p q = q ∙ rw (← e, p)

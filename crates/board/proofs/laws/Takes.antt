@@ -12,13 +12,14 @@ use lib.ListN.{length, getD, take, drop, drop-of-length-le}
 use Rattle.count.specs.Pick.{pick}
 use Rattle.count.proofs.laws.Lists.{next}
 use Rattle.count.proofs.laws.Truth.{and-left, and-right, both}
+use Rattle.record.specs.Memory.{Memory}
 use Rattle.board.specs.declared.Line.{Line}
 use Rattle.board.specs.declared.Lined.{Lined}
 use Rattle.board.specs.declared.Board.{Board}
 use Rattle.board.specs.declared.Ear.the-variants as ear
 use Rattle.board.specs.State.{gathered, withLine, sound, Said, said}
 use Rattle.board.specs.Receive.{hearing}
-use Rattle.board.specs.Calls.{Outcome, did, answered, receiving}
+use Rattle.board.specs.Calls.{Lent, lent, Outcome, did, answered, receiving}
 use Rattle.board.specs.work.Work.{gathersBy}
 use Rattle.board.specs.work.Ears.{earFor}
 use Rattle.board.specs.work.Take.{isPlain, plainFront, gatheredAll, linedOf, takenOf}
@@ -113,8 +114,8 @@ module _ (b : Board) (h : takes b ≡ true) where
       rw (ne-eqb byte 253 (λ e. omega arith), ne-eqb byte 254 (λ e. omega arith), ne-eqb byte 255 (λ e. omega arith), resting, not-true (eqb byte 13) n)
 
   -- and a plain one comes to no more than that
-  pub plain-heard : (byte : ℕ) → isPlain byte ≡ true → (ports store : List ℕ) → hearing byte ports b store ≡ said (withLine b (gathered byte (b .line))) [] store
-  plain-heard byte p ports store = sym (gathered-so byte ports b store (plain-ear byte p) refl)
+  pub plain-heard : (byte : ℕ) → isPlain byte ≡ true → (ports : List ℕ) (m : Memory) → hearing byte ports b m ≡ said (withLine b (gathered byte (b .line))) [] m
+  plain-heard byte p ports m = sym (gathered-so byte ports b m (plain-ear byte p) refl)
 
 -- what holds of no byte, and of a plain byte in front of others, holds of those at the front of an input
 pub plain-all : (P : List ℕ → Board → Type 0) → ((b : Board) → P [] b)
@@ -132,32 +133,32 @@ plain-all P z f (byte ∷ input) b h = by (isPlain byte) refl (plain-all P z f i
 -- ---- the bytes one by one
 
 -- nothing is replied, nothing refused, and what was lent is as it was
-abbrev pub quietly : Board → List ℕ → List ℕ → Outcome
-quietly b reply store = did (record { board = b; len = 0; refusal = 0 }) reply store
+abbrev pub quietly : Board → Lent → Outcome
+quietly b l = did (record { board = b; len = 0; refusal = 0 }) l
 
 -- each byte received in turn, what is lent handed on; the lengths of the replies, and the refusals, are added up
-unfoldable pub receivedAll : List ℕ → List ℕ → Board → List ℕ → List ℕ → Outcome
-receivedAll ports [] b reply store = quietly b reply store
-receivedAll ports (byte ∷ input) b reply store =
-    let o = receiving byte ports b reply store in
-    let a = receivedAll ports input (o .result .board) (o .reply) (o .store) in
-    did (record { board = a .result .board; len = o .result .len + a .result .len; refusal = o .result .refusal + a .result .refusal }) (a .reply) (a .store)
+unfoldable pub receivedAll : List ℕ → List ℕ → Board → Lent → Outcome
+receivedAll ports [] b l = quietly b l
+receivedAll ports (byte ∷ input) b l =
+    let o = receiving byte ports b l in
+    let a = receivedAll ports input (o .result .board) (o .after) in
+    did (record { board = a .result .board; len = o .result .len + a .result .len; refusal = o .result .refusal + a .result .refusal }) (a .after)
 
-module _ (ports reply store : List ℕ) (r : 32 ≤ length reply) (m : length store ≡ 16384) where
+module _ (ports reply : List ℕ) (m : Memory) (r : 32 ≤ length reply) (k : length (m .store) ≡ 16384) where
   plain-received : (byte : ℕ) (b : Board) → takes b ≡ true → isPlain byte ≡ true
-      → receiving byte ports b reply store ≡ quietly (withLine b (gathered byte (b .line))) reply store
+      → receiving byte ports b (lent reply m) ≡ quietly (withLine b (gathered byte (b .line))) (lent reply m)
   plain-received byte b h p =
-      never-refused byte ports b store (steady b h) reply r m ∙ ap (λ (s : Said). answered s reply) (plain-heard b h byte p ports store)
+      never-refused byte ports b m (steady b h) reply r k ∙ ap (λ (s : Said). answered s reply) (plain-heard b h byte p ports m)
 
   -- THE BATCH IS ITS BYTES ONE BY ONE
   pub take-is-received : (input : List ℕ) (b : Board)
-      → receivedAll ports (take (takenOf input b .count) input) b reply store ≡ quietly (takenOf input b .board) reply store
+      → receivedAll ports (take (takenOf input b .count) input) b (lent reply m) ≡ quietly (takenOf input b .board) (lent reply m)
   unfolding receivedAll gatheredAll
   take-is-received input b = by (takes b) refl
     where
-      by : (t : Bool) → takes b ≡ t → receivedAll ports (take (takenOf input b .count) input) b reply store ≡ quietly (takenOf input b .board) reply store
+      by : (t : Bool) → takes b ≡ t → receivedAll ports (take (takenOf input b .count) input) b (lent reply m) ≡ quietly (takenOf input b .board) (lent reply m)
       by true h =
           rw (taken-all input b h)
-          (plain-all (λ (l : List ℕ) (c : Board). receivedAll ports l c reply store ≡ quietly (withLine c (gatheredAll l (c .line))) reply store) (λ c. refl)
-          (λ byte l c k p q. rw (plain-received byte c k p, q)) input b h)
+          (plain-all (λ (l : List ℕ) (c : Board). receivedAll ports l c (lent reply m) ≡ quietly (withLine c (gatheredAll l (c .line))) (lent reply m)) (λ c. refl)
+          (λ byte l c t p q. rw (plain-received byte c t p, q)) input b h)
       by false h = rw (taken-none input b h)

@@ -1,6 +1,7 @@
 -- `board::Board::clock` meets its contract. Assumes nothing.
 use mathlib.Core.Path.{sym, _∙_}
 use borrow.Author.Tests.{eq-eqb, ne-eqb, not-false}
+use Rattle.record.specs.Memory.{memory}
 use Rattle.board.specs.Calls.{clocking}
 use Rattle.board.proofs.laws.Hears.{refused-so, acted-so, clocked-so}
 use borrow.Author.Needs.{needs}
@@ -41,7 +42,7 @@ returns-4 : tie.Need-returns-4
 returns-4 c =
     let a = c .before .before .before .before .before .before .before .before .before .before .before .args in
     let h = not-false _ (sym (refused-so (c .before .before .before .before .before .before .before .before .before .before .before .args .self) (c .before .before .before .before .before .before .see .ensures) (c .before .before .before .before .before .is-refused .ensures)) ∙ c .before .before .before .if2 .left) in
-    clocked-so (a .self) (a .store .now) (c .before .before .before .before .before .before .before .before .before .if1 .left) h (c .before .before .if3 .left) (acted-so (a .self) (a .store .now) h (c .before .before .before .before .before .before .see .ensures) (c .before .act .ensures))
+    clocked-so (a .self) (memory (a .store .now)) (c .before .before .before .before .before .before .before .before .before .if1 .left) h (c .before .before .if3 .left) (acted-so (a .self) (memory (a .store .now)) h (c .before .before .before .before .before .before .see .ensures) (c .before .act .ensures))
 
 pub clock-spec : {M : Type 1} → statement M
 clock-spec =

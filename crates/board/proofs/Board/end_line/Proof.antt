@@ -1,4 +1,5 @@
 -- `board::Board::end_line` meets its contract. Assumes nothing.
+use Rattle.record.specs.Memory.{memory}
 use Rattle.board.proofs.laws.Hears.{return-over, return-stored, return-direct}
 use borrow.Author.Needs.{needs}
 use Rattle.board.proofs.Board.end_line.Statement.{statement}
@@ -8,7 +9,7 @@ replies-requires : tie.Need-replies-requires
 replies-requires c κs = search needs
 
 returns : tie.Need-returns
-returns c = return-over (c .before .before .before .before .before .before .args .ports) (c .before .before .before .before .before .before .args .self) (c .before .before .before .before .before .before .args .store .now) (c .before .if1 .taken) (c .replies .ensures)
+returns c = return-over (c .before .before .before .before .before .before .args .ports) (c .before .before .before .before .before .before .args .self) (memory (c .before .before .before .before .before .before .args .store .now)) (c .before .if1 .taken) (c .replies .ensures)
 
 is-storing-requires : tie.Need-is-storing-requires
 is-storing-requires c κs = search needs
@@ -20,7 +21,7 @@ same-length : tie.Need-same-length
 same-length c = search needs
 
 returns-2 : tie.Need-returns-2
-returns-2 c = return-stored (c .before .before .before .before .before .before .before .before .before .before .before .before .args .ports) (c .before .before .before .before .before .before .before .before .before .before .before .before .args .self) (c .before .before .before .before .before .before .before .before .before .before .before .before .args .store .now) (c .before .before .before .before .before .before .before .if1 .left) (c .before .before .before .before .before .before .is-storing .ensures) (c .before .before .before .before .if2 .taken) (c .before .before .store-line .ensures)
+returns-2 c = return-stored (c .before .before .before .before .before .before .before .before .before .before .before .before .args .ports) (c .before .before .before .before .before .before .before .before .before .before .before .before .args .self) (memory (c .before .before .before .before .before .before .before .before .before .before .before .before .args .store .now)) (c .before .before .before .before .before .before .before .if1 .left) (c .before .before .before .before .before .before .is-storing .ensures) (c .before .before .before .before .if2 .taken) (c .before .before .store-line .ensures)
 
 as-direct-requires : tie.Need-as-direct-requires
 as-direct-requires c κs = search needs
@@ -29,7 +30,7 @@ obey-requires : tie.Need-obey-requires
 obey-requires c κs = search needs
 
 returns-3 : tie.Need-returns-3
-returns-3 c = return-direct (c .before .before .before .before .before .before .before .before .before .before .args .ports) (c .before .before .before .before .before .before .before .before .before .before .args .self) (c .before .before .before .before .before .before .before .before .before .before .args .store .now) (c .before .before .before .before .before .if1 .left) (c .before .before .before .before .is-storing .ensures) (c .before .before .if2 .left) (c .before .as-direct .ensures) (c .obey .ensures)
+returns-3 c = return-direct (c .before .before .before .before .before .before .before .before .before .before .args .ports) (c .before .before .before .before .before .before .before .before .before .before .args .self) (memory (c .before .before .before .before .before .before .before .before .before .before .args .store .now)) (c .before .before .before .before .before .if1 .left) (c .before .before .before .before .is-storing .ensures) (c .before .before .if2 .left) (c .before .as-direct .ensures) (c .obey .ensures)
 
 pub end-line-spec : {M : Type 1} → statement M
 end-line-spec =

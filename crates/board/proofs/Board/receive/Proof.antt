@@ -5,6 +5,7 @@ use mathlib.Core.List.{_∷_, []}
 use borrow.Author.Tests.{lt-ltb, le-ltb, eq-eqb, ne-eqb, not-false}
 use types.Run.{OneOf, miss}
 use denote.Enum.Declared.{tagOf}
+use Rattle.record.specs.Memory.{memory}
 use Rattle.board.specs.declared.Ear.{Ear}
 use Rattle.board.specs.declared.Ear.the-variants as ear
 use Rattle.board.specs.declared.Saying.the-variants as saying
@@ -57,9 +58,9 @@ quiet-requires c κs = search needs
 returns-4 : tie.Need-returns-4
 returns-4 c =
     let a = c .before .before .before .before .before .before .before .before .before .before .before in
-    received-so (a .args .byte) (a .args .ports) (a .args .self) (a .args .reply .now) (a .args .store .now) (c .before .before .before .before .before .before .before .before .if1 .left) (c .before .before .before .before .before .before .before .if2 .left)
+    received-so (a .args .byte) (a .args .ports) (a .args .self) (a .args .reply .now) (memory (a .args .store .now)) (c .before .before .before .before .before .before .before .before .if1 .left) (c .before .before .before .before .before .before .before .if2 .left)
     (sym (c .before .before .before .before .before .before .sound .ensures) ∙ not-false _ (c .before .before .before .before .before .if3 .left)) (spokeOf (c .before .gather .result) saying.Silent)
-    (gathered-so (a .args .byte) (a .args .ports) (a .args .self) (a .args .store .now) (sym (c .before .before .enum-told .given .1) ∙ c .before .before .before .before .ear .ensures) (c .before .gather .ensures)) (c .quiet .ensures) refl
+    (gathered-so (a .args .byte) (a .args .ports) (a .args .self) (memory (a .args .store .now)) (sym (c .before .before .enum-told .given .1) ∙ c .before .before .before .before .ear .ensures) (c .before .gather .ensures)) (c .quiet .ensures) refl
 
 -- every sort but the first
 other : (e : Ear) → OneOf (1 ∷ 2 ∷ 3 ∷ 4 ∷ 5 ∷ 6 ∷ []) (tagOf the-type e) → isGather e ≡ false
@@ -89,9 +90,9 @@ same-length-2 c = search needs
 returns-5 : tie.Need-returns-5
 returns-5 c =
     let a = c .before .before .before .before .before .before .before .before .before .before .before .before .before .before .before .before in
-    received-so (a .args .byte) (a .args .ports) (a .args .self) (a .args .reply .now) (a .args .store .now) (c .before .before .before .before .before .before .before .before .before .before .before .before .before .if1 .left) (c .before .before .before .before .before .before .before .before .before .before .before .before .if2 .left)
+    received-so (a .args .byte) (a .args .ports) (a .args .self) (a .args .reply .now) (memory (a .args .store .now)) (c .before .before .before .before .before .before .before .before .before .before .before .before .before .if1 .left) (c .before .before .before .before .before .before .before .before .before .before .before .before .if2 .left)
     (sym (c .before .before .before .before .before .before .before .before .before .before .before .sound .ensures) ∙ not-false _ (c .before .before .before .before .before .before .before .before .before .before .if3 .left)) (c .before .before .before .before .before .before .hear .result)
-    (heard-so (a .args .byte) (a .args .ports) (a .args .self) (a .args .store .now) (c .before .before .before .before .before .before .before .before .before .ear .ensures) (c .before .before .before .before .before .before .hear .ensures)) (c .before .before .answer .ensures .0) (c .before .before .answer .ensures .1)
+    (heard-so (a .args .byte) (a .args .ports) (a .args .self) (memory (a .args .store .now)) (c .before .before .before .before .before .before .before .before .before .ear .ensures) (c .before .before .before .before .before .before .hear .ensures)) (c .before .before .answer .ensures .0) (c .before .before .answer .ensures .1)
 
 pub receive-spec : {M : Type 1} → statement M
 receive-spec =

@@ -1,6 +1,7 @@
 -- `board::Board::record_line` meets its contract. Assumes nothing.
 use mathlib.Core.Path.{sym, _∙_}
 use native.Mathlib.Omega.{arith}
+use Rattle.record.specs.Memory.{memory}
 use Rattle.board.specs.Storing.{recordOf}
 use Rattle.board.proofs.laws.Stores.{record-refused, record-kept, count-small}
 use borrow.Author.Needs.{needs}
@@ -14,7 +15,7 @@ replies-requires : tie.Need-replies-requires
 replies-requires c κs = search needs
 
 returns : tie.Need-returns
-returns c = record-refused (recordOf (c .before .before .before .before .before .before .before .args .code) (c .before .before .before .before .before .before .before .args .d)) (c .before .before .before .before .before .before .before .args .self) (c .before .before .before .before .before .before .before .args .store .now) (c .before .before .before .before .before .before .before .pre) (c .before .before .record-fault .ensures) (c .before .if1 .taken) (c .replies .ensures)
+returns c = record-refused (recordOf (c .before .before .before .before .before .before .before .args .code) (c .before .before .before .before .before .before .before .args .d)) (c .before .before .before .before .before .before .before .args .self) (memory (c .before .before .before .before .before .before .before .args .store .now)) (c .before .before .before .before .before .before .before .pre) (c .before .before .record-fault .ensures) (c .before .if1 .taken) (c .replies .ensures)
 
 cast-t12 : tie.Need-cast-t12
 cast-t12 c = let h = count-small _ _ _ _ (sym (c .before .record-fault .ensures) ∙ c .if1 .left) in omega arith
@@ -26,7 +27,7 @@ same-length : tie.Need-same-length
 same-length c = search needs
 
 returns-2 : tie.Need-returns-2
-returns-2 c = record-kept (recordOf (c .before .before .before .before .before .before .before .before .before .before .args .code) (c .before .before .before .before .before .before .before .before .before .before .args .d)) (c .before .before .before .before .before .before .before .before .before .before .args .self) (c .before .before .before .before .before .before .before .before .before .before .args .store .now) (c .before .before .before .before .before .before .before .before .before .before .pre) (c .before .before .before .before .before .record-fault .ensures) (c .before .before .before .before .if1 .left) (c .before .before .keep .ensures)
+returns-2 c = record-kept (recordOf (c .before .before .before .before .before .before .before .before .before .before .args .code) (c .before .before .before .before .before .before .before .before .before .before .args .d)) (c .before .before .before .before .before .before .before .before .before .before .args .self) (memory (c .before .before .before .before .before .before .before .before .before .before .args .store .now)) (c .before .before .before .before .before .before .before .before .before .before .pre) (c .before .before .before .before .before .record-fault .ensures) (c .before .before .before .before .if1 .left) (c .before .before .keep .ensures)
 
 pub record-line-spec : {M : Type 1} → statement M
 record-line-spec =

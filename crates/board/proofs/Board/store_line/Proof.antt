@@ -1,4 +1,5 @@
 -- `board::Board::store_line` meets its contract. Assumes nothing.
+use Rattle.record.specs.Memory.{memory}
 use Rattle.board.specs.State.{textOf}
 use Rattle.board.proofs.laws.Stores.{code-right, stored-wrong, stored-record, stored-end}
 use borrow.Author.Needs.{needs}
@@ -27,19 +28,19 @@ end-storing-requires : tie.Need-end-storing-requires
 end-storing-requires c κs = search needs
 
 returns : tie.Need-returns
-returns c = stored-wrong (textOf (c .before .before .before .before .before .before .args .self .line)) (c .before .before .before .before .before .before .args .self) (c .before .before .before .before .before .before .args .store .now) (c .before .before .before .as-stored .ensures) (c .before .enum-told .given .1) (c .replies .ensures)
+returns c = stored-wrong (textOf (c .before .before .before .before .before .before .args .self .line)) (c .before .before .before .before .before .before .args .self) (memory (c .before .before .before .before .before .before .args .store .now)) (c .before .before .before .as-stored .ensures) (c .before .enum-told .given .1) (c .replies .ensures)
 
 same-length : tie.Need-same-length
 same-length c = search needs
 
 returns-2 : tie.Need-returns-2
-returns-2 c = stored-record (textOf (c .before .before .before .before .before .before .before .before .before .before .args .self .line)) (c .before .before .before .before .before .before .before .before .before .before .args .self) (c .before .before .before .before .before .before .before .before .before .before .args .store .now) (c .before .before .before .before .before .before .before .as-stored .ensures) (c .before .before .before .before .before .code .given .1) (c .before .before .record-line .ensures)
+returns-2 c = stored-record (textOf (c .before .before .before .before .before .before .before .before .before .before .args .self .line)) (c .before .before .before .before .before .before .before .before .before .before .args .self) (memory (c .before .before .before .before .before .before .before .before .before .before .args .store .now)) (c .before .before .before .before .before .before .before .as-stored .ensures) (c .before .before .before .before .before .code .given .1) (c .before .before .record-line .ensures)
 
 same-length-2 : tie.Need-same-length-2
 same-length-2 c = search needs
 
 returns-3 : tie.Need-returns-3
-returns-3 c = stored-end (textOf (c .before .before .before .before .before .before .before .args .self .line)) (c .before .before .before .before .before .before .before .args .self) (c .before .before .before .before .before .before .before .args .store .now) (c .before .before .before .before .as-stored .ensures) (c .before .before .enum-told2 .given .1) (c .end-storing .ensures)
+returns-3 c = stored-end (textOf (c .before .before .before .before .before .before .before .args .self .line)) (c .before .before .before .before .before .before .before .args .self) (memory (c .before .before .before .before .before .before .before .args .store .now)) (c .before .before .before .before .as-stored .ensures) (c .before .before .enum-told2 .given .1) (c .end-storing .ensures)
 
 pub store-line-spec : {M : Type 1} → statement M
 store-line-spec =

@@ -9,12 +9,13 @@ use lib.ListN.{length, take, drop, set, length-append, length-drop, take-append-
 use lib.Seq.{length-take-le, take-at, drop-at, drop-drop, drop-append-add, set-split}
 use Rattle.count.specs.Pick.{pick}
 use Rattle.count.proofs.laws.Lists.{rest, to-end}
+use Rattle.record.specs.Memory.{Memory}
 use Rattle.board.specs.declared.Board.{Board}
 use Rattle.board.specs.declared.Received.{Received}
 use Rattle.board.specs.State.{Said, sound}
 use Rattle.board.specs.Receive.{hearing}
 use Rattle.board.specs.Calls as calls
-use Rattle.board.specs.Calls.{receiving, answered}
+use Rattle.board.specs.Calls.{lent, receiving, answered}
 use Rattle.board.proofs.laws.Laws.{hearing-sound, store-length, reply-short, never-refused}
 use Rattle.course.specs.declared.Ran.{Ran}
 use Rattle.course.specs.declared.Walk.{Walk}
@@ -110,38 +111,38 @@ reply-framed (a ∷ b ∷ s) n h z =
 
 -- ---- the byte
 
-module _ (byte : ℕ) (w : Walk) (store out : List ℕ) where
+module _ (byte : ℕ) (w : Walk) (mem : Memory) (out : List ℕ) where
   abbrev s : Said
-  s = hearing byte noPorts (w .board) store
+  s = hearing byte noPorts (w .board) mem
 
   abbrev t : List ℕ
   t = replyText (s .reply)
 
   abbrev c : Course
-  c = course (allowed most (drop (length t) out)) (s .store) (s .board)
+  c = course (allowed most (drop (length t) out)) (s .memory) (s .board)
 
   abbrev onward : Done
-  onward = done (further c 0) (t ++ c .text) (s .store) out
+  onward = done (further c 0) (t ++ c .text) (s .memory) out
 
-  pub next-on : w .over ≡ false → doneOf (same w) store out ≡ nextDone byte w store out
+  pub next-on : w .over ≡ false → doneOf (same w) mem out ≡ nextDone byte w mem out
   unfolding nextDone
-  next-on o = sym (pick-no onward (done w [] store out) (w .over && ready w store out) (λ i. o i && ready w store out))
+  next-on o = sym (pick-no onward (done w [] mem out) (w .over && ready w mem out) (λ i. o i && ready w mem out))
 
-  pub next-unready : w .over ≡ true → ready w store out ≡ false → doneOf (same w) store out ≡ nextDone byte w store out
+  pub next-unready : w .over ≡ true → ready w mem out ≡ false → doneOf (same w) mem out ≡ nextDone byte w mem out
   unfolding nextDone
-  next-unready o e = sym (pick-no onward (done w [] store out) (w .over && ready w store out) (λ i. o i && e i))
+  next-unready o e = sym (pick-no onward (done w [] mem out) (w .over && ready w mem out) (λ i. o i && e i))
 
-  pub went-next : w .over ≡ true → ready w store out ≡ true → nextDone byte w store out ≡ onward
+  pub went-next : w .over ≡ true → ready w mem out ≡ true → nextDone byte w mem out ≡ onward
   unfolding nextDone
-  went-next o e = pick-yes onward (done w [] store out) (w .over && ready w store out) (λ i. o i && e i)
+  went-next o e = pick-yes onward (done w [] mem out) (w .over && ready w mem out) (λ i. o i && e i)
 
-  module _ (o : w .over ≡ true) (e : ready w store out ≡ true) {r : Received} {reply store′ : List ℕ}
-      (q : calls.did r reply store′ ≡ receiving byte noPorts (w .board) (take (length out - 2) (drop 2 out)) store) where
+  module _ (o : w .over ≡ true) (e : ready w mem out ≡ true) {r : Received} {reply : List ℕ} {mem′ : Memory}
+      (q : calls.did r (lent reply mem′) ≡ receiving byte noPorts (w .board) (lent (take (length out - 2) (drop 2 out)) mem)) where
     room : 32 ≤ length (take (length out - 2) (drop 2 out))
-    room = let p = ready-parts w store out e in rw (rest, length-drop) (omega arith)
+    room = let p = ready-parts w mem out e in rw (rest, length-drop) (omega arith)
 
-    heard : calls.did r reply store′ ≡ answered s (take (length out - 2) (drop 2 out))
-    heard = let p = ready-parts w store out e in q ∙ never-refused byte noPorts (w .board) store (p .2) _ room (p .1)
+    heard : calls.did r (lent reply mem′) ≡ answered s (take (length out - 2) (drop 2 out))
+    heard = let p = ready-parts w mem out e in q ∙ never-refused byte noPorts (w .board) mem (p .2) _ room (p .1)
 
     pub its-board : r .board ≡ s .board
     its-board = ap (λ (x : calls.Outcome). x .result .board) heard
@@ -149,51 +150,51 @@ module _ (byte : ℕ) (w : Walk) (store out : List ℕ) where
     pub its-length : r .len ≡ length (s .reply)
     its-length = ap (λ (x : calls.Outcome). x .result .len) heard
 
-    pub its-store : store′ ≡ s .store
-    its-store = ap (λ (x : calls.Outcome). x .store) heard
+    pub its-memory : mem′ ≡ s .memory
+    its-memory = ap (λ (x : calls.Outcome). x .after .memory) heard
 
     its-reply : reply ≡ s .reply ++ drop (length (s .reply)) (drop 2 out)
-    its-reply = ap (λ (x : calls.Outcome). x .reply) heard ∙ rw rest
+    its-reply = ap (λ (x : calls.Outcome). x .after .reply) heard ∙ rw rest
 
     pub two : 2 ≤ length out
-    two = let p = ready-parts w store out e in omega arith
+    two = let p = ready-parts w mem out e in omega arith
 
     pub its-out : putMid 2 (length out - 2) out reply ≡ held out (s .reply) two
     its-out = to-end 2 out reply ∙ ap (λ (x : List ℕ). take 2 out ++ x) its-reply
 
     -- the whole portion
     pub next-made : {n : ℕ} {out2 last : List ℕ} {m : Ran} → Wrote (replyText (take (r .len) (drop 2 (putMid 2 (length out - 2) out reply)))) (putMid 2 (length out - 2) out reply) n out2
-        → didRun m last ≡ runOutcome most (r .board) store′ (take (length out2 - n) (drop n out2))
-        → doneOf (record { walk = walk (m .board) (m .calls) (m .over); len = n + m .len }) store′ (putMid n (length out2 - n) out2 last) ≡ nextDone byte w store out
+        → didRun m last ≡ runOutcome most (r .board) mem′ (take (length out2 - n) (drop n out2))
+        → doneOf (record { walk = walk (m .board) (m .calls) (m .over); len = n + m .len }) mem′ (putMid n (length out2 - n) out2 last) ≡ nextDone byte w mem out
     next-made {n} {out2} {last} {m} f g =
-        let p = ready-parts w store out e in
+        let p = ready-parts w mem out e in
         let v : Wrote t out n out2 = framed out (s .reply) two its-out its-length f in
         let d : drop n out2 ≡ drop (length t) out = rw (v .text) (drop-at t (drop (length t) out) n (sym (v .long))) in
         let u : take (length out2 - n) (drop n out2) ≡ drop (length t) out = rest n out2 ∙ d in
-        let ks : sound (s .board) ≡ true = hearing-sound byte noPorts (w .board) store (p .2) in
-        let kl : length (s .store) ≡ 16384 = store-length byte noPorts (w .board) store (p .2) ∙ p .1 in
+        let ks : sound (s .board) ≡ true = hearing-sound byte noPorts (w .board) mem (p .2) in
+        let kl : length (s .memory .store) ≡ 16384 = store-length byte noPorts (w .board) mem (p .2) ∙ p .1 in
         let k : didRun m last ≡ ran c (drop (length t) out) =
-        g ∙ (λ i. runOutcome most (its-board i) (its-store i) (u i)) ∙ unrefused most (s .board) (s .store) (drop (length t) out) kl ks in
+        g ∙ (λ i. runOutcome most (its-board i) (its-memory i) (u i)) ∙ unrefused most (s .board) (s .memory) (drop (length t) out) kl ks in
         let x : Wrote (c .text) (take (length out2 - n) (drop n out2)) (m .len) last =
         record { long = ap (λ (y : RunOutcome). y .result .len) k; text = ap (λ (y : RunOutcome). y .out) k ∙ ap (λ (y : List ℕ). c .text ++ drop (length (c .text)) y) (sym u) } in
         let z : Wrote (t ++ c .text) out (n + m .len) (putMid n (length out2 - n) out2 last) = wrote-then v x in
         let kb = ap (λ (y : RunOutcome). y .result .board) k in
         let kc : m .calls ≡ 0 + c .calls = ap (λ (y : RunOutcome). y .result .calls) k ∙ omega arith in
         let ko = ap (λ (y : RunOutcome). y .result .over) k in
-        (λ i. doneOf (record { walk = walk (kb i) (kc i) (ko i); len = z .long i }) (its-store i) (z .text i))
+        (λ i. doneOf (record { walk = walk (kb i) (kc i) (ko i); len = z .long i }) (its-memory i) (z .text i))
         ∙ sym (went-next o e)
 
     -- the whole portion of a byte after which nothing runs
     pub next-still : {n : ℕ} {out2 : List ℕ} → Wrote (replyText (take (r .len) (drop 2 (putMid 2 (length out - 2) out reply)))) (putMid 2 (length out - 2) out reply) n out2
-        → runsNow (r .board) ≡ false → doneOf (record { walk = walk (r .board) 0 true; len = n }) store′ out2 ≡ nextDone byte w store out
+        → runsNow (r .board) ≡ false → doneOf (record { walk = walk (r .board) 0 true; len = n }) mem′ out2 ≡ nextDone byte w mem out
     next-still {n} {out2} f z =
         let v : Wrote t out n out2 = framed out (s .reply) two its-out its-length f in
         let y : runsNow (s .board) ≡ false = sym (ap runsNow its-board) ∙ z in
-        let k : noCalls (s .board) ≡ c = sym (course-off (s .store) (allowed most (drop (length t) out)) (s .board) y) in
+        let k : noCalls (s .board) ≡ c = sym (course-off (s .memory) (allowed most (drop (length t) out)) (s .board) y) in
         let ko : true ≡ not (runsNow (s .board)) = sym (ap not y) in
-        (λ i. doneOf (record { walk = walk (its-board i) 0 (ko i); len = v .long i }) (its-store i) (v .text i))
-        ∙ ap (λ (x : List ℕ). done (further (noCalls (s .board)) 0) x (s .store) out) (sym (append-nil t))
-        ∙ ap (λ (x : Course). done (further x 0) (t ++ x .text) (s .store) out) k
+        (λ i. doneOf (record { walk = walk (its-board i) 0 (ko i); len = v .long i }) (its-memory i) (v .text i))
+        ∙ ap (λ (x : List ℕ). done (further (noCalls (s .board)) 0) x (s .memory) out) (sym (append-nil t))
+        ∙ ap (λ (x : Course). done (further x 0) (t ++ x .text) (s .memory) out) k
         ∙ sym (went-next o e)
 
     -- the reply's line and the run's text lie in the buffer
@@ -202,21 +203,21 @@ module _ (byte : ℕ) (w : Walk) (store out : List ℕ) where
     framed-here f = framed out (s .reply) two its-out its-length f
 
     pub reply-fits : r .len ≤ 19
-    reply-fits = let p = ready-parts w store out e in omega (arith, its-length, reply-short byte noPorts (w .board) store (p .2))
+    reply-fits = let p = ready-parts w mem out e in omega (arith, its-length, reply-short byte noPorts (w .board) mem (p .2))
 
     pub line-fits : {n : ℕ} {out2 : List ℕ} → Wrote t out n out2 → n ≤ 22
-    line-fits v = let p = ready-parts w store out e in omega (arith, v .long, reply-long (s .reply), reply-short byte noPorts (w .board) store (p .2))
+    line-fits v = let p = ready-parts w mem out e in omega (arith, v .long, reply-long (s .reply), reply-short byte noPorts (w .board) mem (p .2))
 
     pub run-fits : {n : ℕ} {out2 last : List ℕ} {m : Ran} → Wrote t out n out2
-        → didRun m last ≡ runOutcome most (r .board) store′ (take (length out2 - n) (drop n out2)) → length last ≡ length (take (length out2 - n) (drop n out2)) → m .len ≤ length out2 - n
+        → didRun m last ≡ runOutcome most (r .board) mem′ (take (length out2 - n) (drop n out2)) → length last ≡ length (take (length out2 - n) (drop n out2)) → m .len ≤ length out2 - n
     run-fits {n} {out2} {last} {m} v g l =
-        let p = ready-parts w store out e in
+        let p = ready-parts w mem out e in
         let u = take (length out2 - n) (drop n out2) in
-        let ks : sound (s .board) ≡ true = hearing-sound byte noPorts (w .board) store (p .2) in
-        let kl : length (s .store) ≡ 16384 = store-length byte noPorts (w .board) store (p .2) ∙ p .1 in
-        let k : didRun m last ≡ ran (course (allowed most u) (s .store) (s .board)) u =
-        g ∙ (λ i. runOutcome most (its-board i) (its-store i) u) ∙ unrefused most (s .board) (s .store) u kl ks in
-        let x : Wrote (course (allowed most u) (s .store) (s .board) .text) u (m .len) last =
+        let ks : sound (s .board) ≡ true = hearing-sound byte noPorts (w .board) mem (p .2) in
+        let kl : length (s .memory .store) ≡ 16384 = store-length byte noPorts (w .board) mem (p .2) ∙ p .1 in
+        let k : didRun m last ≡ ran (course (allowed most u) (s .memory) (s .board)) u =
+        g ∙ (λ i. runOutcome most (its-board i) (its-memory i) u) ∙ unrefused most (s .board) (s .memory) u kl ks in
+        let x : Wrote (course (allowed most u) (s .memory) (s .board) .text) u (m .len) last =
         record { long = ap (λ (y : RunOutcome). y .result .len) k; text = ap (λ (y : RunOutcome). y .out) k } in
         let d : length u ≡ length out2 - n = rw (rest, length-drop) in
         omega (arith, text-within x l, d)

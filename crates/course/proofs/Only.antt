@@ -40,7 +40,7 @@ next-out s = s .1 .1 .1 .0
 
 pub next-one : (κs : _) (a : _) (r r′ : _) (s s′ : _) → next.Post κs a r s → next.Post κs a r′ s′
     → (r ≡ r′) × (now (next-store s) ≡ now (next-store s′)) × (now (next-out s) ≡ now (next-out s′))
-next-one κs a r r′ s s′ p q = (ap (λ (d : Done). d .portion) (p ∙ sym q), ap (λ (d : Done). d .store) (p ∙ sym q), ap (λ (d : Done). d .out) (p ∙ sym q))
+next-one κs a r r′ s s′ p q = (ap (λ (d : Done). d .portion) (p ∙ sym q), ap (λ (d : Done). d .memory .store) (p ∙ sym q), ap (λ (d : Done). d .out) (p ∙ sym q))
 
 pub feed-one : (κs : _) (a : _) (r r′ : _) (s s′ : _) → feed.Post κs a r s → feed.Post κs a r′ s′ → r ≡ r′
 feed-one κs a r r′ s s′ p q = p ∙ sym q

@@ -7,6 +7,7 @@ use lib.Dec.{eqb}
 use lib.ListN.{length, drop}
 use borrow.Author.Tests.{eq-eqb, ne-eqb}
 use Rattle.count.specs.Pick.{pick}
+use Rattle.record.specs.Memory.{Memory}
 use Rattle.engine.specs.declared.Engine.{Engine}
 use Rattle.board.specs.declared.Board.{Board}
 use Rattle.board.specs.State.{sound}
@@ -18,31 +19,31 @@ use Rattle.course.specs.work.Machine.{Left, Way, leftBy}
 use Rattle.course.specs.work.Going.{goWay, wentOf}
 use Rattle.course.proofs.laws.Boards.{withEngine, onBoard, course-is-go, stands}
 
-module _ (limit : ℕ) (b : Board) (store out : List ℕ) where
-  pub refused-102 : (length store ≡ 16384 → ⊥) → didRun (stood 102 b) out ≡ runOutcome limit b store out
+module _ (limit : ℕ) (b : Board) (m : Memory) (out : List ℕ) where
+  pub refused-102 : (length (m .store) ≡ 16384 → ⊥) → didRun (stood 102 b) out ≡ runOutcome limit b m out
   unfolding runOutcome
-  refused-102 h = rw (ne-eqb (length store) 16384 h)
+  refused-102 h = rw (ne-eqb (length (m .store)) 16384 h)
 
-  module _ (l : length store ≡ 16384) where
-    pub refused-103 : sound b ≡ false → didRun (stood 103 b) out ≡ runOutcome limit b store out
+  module _ (l : length (m .store) ≡ 16384) where
+    pub refused-103 : sound b ≡ false → didRun (stood 103 b) out ≡ runOutcome limit b m out
     unfolding runOutcome
-    refused-103 s = rw (eq-eqb (length store) 16384 l, s)
+    refused-103 s = rw (eq-eqb (length (m .store)) 16384 l, s)
 
-    pub unrefused : sound b ≡ true → runOutcome limit b store out ≡ ran (course (allowed limit out) store b) out
+    pub unrefused : sound b ≡ true → runOutcome limit b m out ≡ ran (course (allowed limit out) m b) out
     unfolding runOutcome
-    unrefused s = rw (eq-eqb (length store) 16384 l, s)
+    unrefused s = rw (eq-eqb (length (m .store)) 16384 l, s)
 
-    pub rests-there : sound b ≡ true → b .standing ≡ true → didRun (stood 0 b) out ≡ runOutcome limit b store out
-    rests-there s n = sym (unrefused s ∙ ap (λ (c : Course). ran c out) (stands store (allowed limit out) b n))
+    pub rests-there : sound b ≡ true → b .standing ≡ true → didRun (stood 0 b) out ≡ runOutcome limit b m out
+    rests-there s n = sym (unrefused s ∙ ap (λ (c : Course). ran c out) (stands m (allowed limit out) b n))
 
     -- the engine's run, with its text
     pub went : sound b ≡ true → b .standing ≡ false → {w : Went} {last : List ℕ} {next : Board} {over : Bool}
-        → wentOf w last ≡ leftBy (goWay store (allowed limit out) (b .engine)) out → next ≡ withEngine b (w .engine) → over ≡ not (runsNow next)
-        → didRun (record { board = next; calls = w .calls; over = over; len = w .len; refusal = 0 }) last ≡ runOutcome limit b store out
+        → wentOf w last ≡ leftBy (goWay m (allowed limit out) (b .engine)) out → next ≡ withEngine b (w .engine) → over ≡ not (runsNow next)
+        → didRun (record { board = next; calls = w .calls; over = over; len = w .len; refusal = 0 }) last ≡ runOutcome limit b m out
     went s n {w} {last} {next} {over} q e o =
         (λ i. didRun (record { board = e i; calls = w .calls; over = o′ i; len = w .len; refusal = 0 }) last)
         ∙ ap outcome q
-        ∙ sym (unrefused s ∙ ap (λ (c : Course). ran c out) (course-is-go store l (allowed limit out) b s n))
+        ∙ sym (unrefused s ∙ ap (λ (c : Course). ran c out) (course-is-go m l (allowed limit out) b s n))
       where
         o′ : over ≡ not (runsNow (withEngine b (w .engine)))
         o′ = o ∙ ap (λ (x : Board). not (runsNow x)) e

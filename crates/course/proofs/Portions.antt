@@ -12,6 +12,7 @@ use Rattle.count.specs.Pick.{pick}
 use Rattle.count.specs.Text.{written, wrote}
 use Rattle.count.proofs.laws.Digits.{wrote-long}
 use Rattle.count.proofs.laws.Truth.{and-parts}
+use Rattle.record.specs.Memory.{Memory}
 use Rattle.board.specs.declared.Board.{Board}
 use Rattle.board.specs.State.{sound}
 use Rattle.course.specs.declared.Ran.{Ran}
@@ -45,50 +46,50 @@ pub pick-no : {A : Type 0} (x y : A) (b : Bool) → b ≡ false → pick b x y �
 pick-no x y b e = rw e
 
 -- a run makes no more calls than its limit
-few-by : (x y : Bool) (limit : ℕ) (b : Board) (store out : List ℕ)
-    → pick (not x) (refusedRun 102 b out) (pick (not y) (refusedRun 103 b out) (ran (course (allowed limit out) store b) out)) .result .calls ≤ limit
+few-by : (x y : Bool) (limit : ℕ) (b : Board) (m : Memory) (out : List ℕ)
+    → pick (not x) (refusedRun 102 b out) (pick (not y) (refusedRun 103 b out) (ran (course (allowed limit out) m b) out)) .result .calls ≤ limit
 unfolding allowed
-few-by false y limit b store out = omega arith
-few-by true false limit b store out = omega arith
-few-by true true limit b store out = omega (arith, course-few store (min limit (length out / 12)) b, min-le-left limit (length out / 12))
+few-by false y limit b m out = omega arith
+few-by true false limit b m out = omega arith
+few-by true true limit b m out = omega (arith, course-few m (min limit (length out / 12)) b, min-le-left limit (length out / 12))
 
-pub run-few : (limit : ℕ) (b : Board) (store out : List ℕ) {r : Ran} {last : List ℕ} → didRun r last ≡ runOutcome limit b store out → r .calls ≤ limit
+pub run-few : (limit : ℕ) (b : Board) (m : Memory) (out : List ℕ) {r : Ran} {last : List ℕ} → didRun r last ≡ runOutcome limit b m out → r .calls ≤ limit
 unfolding runOutcome
-run-few limit b store out q =
+run-few limit b m out q =
     let c = ap (λ (x : RunOutcome). x .result .calls) q in
-    omega (arith, c, few-by (eqb (length store) 16384) (sound b) limit b store out)
+    omega (arith, c, few-by (eqb (length (m .store)) 16384) (sound b) limit b m out)
 
-module _ (w : Walk) (store out : List ℕ) where
+module _ (w : Walk) (m : Memory) (out : List ℕ) where
   abbrev onward : Done
-  onward = let c = course (allowed (most - w .calls) out) store (w .board) in done (further c (w .calls)) (c .text) store out
+  onward = let c = course (allowed (most - w .calls) out) m (w .board) in done (further c (w .calls)) (c .text) m out
 
-  pub ready-parts : ready w store out ≡ true → (64 ≤ length out) × (length store ≡ 16384) × (sound (w .board) ≡ true)
+  pub ready-parts : ready w m out ≡ true → (64 ≤ length out) × (length (m .store) ≡ 16384) × (sound (w .board) ≡ true)
   unfolding ready
   ready-parts e =
-      let p = and-parts (leb 64 (length out) && eqb (length store) 16384) (sound (w .board)) e in
-      let q = and-parts (leb 64 (length out)) (eqb (length store) 16384) (p .0) in
-      (leb-true 64 (length out) (q .0), eqb-true (length store) 16384 (q .1), p .1)
+      let p = and-parts (leb 64 (length out) && eqb (length (m .store)) 16384) (sound (w .board)) e in
+      let q = and-parts (leb 64 (length out)) (eqb (length (m .store)) 16384) (p .0) in
+      (leb-true 64 (length out) (q .0), eqb-true (length (m .store)) 16384 (q .1), p .1)
 
   -- ---- a run that goes on
 
-  pub on-over : w .over ≡ true → doneOf (same w) store out ≡ onDone w store out
+  pub on-over : w .over ≡ true → doneOf (same w) m out ≡ onDone w m out
   unfolding onDone
-  on-over o = sym (pick-no onward (done w [] store out) (not (w .over) && ready w store out) (rw o))
+  on-over o = sym (pick-no onward (done w [] m out) (not (w .over) && ready w m out) (rw o))
 
-  pub on-unready : w .over ≡ false → ready w store out ≡ false → doneOf (same w) store out ≡ onDone w store out
+  pub on-unready : w .over ≡ false → ready w m out ≡ false → doneOf (same w) m out ≡ onDone w m out
   unfolding onDone
-  on-unready o e = sym (pick-no onward (done w [] store out) (not (w .over) && ready w store out) (λ i. not (o i) && e i))
+  on-unready o e = sym (pick-no onward (done w [] m out) (not (w .over) && ready w m out) (λ i. not (o i) && e i))
 
-  pub went-on : w .over ≡ false → ready w store out ≡ true → onDone w store out ≡ onward
+  pub went-on : w .over ≡ false → ready w m out ≡ true → onDone w m out ≡ onward
   unfolding onDone
-  went-on o e = pick-yes onward (done w [] store out) (not (w .over) && ready w store out) (λ i. not (o i) && e i)
+  went-on o e = pick-yes onward (done w [] m out) (not (w .over) && ready w m out) (λ i. not (o i) && e i)
 
-  pub on-made : w .over ≡ false → ready w store out ≡ true → {r : Ran} {last : List ℕ}
-      → didRun r last ≡ runOutcome (most - w .calls) (w .board) store out
-      → doneOf (record { walk = walk (r .board) (w .calls + r .calls) (r .over); len = r .len }) store last ≡ onDone w store out
+  pub on-made : w .over ≡ false → ready w m out ≡ true → {r : Ran} {last : List ℕ}
+      → didRun r last ≡ runOutcome (most - w .calls) (w .board) m out
+      → doneOf (record { walk = walk (r .board) (w .calls + r .calls) (r .over); len = r .len }) m last ≡ onDone w m out
   on-made o e {r} {last} q =
       let p = ready-parts e in
-      ap made (q ∙ unrefused (most - w .calls) (w .board) store out (p .1) (p .2)) ∙ sym (went-on o e)
+      ap made (q ∙ unrefused (most - w .calls) (w .board) m out (p .1) (p .2)) ∙ sym (went-on o e)
     where
       made : RunOutcome → Done
-      made x = doneOf (record { walk = walk (x .result .board) (w .calls + x .result .calls) (x .result .over); len = x .result .len }) store (x .out)
+      made x = doneOf (record { walk = walk (x .result .board) (w .calls + x .result .calls) (x .result .over); len = x .result .len }) m (x .out)

@@ -8,6 +8,7 @@ use borrow.Rule.Slice.PartMut.{putMid}
 use lib.ListN.{length, take, drop}
 use Rattle.motion.specs.work.Here.{nextOf}
 use Rattle.motion.specs.declared.Move.{Move}
+use Rattle.record.specs.Memory.{Memory}
 use Rattle.record.specs.Places.{fetchOf}
 use Rattle.engine.specs.declared.Engine.{Engine}
 use Rattle.engine.specs.declared.Under.{Under}
@@ -29,29 +30,29 @@ use Rattle.course.proofs.laws.Going.{glide-joins, glide-few}
 use Rattle.course.specs.work.Going.{tickNext, tickSaid, inDirect, inMoving, glideJob, wentOf}
 use Rattle.course.proofs.Loop.{Part, one-part, Kept, kept-part}
 
-abbrev pub RKept : List ℕ → ℕ → Engine → List ℕ → ℕ → Engine → List ℕ → ℕ → Type 0
-RKept store limit e₀ out₀ n e out at = Kept runsOf (tickNext store) (tickSaid store) limit e₀ out₀ n e out at
+abbrev pub RKept : Memory → ℕ → Engine → List ℕ → ℕ → Engine → List ℕ → ℕ → Type 0
+RKept mem limit e₀ out₀ n e out at = Kept runsOf (tickNext mem) (tickSaid mem) limit e₀ out₀ n e out at
 
 abbrev pub from : ℕ → List ℕ → List ℕ
 from at out = take (length out - at) (drop at out)
 
-module _ (store : List ℕ) (limit : ℕ) (e₀ : Engine) (out₀ : List ℕ) (l : 12 * limit ≤ length out₀) where
+module _ (mem : Memory) (limit : ℕ) (e₀ : Engine) (out₀ : List ℕ) (l : 12 * limit ≤ length out₀) where
   -- a clock call
-  pub turned : (n : ℕ) (e : Engine) (out : List ℕ) (at : ℕ) → RKept store limit e₀ out₀ n e out at
-      → (t : Told) (ys : List ℕ) (m : ℕ) → t ≡ ticked nextOf (fetchOf (e .held) store) e → n < limit → runsOf e ≡ true
+  pub turned : (n : ℕ) (e : Engine) (out : List ℕ) (at : ℕ) → RKept mem limit e₀ out₀ n e out at
+      → (t : Told) (ys : List ℕ) (m : ℕ) → t ≡ ticked nextOf (fetchOf (e .held) (mem .store)) e → n < limit → runsOf e ≡ true
       → Wrote (answerText (t .answer)) (from at out) m ys → m ≤ 12
-      → RKept store limit e₀ out₀ (n + 1) (t .engine) (putMid at (length out - at) out ys) (at + m)
+      → RKept mem limit e₀ out₀ (n + 1) (t .engine) (putMid at (length out - at) out ys) (at + m)
   turned n e out at k t ys m p h g w f =
-      let j : Part runsOf (tickNext store) (tickSaid store) (limit - n) e (record { state = t .engine; calls = 1; text = answerText (t .answer) }) =
-      rw p (one-part runsOf (tickNext store) (tickSaid store) (limit - n) e (omega arith) g) in
-      kept-part runsOf (tickNext store) (tickSaid store) limit e₀ out₀ n e out at k
+      let j : Part runsOf (tickNext mem) (tickSaid mem) (limit - n) e (record { state = t .engine; calls = 1; text = answerText (t .answer) }) =
+      rw p (one-part runsOf (tickNext mem) (tickSaid mem) (limit - n) e (omega arith) g) in
+      kept-part runsOf (tickNext mem) (tickSaid mem) limit e₀ out₀ n e out at k
       (record { state = t .engine; calls = 1; text = answerText (t .answer) }) j (omega arith) ys m w
       (omega (arith, w .long)) (omega (arith, w .long, k .short, k .long))
 
   -- the pulses behind it
-  pub gone : (n : ℕ) (e : Engine) (out : List ℕ) (at : ℕ) → RKept store limit e₀ out₀ n e out at
+  pub gone : (n : ℕ) (e : Engine) (out : List ℕ) (at : ℕ) → RKept mem limit e₀ out₀ n e out at
       → (w : Went) (ys : List ℕ) → wentOf w ys ≡ leftBy (glideJob (e .run .job) (limit - n) e) (from at out) → w .len ≤ 12 * w .calls
-      → RKept store limit e₀ out₀ (n + w .calls) (w .engine) (putMid at (length out - at) out ys) (at + w .len)
+      → RKept mem limit e₀ out₀ (n + w .calls) (w .engine) (putMid at (length out - at) out ys) (at + w .len)
   gone n e out at k w ys q f =
       let g : Way Engine = glideJob (e .run .job) (limit - n) e in
       let es : w .engine ≡ g .state = ap (λ (x : Left Engine). x .state) q in
@@ -61,7 +62,7 @@ module _ (store : List ℕ) (limit : ℕ) (e₀ : Engine) (out₀ : List ℕ) (l
       let c : g .calls ≤ limit - n = glide-few (e .run .job) (limit - n) e in
       let s : length (g .text) ≤ 12 * g .calls = omega (arith, f, ec, el) in
       rw (es, ec)
-      (kept-part runsOf (tickNext store) (tickSaid store) limit e₀ out₀ n e out at k g (glide-joins store (limit - n) e (e .run .job) refl) c ys (w .len)
+      (kept-part runsOf (tickNext mem) (tickSaid mem) limit e₀ out₀ n e out at k g (glide-joins mem (limit - n) e (e .run .job) refl) c ys (w .len)
       (record { long = el; text = eo }) s (omega (arith, s, c, k .short, k .long, k .few)))
 
 -- ---- what the code of `glide_on` has

@@ -10,6 +10,7 @@ use Rattle.count.specs.Pick.{pick}
 use Rattle.count.proofs.laws.Truth.{and-right, and-true, and-false}
 use Rattle.motion.specs.work.Here.{nextOf}
 use Rattle.motion.specs.Next.{pulseOf}
+use Rattle.record.specs.Memory.{Memory}
 use Rattle.record.specs.Places.{fetchOf}
 use Rattle.engine.specs.declared.Engine.{Engine}
 use Rattle.engine.specs.declared.Answer.the-variants as answer
@@ -38,25 +39,25 @@ withEngine b e = board e (b .standing) (b .line)
 abbrev pub onBoard : Board → Way Engine → Course
 onBoard b w = record { board = withEngine b (w .state); calls = w .calls; text = w .text }
 
-module _ (store : List ℕ) (l : length store ≡ 16384) where
+module _ (m : Memory) (l : length (m .store) ≡ 16384) where
   -- a clock call that is not refused
   unrefused : (b : Board) → sound b ≡ true
-      → clocking b store ≡ pick (b .standing) (clocked 0 b answer.Nothing) (wentOn b (ticked pulseOf (fetchOf (b .engine .held) store) (b .engine)))
+      → clocking b m ≡ pick (b .standing) (clocked 0 b answer.Nothing) (wentOn b (ticked pulseOf (fetchOf (b .engine .held) (m .store)) (b .engine)))
   unfolding clocking
-  unrefused b s = rw (eq-eqb (length store) 16384 l, s)
+  unrefused b s = rw (eq-eqb (length (m .store)) 16384 l, s)
 
   -- and meets nothing that stands
-  pub clock-is : (b : Board) → sound b ≡ true → b .standing ≡ false → clocking b store ≡ wentOn b (ticked nextOf (fetchOf (b .engine .held) store) (b .engine))
+  pub clock-is : (b : Board) → sound b ≡ true → b .standing ≡ false → clocking b m ≡ wentOn b (ticked nextOf (fetchOf (b .engine .held) (m .store)) (b .engine))
   clock-is b s n =
       unrefused b s
-      ∙ ap (λ (x : Bool). pick x (clocked 0 b answer.Nothing) (wentOn b (ticked pulseOf (fetchOf (b .engine .held) store) (b .engine)))) n
-      ∙ ap (λ (t : Told). wentOn b t) (sym (rules-agree (fetchOf (b .engine .held) store) (b .engine) (sound-engine b s)))
+      ∙ ap (λ (x : Bool). pick x (clocked 0 b answer.Nothing) (wentOn b (ticked pulseOf (fetchOf (b .engine .held) (m .store)) (b .engine)))) n
+      ∙ ap (λ (t : Told). wentOn b t) (sym (rules-agree (fetchOf (b .engine .held) (m .store)) (b .engine) (sound-engine b s)))
 
   -- and its board is sound and does not stand
-  pub next-sound : (b : Board) → sound b ≡ true → sound (withEngine b (tickNext store (b .engine))) ≡ true
+  pub next-sound : (b : Board) → sound b ≡ true → sound (withEngine b (tickNext m (b .engine))) ≡ true
   unfolding sound
   next-sound b s =
-      let k = tick-keeps (fetchOf (b .engine .held) store) (b .engine) (sound-engine b s) in
+      let k = tick-keeps (fetchOf (b .engine .held) (m .store)) (b .engine) (sound-engine b s) in
       rw (k, and-right (soundOf (b .engine)) (leb (b .line .len) 80) s)
 
   runs-same : (b : Board) → b .standing ≡ false → runsNow b ≡ runsOf (b .engine)
@@ -64,25 +65,25 @@ module _ (store : List ℕ) (l : length store ≡ 16384) where
   runs-same b n = rw n (and-true (runsOf (b .engine)))
 
   go-by : (k : ℕ) (b : Board) (x : Bool) → runsOf (b .engine) ≡ x → sound b ≡ true → b .standing ≡ false
-      → course k store (withEngine b (tickNext store (b .engine))) ≡ onBoard (withEngine b (tickNext store (b .engine))) (goWay store k (tickNext store (b .engine)))
-      → course (suc k) store b ≡ onBoard b (goWay store (suc k) (b .engine))
+      → course k m (withEngine b (tickNext m (b .engine))) ≡ onBoard (withEngine b (tickNext m (b .engine))) (goWay m k (tickNext m (b .engine)))
+      → course (suc k) m b ≡ onBoard b (goWay m (suc k) (b .engine))
   go-by k b true r s n h =
       let c = clock-is b s n in
-      course-on store k b (runs-same b n ∙ r)
-      ∙ ap (λ (t : Ticked). then (answerText (t .answer)) (course k store (t .board))) c
-      ∙ ap (λ (d : Course). then (tickSaid store (b .engine)) d) h
-      ∙ sym (ap (λ (w : Way Engine). onBoard b w) (way-on runsOf (tickNext store) (tickSaid store) k (b .engine) r))
+      course-on m k b (runs-same b n ∙ r)
+      ∙ ap (λ (t : Ticked). then (answerText (t .answer)) (course k m (t .board))) c
+      ∙ ap (λ (d : Course). then (tickSaid m (b .engine)) d) h
+      ∙ sym (ap (λ (w : Way Engine). onBoard b w) (way-on runsOf (tickNext m) (tickSaid m) k (b .engine) r))
   go-by k b false r s n h =
-      course-off store (suc k) b (runs-same b n ∙ r)
-      ∙ sym (ap (λ (w : Way Engine). onBoard b w) (way-off runsOf (tickNext store) (tickSaid store) (suc k) (b .engine) r))
+      course-off m (suc k) b (runs-same b n ∙ r)
+      ∙ sym (ap (λ (w : Way Engine). onBoard b w) (way-off runsOf (tickNext m) (tickSaid m) (suc k) (b .engine) r))
 
   -- THE ENGINE'S RUN IS THE BOARD'S
-  pub course-is-go : (k : ℕ) (b : Board) → sound b ≡ true → b .standing ≡ false → course k store b ≡ onBoard b (goWay store k (b .engine))
+  pub course-is-go : (k : ℕ) (b : Board) → sound b ≡ true → b .standing ≡ false → course k m b ≡ onBoard b (goWay m k (b .engine))
   course-is-go zero b s n =
-      course-none store b ∙ sym (ap (λ (w : Way Engine). onBoard b w) (way-none runsOf (tickNext store) (tickSaid store) zero (b .engine) refl))
-  course-is-go (suc k) b s n = go-by k b (runsOf (b .engine)) refl s n (course-is-go k (withEngine b (tickNext store (b .engine))) (next-sound b s) n)
+      course-none m b ∙ sym (ap (λ (w : Way Engine). onBoard b w) (way-none runsOf (tickNext m) (tickSaid m) zero (b .engine) refl))
+  course-is-go (suc k) b s n = go-by k b (runsOf (b .engine)) refl s n (course-is-go k (withEngine b (tickNext m (b .engine))) (next-sound b s) n)
 
 -- what stands does not run
-pub stands : (store : List ℕ) (k : ℕ) (b : Board) → b .standing ≡ true → course k store b ≡ noCalls b
+pub stands : (m : Memory) (k : ℕ) (b : Board) → b .standing ≡ true → course k m b ≡ noCalls b
 unfolding runsNow
-stands store k b n = course-off store k b (rw n (and-false (runsOf (b .engine))))
+stands m k b n = course-off m k b (rw n (and-false (runsOf (b .engine))))

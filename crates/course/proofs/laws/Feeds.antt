@@ -10,6 +10,7 @@ use lib.Dec.{eqb}
 use lib.ListN.{length, take, drop, take-append-drop}
 use Rattle.count.specs.Pick.{pick}
 use Rattle.count.proofs.laws.Truth.{never, and-left, and-right, and-false}
+use Rattle.record.specs.Memory.{Memory}
 use Rattle.engine.specs.Kinds.{Kind, kind, rowOf}
 use Rattle.engine.specs.Kinds.Kind.{Idle, Storing, Moving, Between, Pausing, Waiting}
 use Rattle.engine.specs.Tick.{runsOf}
@@ -69,30 +70,30 @@ still b l h = still-by (b .standing) (kind (b .engine .run .job)) (resting b h)
 
 -- ---- what is still to be printed
 
-module _ (store : List ℕ) where
+module _ (mem : Memory) where
   plain-walked : (byte : ℕ) (input : List ℕ) (b : Board) → takes b ≡ true → isPlain byte ≡ true
-      → walkedFrom (byte ∷ input) b store ≡ walkedFrom input (withLine b (gathered byte (b .line))) store
+      → walkedFrom (byte ∷ input) b mem ≡ walkedFrom input (withLine b (gathered byte (b .line))) mem
   plain-walked byte input b h p =
       let e = still b (gathered byte (b .line)) h in
-      walked-cons byte input b store ∙ rw (plain-heard b h byte p noPorts store, course-off store most (withLine b (gathered byte (b .line))) e, e)
+      walked-cons byte input b mem ∙ rw (plain-heard b h byte p noPorts mem, course-off mem most (withLine b (gathered byte (b .line))) e, e)
 
   all-walked : (input : List ℕ) (b : Board) → takes b ≡ true
-      → walkedFrom input b store ≡ walkedFrom (drop (plainFront input) input) (withLine b (gatheredAll (take (plainFront input) input) (b .line))) store
+      → walkedFrom input b mem ≡ walkedFrom (drop (plainFront input) input) (withLine b (gatheredAll (take (plainFront input) input) (b .line))) mem
   unfolding gatheredAll
   all-walked input b h =
-      ap (λ (l : List ℕ). walkedFrom l b store) (sym (take-append-drop (plainFront input) input))
-      ∙ plain-all (λ (l : List ℕ) (c : Board). (rest : List ℕ) → walkedFrom (l ++ rest) c store ≡ walkedFrom rest (withLine c (gatheredAll l (c .line))) store)
+      ap (λ (l : List ℕ). walkedFrom l b mem) (sym (take-append-drop (plainFront input) input))
+      ∙ plain-all (λ (l : List ℕ) (c : Board). (rest : List ℕ) → walkedFrom (l ++ rest) c mem ≡ walkedFrom rest (withLine c (gatheredAll l (c .line))) mem)
       (λ c rest. refl) (λ byte l c k p q rest. plain-walked byte (l ++ rest) c k p ∙ q rest) input b h (drop (plainFront input) input)
 
 -- ---- the portions one by one
 
 -- each byte's portion in turn, what is lent handed on; the lengths of what they wrote are added up
-unfoldable pub nextAll : List ℕ → Walk → List ℕ → List ℕ → Done
-nextAll [] w store out = done w [] store out
-nextAll (byte ∷ input) w store out =
-    let d = nextDone byte w store out in
-    let a = nextAll input (d .portion .walk) (d .store) (d .out) in
-    doneOf (record { walk = a .portion .walk; len = d .portion .len + a .portion .len }) (a .store) (a .out)
+unfoldable pub nextAll : List ℕ → Walk → Memory → List ℕ → Done
+nextAll [] w mem out = done w [] mem out
+nextAll (byte ∷ input) w mem out =
+    let d = nextDone byte w mem out in
+    let a = nextAll input (d .portion .walk) (d .memory) (d .out) in
+    doneOf (record { walk = a .portion .walk; len = d .portion .len + a .portion .len }) (a .memory) (a .out)
 
 -- the calls of the run before, which the first byte lets go
 abbrev callsAfter : List ℕ → ℕ → ℕ
@@ -112,20 +113,20 @@ some-after (byte ∷ input) calls h = by (isPlain byte) h
     by true h = rw one-add
     by false h = never (sym h)
 
-module _ (store out : List ℕ) (l : length store ≡ 16384) (m : 64 ≤ length out) where
+module _ (mem : Memory) (out : List ℕ) (l : length (mem .store) ≡ 16384) (m : 64 ≤ length out) where
   plain-next : (byte : ℕ) (b : Board) (calls : ℕ) → takes b ≡ true → isPlain byte ≡ true
-      → nextDone byte (walk b calls true) store out ≡ done (walk (withLine b (gathered byte (b .line))) 0 true) [] store out
+      → nextDone byte (walk b calls true) mem out ≡ done (walk (withLine b (gathered byte (b .line))) 0 true) [] mem out
   unfolding nextDone
   plain-next byte b calls h p =
       let e = still b (gathered byte (b .line)) h in
-      rw (is-ready (walk b calls true) store out m l (steady b h), plain-heard b h byte p noPorts store, course-off store (allowed most out) (withLine b (gathered byte (b .line))) e, e)
+      rw (is-ready (walk b calls true) mem out m l (steady b h), plain-heard b h byte p noPorts mem, course-off mem (allowed most out) (withLine b (gathered byte (b .line))) e, e)
 
   all-next : (input : List ℕ) (b : Board) → takes b ≡ true → (calls : ℕ)
-      → nextAll (take (plainFront input) input) (walk b calls true) store out
-      ≡ done (walk (withLine b (gatheredAll (take (plainFront input) input) (b .line))) (callsAfter (take (plainFront input) input) calls) true) [] store out
+      → nextAll (take (plainFront input) input) (walk b calls true) mem out
+      ≡ done (walk (withLine b (gatheredAll (take (plainFront input) input) (b .line))) (callsAfter (take (plainFront input) input) calls) true) [] mem out
   unfolding gatheredAll nextAll
   all-next input b h =
-      plain-all (λ (s : List ℕ) (c : Board). (calls : ℕ) → nextAll s (walk c calls true) store out ≡ done (walk (withLine c (gatheredAll s (c .line))) (callsAfter s calls) true) [] store out)
+      plain-all (λ (s : List ℕ) (c : Board). (calls : ℕ) → nextAll s (walk c calls true) mem out ≡ done (walk (withLine c (gatheredAll s (c .line))) (callsAfter s calls) true) [] mem out)
       (λ c calls. refl) (λ byte s c k p q calls. rw (plain-next byte c calls k p, q 0, none-after s)) input b h
 
 -- ---- where bytes are fed, they are those at the front
@@ -152,30 +153,30 @@ module _ (input : List ℕ) (w : Walk) (h : feeds input w ≡ true) where
   was-over : walk (w .board) (w .calls) true ≡ w
   was-over = ap (λ (o : Bool). walk (w .board) (w .calls) o) (sym (and-left (w .over) (not (eqb (takenOf input (w .board) .count) 0)) h))
 
-module _ (input : List ℕ) (w : Walk) (store : List ℕ) where
+module _ (input : List ℕ) (w : Walk) (mem : Memory) where
   -- WHAT IS FED CHANGES NOTHING IN WHAT IS STILL TO BE PRINTED
-  pub feed-remaining : remaining (fedOf input w .walk) (drop (fedOf input w .count) input) store ≡ remaining w input store
+  pub feed-remaining : remaining (fedOf input w .walk) (drop (fedOf input w .count) input) mem ≡ remaining w input mem
   feed-remaining = by (feeds input w) refl
     where
-      by : (t : Bool) → feeds input w ≡ t → remaining (fedOf input w .walk) (drop (fedOf input w .count) input) store ≡ remaining w input store
+      by : (t : Bool) → feeds input w ≡ t → remaining (fedOf input w .walk) (drop (fedOf input w .count) input) mem ≡ remaining w input mem
       by true h =
           rw (fed-all input w h)
-          (remaining-over _ 0 (drop (plainFront input) input) store
-          ∙ sym (all-walked store input (w .board) (fed-takes input w h))
-          ∙ sym (remaining-over (w .board) (w .calls) input store)
-          ∙ ap (λ (x : Walk). remaining x input store) (was-over input w h))
+          (remaining-over _ 0 (drop (plainFront input) input) mem
+          ∙ sym (all-walked mem input (w .board) (fed-takes input w h))
+          ∙ sym (remaining-over (w .board) (w .calls) input mem)
+          ∙ ap (λ (x : Walk). remaining x input mem) (was-over input w h))
       by false h = rw (fed-none input w h)
 
   -- AND IT IS PORTIONS OF ONE BYTE EACH, WHICH WRITE NOTHING
-  pub feed-is-next : (out : List ℕ) → length store ≡ 16384 → 64 ≤ length out
-      → nextAll (take (fedOf input w .count) input) w store out ≡ done (fedOf input w .walk) [] store out
+  pub feed-is-next : (out : List ℕ) → length (mem .store) ≡ 16384 → 64 ≤ length out
+      → nextAll (take (fedOf input w .count) input) w mem out ≡ done (fedOf input w .walk) [] mem out
   unfolding nextAll
   feed-is-next out l m = by (feeds input w) refl
     where
-      by : (t : Bool) → feeds input w ≡ t → nextAll (take (fedOf input w .count) input) w store out ≡ done (fedOf input w .walk) [] store out
+      by : (t : Bool) → feeds input w ≡ t → nextAll (take (fedOf input w .count) input) w mem out ≡ done (fedOf input w .walk) [] mem out
       by true h =
           rw (fed-all input w h)
-          (ap (λ (x : Walk). nextAll (take (plainFront input) input) x store out) (sym (was-over input w h))
-          ∙ all-next store out l m input (w .board) (fed-takes input w h) (w .calls)
-          ∙ ap (λ (c : ℕ). done (walk (withLine (w .board) (gatheredAll (take (plainFront input) input) (w .board .line))) c true) [] store out) (some-after input (w .calls) (any-plain input w h)))
+          (ap (λ (x : Walk). nextAll (take (plainFront input) input) x mem out) (sym (was-over input w h))
+          ∙ all-next mem out l m input (w .board) (fed-takes input w h) (w .calls)
+          ∙ ap (λ (c : ℕ). done (walk (withLine (w .board) (gatheredAll (take (plainFront input) input) (w .board .line))) c true) [] mem out) (some-after input (w .calls) (any-plain input w h)))
       by false h = rw (fed-none input w h)

@@ -11,6 +11,7 @@ use Rattle.motion.specs.declared.Next.the-variants as next
 use Rattle.motion.specs.work.Here.{nextOf, withinOf}
 use Rattle.motion.specs.work.Made.{made}
 use Rattle.motion.proofs.laws.Within.{within-next}
+use Rattle.record.specs.Memory.{Memory}
 use Rattle.record.specs.Places.{fetchOf}
 use Rattle.engine.specs.declared.Engine.{Engine}
 use Rattle.engine.specs.declared.Job.{Job}
@@ -26,61 +27,61 @@ use Rattle.course.specs.work.Going.{glideJob, goWay, inDirect, inMoving,
 
 -- ---- a pulse of the movement is a clock call of the engine that holds it
 
-abbrev Same : List ℕ → (Gone → Engine) → Gone → Type 0
-Same store put t = (runsOf (put t) ≡ true) × (tickNext store (put t) ≡ put (glideOn t)) × (tickSaid store (put t) ≡ glideSaid t)
+abbrev Same : Memory → (Gone → Engine) → Gone → Type 0
+Same mem put t = (runsOf (put t) ≡ true) × (tickNext mem (put t) ≡ put (glideOn t)) × (tickSaid mem (put t) ≡ glideSaid t)
 
-module _ (store : List ℕ) (e : Engine) (t : Gone) where
+module _ (mem : Memory) (e : Engine) (t : Gone) where
   direct-by : (x : Next) → nextOf (t .rest) (t .at) ≡ x → made x ≡ true
       → (directly x (inDirect e t) .engine ≡ inDirect e (goneBy x t)) × (answerText (directly x (inDirect e t) .answer) ≡ saidBy x)
   direct-by (next.Made s) p q = (ap (λ (c : Counters). inDirect e (here (s .rest) c)) (sym (next-moved (t .rest) (t .at) s refl p)), refl)
   direct-by next.Over p q = let z : _≡_ {A = ℕ} 0 1 = cc in absurd (omega arith)
 
   moving-by : (x : Next) → nextOf (t .rest) (t .at) ≡ x → made x ≡ true
-      → (movingOn nextOf (fetchOf (e .held) store) x (inMoving e t) .engine ≡ inMoving e (goneBy x t)) × (answerText (movingOn nextOf (fetchOf (e .held) store) x (inMoving e t) .answer) ≡ saidBy x)
+      → (movingOn nextOf (fetchOf (e .held) (mem .store)) x (inMoving e t) .engine ≡ inMoving e (goneBy x t)) × (answerText (movingOn nextOf (fetchOf (e .held) (mem .store)) x (inMoving e t) .answer) ≡ saidBy x)
   moving-by (next.Made s) p q = (ap (λ (c : Counters). inMoving e (here (s .rest) c)) (sym (next-moved (t .rest) (t .at) s refl p)), refl)
   moving-by next.Over p q = let z : _≡_ {A = ℕ} 0 1 = cc in absurd (omega arith)
 
-  same-direct : glides t ≡ true → Same store (inDirect e) t
+  same-direct : glides t ≡ true → Same mem (inDirect e) t
   unfolding glides ticked runsOf
   same-direct p =
       let q = within-next (t .rest) (t .at) p in
       let d = direct-by (withinOf (t .rest) (t .at)) q p in
       (refl, ap (λ (x : Next). directly x (inDirect e t) .engine) q ∙ d .0, ap (λ (x : Next). answerText (directly x (inDirect e t) .answer)) q ∙ d .1)
 
-  same-moving : glides t ≡ true → Same store (inMoving e) t
+  same-moving : glides t ≡ true → Same mem (inMoving e) t
   unfolding glides ticked runsOf
   same-moving p =
       let q = within-next (t .rest) (t .at) p in
       let d = moving-by (withinOf (t .rest) (t .at)) q p in
-      let f = fetchOf (e .held) store in
+      let f = fetchOf (e .held) (mem .store) in
       (refl, ap (λ (x : Next). movingOn nextOf f x (inMoving e t) .engine) q ∙ d .0, ap (λ (x : Next). answerText (movingOn nextOf f x (inMoving e t) .answer)) q ∙ d .1)
 
 -- ---- so the pulses are a part of the run
 
-abbrev pub Joins : List ℕ → ℕ → Engine → Way Engine → Type 0
-Joins store k e g = goWay store k e ≡ then (g .calls) (g .text) (goWay store (k - g .calls) (g .state))
+abbrev pub Joins : Memory → ℕ → Engine → Way Engine → Type 0
+Joins mem k e g = goWay mem k e ≡ then (g .calls) (g .text) (goWay mem (k - g .calls) (g .state))
 
-none-joins : (store : List ℕ) (k : ℕ) (e : Engine) → Joins store k e (stays e)
-none-joins store k e =
+none-joins : (mem : Memory) (k : ℕ) (e : Engine) → Joins mem k e (stays e)
+none-joins mem k e =
     let p : k - 0 ≡ k = omega arith in
-    rw p (then-none (goWay store k e))
+    rw p (then-none (goWay mem k e))
 
 same-job : (e : Engine) (j : Job) → e .run .job ≡ j → withJob (withAt e (e .at)) j ≡ e
 same-job e j p = λ i. withJob (withAt e (e .at)) (sym p i)
 
-pub glide-joins : (store : List ℕ) (k : ℕ) (e : Engine) (j : Job) → e .run .job ≡ j → Joins store k e (glideJob j k e)
+pub glide-joins : (mem : Memory) (k : ℕ) (e : Engine) (j : Job) → e .run .job ≡ j → Joins mem k e (glideJob j k e)
 unfolding glideJob
-glide-joins store k e job.Idle p = none-joins store k e
-glide-joins store k e job.Storing p = none-joins store k e
-glide-joins store k e (job.Direct m) p =
-    ap (λ d. goWay store k d) (sym (same-job e (job.Direct m) p))
-    ∙ inner runsOf (tickNext store) (tickSaid store) glides glideOn glideSaid (inDirect e) (λ t. same-direct store e t) k (here m (e .at))
-glide-joins store k e job.Ready p = none-joins store k e
-glide-joins store k e (job.Moving m) p =
-    ap (λ d. goWay store k d) (sym (same-job e (job.Moving m) p))
-    ∙ inner runsOf (tickNext store) (tickSaid store) glides glideOn glideSaid (inMoving e) (λ t. same-moving store e t) k (here m (e .at))
-glide-joins store k e (job.Delay q) p = none-joins store k e
-glide-joins store k e (job.Wait c t) p = none-joins store k e
+glide-joins mem k e job.Idle p = none-joins mem k e
+glide-joins mem k e job.Storing p = none-joins mem k e
+glide-joins mem k e (job.Direct m) p =
+    ap (λ d. goWay mem k d) (sym (same-job e (job.Direct m) p))
+    ∙ inner runsOf (tickNext mem) (tickSaid mem) glides glideOn glideSaid (inDirect e) (λ t. same-direct mem e t) k (here m (e .at))
+glide-joins mem k e job.Ready p = none-joins mem k e
+glide-joins mem k e (job.Moving m) p =
+    ap (λ d. goWay mem k d) (sym (same-job e (job.Moving m) p))
+    ∙ inner runsOf (tickNext mem) (tickSaid mem) glides glideOn glideSaid (inMoving e) (λ t. same-moving mem e t) k (here m (e .at))
+glide-joins mem k e (job.Delay q) p = none-joins mem k e
+glide-joins mem k e (job.Wait c t) p = none-joins mem k e
 
 pub glide-few : (j : Job) (k : ℕ) (e : Engine) → glideJob j k e .calls ≤ k
 unfolding glideJob

@@ -7,6 +7,7 @@ use mathlib.Core.List.{List, [], _∷_, _++_, append-assoc, append-nil}
 use native.Mathlib.Omega.{arith}
 use lib.ListN.{length, drop}
 use Rattle.count.specs.Pick.{pick}
+use Rattle.record.specs.Memory.{Memory}
 use Rattle.board.specs.declared.Board.{Board}
 use Rattle.board.specs.Calls.{clocking, fresh}
 use Rattle.course.specs.declared.Walk.{Walk}
@@ -28,62 +29,62 @@ then-joins t c d =
     let q = append-assoc t (c .text) (d .text) in
     λ i. record { board = d .board; calls = p i; text = sym q i }
 
-module _ (store : List ℕ) where
+module _ (m : Memory) where
   -- a board on which nothing runs stays
-  pub course-off : (k : ℕ) (b : Board) → runsNow b ≡ false → course k store b ≡ noCalls b
+  pub course-off : (k : ℕ) (b : Board) → runsNow b ≡ false → course k m b ≡ noCalls b
   unfolding course
   course-off zero b e = refl
   course-off (suc k) b e = rw (e, course)
 
   pub course-on : (k : ℕ) (b : Board) → runsNow b ≡ true
-      → course (suc k) store b ≡ then (answerText (clocking b store .answer)) (course k store (clocking b store .board))
+      → course (suc k) m b ≡ then (answerText (clocking b m .answer)) (course k m (clocking b m .board))
   unfolding course
   course-on k b e = rw (e, course)
 
-  pub course-none : (b : Board) → course 0 store b ≡ noCalls b
+  pub course-none : (b : Board) → course 0 m b ≡ noCalls b
   unfolding course
   course-none b = refl
 
   abbrev Plus : ℕ → ℕ → Board → Type 0
-  Plus j k b = course (j + k) store b ≡ joins (course j store b) (course k store (course j store b .board))
+  Plus j k b = course (j + k) m b ≡ joins (course j m b) (course k m (course j m b .board))
 
-  plus-by : (j k : ℕ) (b : Board) (t : Bool) → runsNow b ≡ t → Plus j k (clocking b store .board)
-      → course (suc (j + k)) store b ≡ joins (course (suc j) store b) (course k store (course (suc j) store b .board))
+  plus-by : (j k : ℕ) (b : Board) (t : Bool) → runsNow b ≡ t → Plus j k (clocking b m .board)
+      → course (suc (j + k)) m b ≡ joins (course (suc j) m b) (course k m (course (suc j) m b .board))
   plus-by j k b true e h =
       let on = course-on j b e in
       course-on (j + k) b e
-      ∙ ap (λ (c : Course). then (answerText (clocking b store .answer)) c) h
-      ∙ then-joins (answerText (clocking b store .answer)) (course j store (clocking b store .board)) (course k store (course j store (clocking b store .board) .board))
-      ∙ sym (ap (λ (c : Course). joins c (course k store (c .board))) on)
+      ∙ ap (λ (c : Course). then (answerText (clocking b m .answer)) c) h
+      ∙ then-joins (answerText (clocking b m .answer)) (course j m (clocking b m .board)) (course k m (course j m (clocking b m .board) .board))
+      ∙ sym (ap (λ (c : Course). joins c (course k m (c .board))) on)
   plus-by j k b false e h =
       let off = course-off (suc j) b e in
       course-off (suc (j + k)) b e
       ∙ sym (joins-none b (noCalls b))
       ∙ sym (ap (λ (c : Course). joins (noCalls b) c) (course-off k b e))
-      ∙ sym (ap (λ (c : Course). joins c (course k store (c .board))) off)
+      ∙ sym (ap (λ (c : Course). joins c (course k m (c .board))) off)
 
   -- TWO RUNS IN A ROW ARE ONE
   pub course-plus : (j k : ℕ) (b : Board) → Plus j k b
   course-plus zero k b =
       let z : 0 + k ≡ k = omega arith in
-      rw z (sym (ap (λ (c : Course). joins c (course k store (c .board))) (course-none b) ∙ joins-none b (course k store b)))
+      rw z (sym (ap (λ (c : Course). joins c (course k m (c .board))) (course-none b) ∙ joins-none b (course k m b)))
   course-plus (suc j) k b =
       let z : suc j + k ≡ suc (j + k) = omega arith in
-      rw z (plus-by j k b (runsNow b) refl (course-plus j k (clocking b store .board)))
+      rw z (plus-by j k b (runsNow b) refl (course-plus j k (clocking b m .board)))
 
   -- no more calls than allowed
-  few-by : (k : ℕ) (b : Board) (t : Bool) → runsNow b ≡ t → course k store (clocking b store .board) .calls ≤ k → course (suc k) store b .calls ≤ suc k
+  few-by : (k : ℕ) (b : Board) (t : Bool) → runsNow b ≡ t → course k m (clocking b m .board) .calls ≤ k → course (suc k) m b .calls ≤ suc k
   few-by k b true e h = rw (course-on k b e) (omega arith)
   few-by k b false e h = rw (course-off (suc k) b e) (omega arith)
 
-  pub course-few : (k : ℕ) (b : Board) → course k store b .calls ≤ k
+  pub course-few : (k : ℕ) (b : Board) → course k m b .calls ≤ k
   course-few zero b = rw (course-none b) (omega arith)
-  course-few (suc k) b = few-by k b (runsNow b) refl (course-few k (clocking b store .board))
+  course-few (suc k) b = few-by k b (runsNow b) refl (course-few k (clocking b m .board))
 
   -- a run that still runs has made as many calls as it was allowed
   full-by : (k : ℕ) (b : Board) (t : Bool) → runsNow b ≡ t
-      → (runsNow (course k store (clocking b store .board) .board) ≡ true → course k store (clocking b store .board) .calls ≡ k)
-      → runsNow (course (suc k) store b .board) ≡ true → course (suc k) store b .calls ≡ suc k
+      → (runsNow (course k m (clocking b m .board) .board) ≡ true → course k m (clocking b m .board) .calls ≡ k)
+      → runsNow (course (suc k) m b .board) ≡ true → course (suc k) m b .calls ≡ suc k
   full-by k b true e h r =
       let on = course-on k b e in
       let g = rw on at r in
@@ -93,6 +94,6 @@ module _ (store : List ℕ) where
       let g : runsNow b ≡ true = sym (ap (λ (c : Course). runsNow (c .board)) off) ∙ r in
       let z : _≡_ {A = ℕ} 0 1 = cc in absurd (omega arith)
 
-  pub course-full : (k : ℕ) (b : Board) → runsNow (course k store b .board) ≡ true → course k store b .calls ≡ k
+  pub course-full : (k : ℕ) (b : Board) → runsNow (course k m b .board) ≡ true → course k m b .calls ≡ k
   course-full zero b r = ap (λ (c : Course). c .calls) (course-none b)
-  course-full (suc k) b r = full-by k b (runsNow b) refl (course-full k (clocking b store .board)) r
+  course-full (suc k) b r = full-by k b (runsNow b) refl (course-full k (clocking b m .board)) r

@@ -6,6 +6,7 @@ use native.Mathlib.Omega.{arith}
 use borrow.Author.Tests.{not-true, not-false}
 use borrow.Rule.Slice.PartMut.{putMid}
 use lib.ListN.{length}
+use Rattle.record.specs.Memory.{memory}
 use Rattle.engine.specs.Tick.{runsOf}
 use Rattle.course.proofs.laws.Machine.{way-off, way-none}
 use Rattle.course.specs.work.Going.{tickNext, tickSaid}
@@ -17,7 +18,7 @@ use Rattle.course.proofs.going.go.Statement.{statement}
 use Rattle.course.proofs.going.go.Tie as tie
 
 abbrev Inv-loop : tie.InvT-loop
-Inv-loop store limit out₀ e₀ n₀ at₀ out e n at = RKept store limit e₀ out₀ n e out at × (12 * limit ≤ length out₀)
+Inv-loop store limit out₀ e₀ n₀ at₀ out e n at = RKept (memory store) limit e₀ out₀ n e out at × (12 * limit ≤ length out₀)
 
 abbrev μ-loop : tie.MeasureT-loop
 μ-loop store limit out₀ e₀ n₀ at₀ out e n at = limit - n
@@ -28,18 +29,18 @@ out1 c = let l = c .before .before .before .before .before .before .before .befo
 
 -- the invariant after the clock call
 mid : (c : tie.After-slice-known2 Inv-loop μ-loop)
-    → RKept (c .before .before .before .before .before .before .before .before .before .before .before .before .args .store .now) (c .before .before .before .before .before .before .before .before .before .before .before .before .args .limit) (c .before .before .before .before .before .before .before .before .before .before .before .before .args .start) (c .before .before .before .before .before .before .before .before .before .before .before .before .args .out .now)
+    → RKept (memory (c .before .before .before .before .before .before .before .before .before .before .before .before .args .store .now)) (c .before .before .before .before .before .before .before .before .before .before .before .before .args .limit) (c .before .before .before .before .before .before .before .before .before .before .before .before .args .start) (c .before .before .before .before .before .before .before .before .before .before .before .before .args .out .now)
     (c .before .before .before .before .before .before .before .before .before .loop .n + 1) (c .before .before .before .before .before .tick .result .engine) (out1 c) (c .before .before .before .before .before .before .before .before .before .loop .at + c .before .before .put-answer .result)
 mid c =
     let l = c .before .before .before .before .before .before .before .before .before .loop in
     let a = c .before .before .before .before .before .before .before .before .before .before .before .before .args in
-    turned (a .store .now) (a .limit) (a .start) (a .out .now) (l .inv .1) (l .n) (l .e) (l .out) (l .at) (l .inv .0) (c .before .before .before .before .before .tick .result) (c .before .before .put-answer .last .0) (c .before .before .put-answer .result)
+    turned (memory (a .store .now)) (a .limit) (a .start) (a .out .now) (l .inv .1) (l .n) (l .e) (l .out) (l .at) (l .inv .0) (c .before .before .before .before .before .tick .result) (c .before .before .put-answer .last .0) (c .before .before .put-answer .result)
     (c .before .before .before .before .before .tick .ensures) (c .before .before .before .before .before .before .before .before .loop-test .taken) (sym (c .before .before .before .before .before .before .before .runs .ensures) ∙ not-false _ (c .before .before .before .before .before .before .if1 .left)) (c .before .before .put-answer .ensures .0) (c .before .before .put-answer .ensures .1)
 
 -- and after the pulses behind it
 both : (c : tie.After-glide-on Inv-loop μ-loop)
     → let d = c .before .before in
-    RKept (d .before .before .before .before .before .before .before .before .before .before .before .before .args .store .now) (d .before .before .before .before .before .before .before .before .before .before .before .before .args .limit) (d .before .before .before .before .before .before .before .before .before .before .before .before .args .start) (d .before .before .before .before .before .before .before .before .before .before .before .before .args .out .now)
+    RKept (memory (d .before .before .before .before .before .before .before .before .before .before .before .before .args .store .now)) (d .before .before .before .before .before .before .before .before .before .before .before .before .args .limit) (d .before .before .before .before .before .before .before .before .before .before .before .before .args .start) (d .before .before .before .before .before .before .before .before .before .before .before .before .args .out .now)
     (d .before .before .before .before .before .before .before .before .before .loop .n + 1 + c .glide-on .result .calls) (c .glide-on .result .engine)
     (putMid (d .before .before .before .before .before .before .before .before .before .loop .at + d .before .before .put-answer .result) (length (out1 d) - (d .before .before .before .before .before .before .before .before .before .loop .at + d .before .before .put-answer .result)) (out1 d) (c .glide-on .last .1 .1 .0))
     (d .before .before .before .before .before .before .before .before .before .loop .at + d .before .before .put-answer .result + c .glide-on .result .len)
@@ -47,11 +48,11 @@ both c =
     let d = c .before .before in
     let l = d .before .before .before .before .before .before .before .before .before .loop in
     let a = d .before .before .before .before .before .before .before .before .before .before .before .before .args in
-    gone (a .store .now) (a .limit) (a .start) (a .out .now) (l .inv .1) (l .n + 1) (d .before .before .before .before .before .tick .result .engine) (out1 d) (l .at + d .before .before .put-answer .result) (mid d)
+    gone (memory (a .store .now)) (a .limit) (a .start) (a .out .now) (l .inv .1) (l .n + 1) (d .before .before .before .before .before .tick .result .engine) (out1 d) (l .at + d .before .before .put-answer .result) (mid d)
     (c .glide-on .result) (c .glide-on .last .1 .1 .0) (c .glide-on .ensures .0) (c .glide-on .ensures .1)
 
 loop-holds : tie.Need-loop-holds Inv-loop μ-loop
-loop-holds c = let a = c .before .before .args in (kept-first runsOf (tickNext (a .store .now)) (tickSaid (a .store .now)) (a .limit) (a .start) (a .out .now), c .before .before .pre)
+loop-holds c = let a = c .before .before .args in (kept-first runsOf (tickNext (memory (a .store .now))) (tickSaid (memory (a .store .now))) (a .limit) (a .start) (a .out .now), c .before .before .pre)
 
 runs-requires : tie.Need-runs-requires Inv-loop μ-loop
 runs-requires c κs = search needs
@@ -60,7 +61,7 @@ same-length : tie.Need-same-length Inv-loop μ-loop
 same-length c = c .before .before .before .loop .inv .0 .long
 
 returns : tie.Need-returns Inv-loop μ-loop
-returns c = let l = c .before .before .before .loop in let a = c .before .before .before .before .before .before .args in kept-last runsOf (tickNext (a .store .now)) (tickSaid (a .store .now)) (a .limit) (a .start) (a .out .now) (l .n) (l .e) (l .out) (l .at) (l .inv .0) (way-off runsOf (tickNext (a .store .now)) (tickSaid (a .store .now)) _ _ (sym (c .before .runs .ensures) ∙ not-true _ (c .if1 .taken)))
+returns c = let l = c .before .before .before .loop in let a = c .before .before .before .before .before .before .args in kept-last runsOf (tickNext (memory (a .store .now))) (tickSaid (memory (a .store .now))) (a .limit) (a .start) (a .out .now) (l .n) (l .e) (l .out) (l .at) (l .inv .0) (way-off runsOf (tickNext (memory (a .store .now))) (tickSaid (memory (a .store .now))) _ _ (sym (c .before .runs .ensures) ∙ not-true _ (c .if1 .taken)))
 
 tick-requires : tie.Need-tick-requires Inv-loop μ-loop
 tick-requires c κs = search needs
@@ -114,7 +115,7 @@ same-length-2 : tie.Need-same-length-2 Inv-loop μ-loop
 same-length-2 c = c .before .loop .inv .0 .long
 
 returns-2 : tie.Need-returns-2 Inv-loop μ-loop
-returns-2 c = let l = c .before .loop in let a = c .before .before .before .before .args in kept-last runsOf (tickNext (a .store .now)) (tickSaid (a .store .now)) (a .limit) (a .start) (a .out .now) (l .n) (l .e) (l .out) (l .at) (l .inv .0) (way-none runsOf (tickNext (a .store .now)) (tickSaid (a .store .now)) _ _ (omega arith))
+returns-2 c = let l = c .before .loop in let a = c .before .before .before .before .args in kept-last runsOf (tickNext (memory (a .store .now))) (tickSaid (memory (a .store .now))) (a .limit) (a .start) (a .out .now) (l .n) (l .e) (l .out) (l .at) (l .inv .0) (way-none runsOf (tickNext (memory (a .store .now))) (tickSaid (memory (a .store .now))) _ _ (omega arith))
 
 pub go-spec : {M : Type 1} → statement M
 go-spec =

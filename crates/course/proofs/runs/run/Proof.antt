@@ -3,6 +3,7 @@ use Prim.Native.Nat.{ℕ}
 use mathlib.Core.Path.{_≡_, refl, ap, sym, _∙_}
 use mathlib.Core.Bool.{not}
 use borrow.Author.Tests.{not-true, not-false}
+use Rattle.record.specs.Memory.{memory}
 use Rattle.course.specs.declared.Ran.{Ran}
 use Rattle.course.specs.Run.{allowed, didRun}
 use Rattle.course.specs.work.Machine.{leftBy}
@@ -16,7 +17,7 @@ rest-requires : tie.Need-rest-requires
 rest-requires c κs = search needs
 
 returns : tie.Need-returns
-returns c = let a = c .before .before .before .before .args in ap (λ (r : Ran). didRun r (a .out .now)) (c .rest .ensures) ∙ refused-102 (a .limit) (a .board) (a .store .now) (a .out .now) (c .before .if1 .taken)
+returns c = let a = c .before .before .before .before .args in ap (λ (r : Ran). didRun r (a .out .now)) (c .rest .ensures) ∙ refused-102 (a .limit) (a .board) (memory (a .store .now)) (a .out .now) (c .before .if1 .taken)
 
 sound-requires : tie.Need-sound-requires
 sound-requires c κs = search needs
@@ -25,13 +26,13 @@ rest-requires-2 : tie.Need-rest-requires-2
 rest-requires-2 c κs = search needs
 
 returns-2 : tie.Need-returns-2
-returns-2 c = let a = c .before .before .before .before .before .before .args in ap (λ (r : Ran). didRun r (a .out .now)) (c .rest2 .ensures) ∙ refused-103 (a .limit) (a .board) (a .store .now) (a .out .now) (c .before .before .before .if1 .left) (sym (c .before .before .sound .ensures) ∙ not-true _ (c .before .if2 .taken))
+returns-2 c = let a = c .before .before .before .before .before .before .args in ap (λ (r : Ran). didRun r (a .out .now)) (c .rest2 .ensures) ∙ refused-103 (a .limit) (a .board) (memory (a .store .now)) (a .out .now) (c .before .before .before .if1 .left) (sym (c .before .before .sound .ensures) ∙ not-true _ (c .before .if2 .taken))
 
 rest-requires-3 : tie.Need-rest-requires-3
 rest-requires-3 c κs = search needs
 
 returns-3 : tie.Need-returns-3
-returns-3 c = let a = c .before .before .before .before .before .before .before .args in ap (λ (r : Ran). didRun r (a .out .now)) (c .rest3 .ensures) ∙ rests-there (a .limit) (a .board) (a .store .now) (a .out .now) (c .before .before .before .before .if1 .left) (sym (c .before .before .before .sound .ensures) ∙ not-false _ (c .before .before .if2 .left)) (c .before .if3 .taken)
+returns-3 c = let a = c .before .before .before .before .before .before .before .args in ap (λ (r : Ran). didRun r (a .out .now)) (c .rest3 .ensures) ∙ rests-there (a .limit) (a .board) (memory (a .store .now)) (a .out .now) (c .before .before .before .before .if1 .left) (sym (c .before .before .before .sound .ensures) ∙ not-false _ (c .before .before .if2 .left)) (c .before .if3 .taken)
 
 allowed-by-requires : tie.Need-allowed-by-requires
 allowed-by-requires c κs = search needs
@@ -51,8 +52,8 @@ returns-4 c =
     let a = c .before .before .before .before .before .before .before .before .before .before .before .before .before .before .args in
     let w = c .before .before .before .before .go in
     let k : c .before .before .before .before .before .before .before .allowed-by .result ≡ allowed (a .limit) (a .out .now) = c .before .before .before .before .before .before .before .allowed-by .ensures in
-    went (a .limit) (a .board) (a .store .now) (a .out .now) (c .before .before .before .before .before .before .before .before .before .before .before .if1 .left) (sym (c .before .before .before .before .before .before .before .before .before .before .sound .ensures) ∙ not-false _ (c .before .before .before .before .before .before .before .before .before .if2 .left)) (c .before .before .before .before .before .before .before .before .if3 .left)
-    (w .ensures ∙ ap (λ (n : ℕ). leftBy (goWay (a .store .now) n (a .board .engine)) (a .out .now)) k) refl (ap not (c .runs-now .ensures))
+    went (a .limit) (a .board) (memory (a .store .now)) (a .out .now) (c .before .before .before .before .before .before .before .before .before .before .before .if1 .left) (sym (c .before .before .before .before .before .before .before .before .before .before .sound .ensures) ∙ not-false _ (c .before .before .before .before .before .before .before .before .before .if2 .left)) (c .before .before .before .before .before .before .before .before .if3 .left)
+    (w .ensures ∙ ap (λ (n : ℕ). leftBy (goWay (memory (a .store .now)) n (a .board .engine)) (a .out .now)) k) refl (ap not (c .runs-now .ensures))
 
 pub run-spec : {M : Type 1} → statement M
 run-spec =

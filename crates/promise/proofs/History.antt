@@ -14,11 +14,12 @@ use Rattle.board.proofs.Board.receive.Reads as receive
 use Rattle.board.proofs.Board.clock as clockM
 use Rattle.board.proofs.Board.clock.Kinds as clockKinds
 use Rattle.board.proofs.Board.clock.Reads as clock
+use Rattle.record.specs.Memory.{Memory}
 use Rattle.board.specs.declared.Board.{Board}
 use Rattle.board.specs.declared.Received.{Received}
 use Rattle.board.specs.declared.Ticked.{Ticked}
-use Rattle.board.specs.Calls.{Outcome, did, receiving, clocking}
-use Rattle.promise.specs.Machine.{Lent, lent, Event, byte as heard, clock as timed}
+use Rattle.board.specs.Calls.{Lent, Outcome, did, receiving, clocking}
+use Rattle.promise.specs.Machine.{Event, byte as heard, clock as timed}
 
 -- ---- what a contract allows of one call
 
@@ -31,41 +32,41 @@ pub record Hears (v : ℕ) (ports : List ℕ) (l : Lent) (b : Board) (o : Outcom
   pub given : args .1 .0 ≡ v
   pub inputs : args .1 .1 .0 ≡ ports
   pub reply : now (args .1 .1 .1 .0) ≡ l .reply
-  pub store : now (args .1 .1 .1 .1 .0) ≡ l .store
-  pub replied : now (last .1 .1 .1 .0) ≡ o .reply
-  pub stored : now (last .1 .1 .1 .1 .0) ≡ o .store
+  pub store : now (args .1 .1 .1 .1 .0) ≡ l .memory .store
+  pub replied : now (last .1 .1 .1 .0) ≡ o .after .reply
+  pub stored : now (last .1 .1 .1 .1 .0) ≡ o .after .memory .store
   pub post : receive.Post κs args (o .result) last
 
 -- a result of `clock`
-pub record Ticks (store : List ℕ) (b : Board) (t : Ticked) : Type 1 where
+pub record Ticks (mem : Memory) (b : Board) (t : Ticked) : Type 1 where
   pub κs : Lfts 1
   pub args : ArgsD clockM.signature κs
   pub last : AtExit (endedOf 1 clockKinds.ps clockKinds.r) κs
   pub self : args .0 ≡ b
-  pub lent : now (args .1 .0) ≡ store
+  pub lent : now (args .1 .0) ≡ mem .store
   pub post : clock.Post κs args t last
 
-pub hears-is : (v : ℕ) (ports : List ℕ) (l : Lent) (b : Board) (o : Outcome) → Hears v ports l b o → o ≡ receiving v ports b (l .reply) (l .store)
+pub hears-is : (v : ℕ) (ports : List ℕ) (l : Lent) (b : Board) (o : Outcome) → Hears v ports l b o → o ≡ receiving v ports b l
 hears-is v ports l b o h = rw (← h .self, ← h .given, ← h .inputs, ← h .reply, ← h .store, ← h .replied, ← h .stored) (h .post)
 
-pub ticks-is : (store : List ℕ) (b : Board) (t : Ticked) → Ticks store b t → t ≡ clocking b store
-ticks-is store b t h = rw (← h .self, ← h .lent) (h .post)
+pub ticks-is : (mem : Memory) (b : Board) (t : Ticked) → Ticks mem b t → t ≡ clocking b mem
+ticks-is mem b t h = rw (← h .self, ← h .lent) (h .post)
 
-pub clock-allowed : (store : List ℕ) (b : Board) → Ticks store b (clocking b store)
-clock-allowed store b = record {
+pub clock-allowed : (mem : Memory) (b : Board) → Ticks mem b (clocking b mem)
+clock-allowed mem b = record {
   κs = ([], tt);
-  args = (b, (record { ptr = (0, 0); name = 0; now = store }, tt));
-  last = (b, (record { ptr = (0, 0); name = 0; now = store }, tt));
+  args = (b, (record { ptr = (0, 0); name = 0; now = mem .store }, tt));
+  last = (b, (record { ptr = (0, 0); name = 0; now = mem .store }, tt));
   self = refl;
   lent = refl;
   post = refl;
 }
 
-pub byte-allowed : (v : ℕ) (ports : List ℕ) (l : Lent) (b : Board) → Hears v ports l b (receiving v ports b (l .reply) (l .store))
+pub byte-allowed : (v : ℕ) (ports : List ℕ) (l : Lent) (b : Board) → Hears v ports l b (receiving v ports b l)
 byte-allowed v ports l b = record {
   κs = ([], ([], tt));
-  args = (b, (v, (ports, (record { ptr = (0, 0); name = 0; now = l .reply }, (record { ptr = (0, 0); name = 0; now = l .store }, tt)))));
-  last = (b, (v, (ports, (record { ptr = (0, 0); name = 0; now = receiving v ports b (l .reply) (l .store) .reply }, (record { ptr = (0, 0); name = 0; now = receiving v ports b (l .reply) (l .store) .store }, tt)))));
+  args = (b, (v, (ports, (record { ptr = (0, 0); name = 0; now = l .reply }, (record { ptr = (0, 0); name = 0; now = l .memory .store }, tt)))));
+  last = (b, (v, (ports, (record { ptr = (0, 0); name = 0; now = receiving v ports b l .after .reply }, (record { ptr = (0, 0); name = 0; now = receiving v ports b l .after .memory .store }, tt)))));
   self = refl;
   given = refl;
   inputs = refl;
@@ -93,13 +94,13 @@ pub data History : Board → List Event → List Came → Type 1 where
   ends : {b : Board} → History b [] []
   hears : {b : Board} {es : List Event} {cs : List Came} (v : ℕ) (ports : List ℕ) (l : Lent) (o : Outcome)
       → Hears v ports l b o → History (o .result .board) es cs → History b (heard v ports l ∷ es) (outcome o ∷ cs)
-  ticks : {b : Board} {es : List Event} {cs : List Came} (store : List ℕ) (t : Ticked)
-      → Ticks store b t → History (t .board) es cs → History b (timed store ∷ es) (tick t ∷ cs)
+  ticks : {b : Board} {es : List Event} {cs : List Came} (mem : Memory) (t : Ticked)
+      → Ticks mem b t → History (t .board) es cs → History b (timed mem ∷ es) (tick t ∷ cs)
 
 -- what the definitions say came of them
 abbrev pub comes : Event → Board → Came
-comes (heard v ports l) b = outcome (receiving v ports b (l .reply) (l .store))
-comes (timed store) b = tick (clocking b store)
+comes (heard v ports l) b = outcome (receiving v ports b l)
+comes (timed mem) b = tick (clocking b mem)
 
 pub allCome : List Event → Board → List Came
 allCome [] b = []
@@ -112,8 +113,8 @@ history-is ends = refl
 history-is (hears {b} {es} {cs} v ports l o h rest) =
     let e = hears-is v ports l b o h in
     ap (λ (c : List Came). outcome o ∷ c) (history-is rest) ∙ ap (λ (p : Outcome). outcome p ∷ allCome es (p .result .board)) e
-history-is (ticks {b} {es} {cs} store t h rest) =
-    let e = ticks-is store b t h in
+history-is (ticks {b} {es} {cs} mem t h rest) =
+    let e = ticks-is mem b t h in
     ap (λ (c : List Came). tick t ∷ c) (history-is rest) ∙ ap (λ (p : Ticked). tick p ∷ allCome es (p .board)) e
 
 -- ONE HISTORY: no second list of results is allowed
@@ -125,5 +126,5 @@ pub history-exists : (es : List Event) (b : Board) → History b es (allCome es 
 unfolding allCome
 history-exists [] b = ends
 history-exists (heard v ports l ∷ es) b =
-    hears v ports l (receiving v ports b (l .reply) (l .store)) (byte-allowed v ports l b) (history-exists es (receiving v ports b (l .reply) (l .store) .result .board))
-history-exists (timed store ∷ es) b = ticks store (clocking b store) (clock-allowed store b) (history-exists es (clocking b store .board))
+    hears v ports l (receiving v ports b l) (byte-allowed v ports l b) (history-exists es (receiving v ports b l .result .board))
+history-exists (timed mem ∷ es) b = ticks mem (clocking b mem) (clock-allowed mem b) (history-exists es (clocking b mem .board))

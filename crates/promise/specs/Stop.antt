@@ -7,7 +7,7 @@ use mathlib.Core.Path.{_≡_}
 use lib.Dec.{leb, eqb, ltb}
 use lib.IntN.{ℤ}
 use lib.ListN.{length, take, drop}
-use Rattle.count.specs.Sizes.{storeBytes, replyBytes}
+use Rattle.count.specs.Sizes.{replyBytes}
 use Rattle.count.specs.Chars.{ch}
 use Rattle.count.specs.Pick.{pick}
 use Rattle.count.specs.Paper.{Paper, says}

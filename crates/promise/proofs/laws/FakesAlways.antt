@@ -27,18 +27,18 @@ use Rattle.board.specs.Direct.{first, replyOf, directSaid}
 use Rattle.board.specs.Receive.{earOf, hearing, gathering, returned, stopped}
 use Rattle.board.specs.Calls.{receiving, clocking}
 use Rattle.engine.specs.declared.Engine.{Engine}
-use Rattle.course.specs.Walk.{noStore}
+use Rattle.course.specs.Walk.{noMemory}
 use Rattle.promise.specs.Machine.{Machine, ours}
 use Rattle.promise.specs.Steps.{reached, shown}
 use Rattle.promise.specs.Stop.{Step, receive, call, own, other, Mild, Mildly, Place, last, answers, counted as countOf, taken, over, boardAt, Begun, Same, StopChangesNothing}
 use Rattle.promise.specs.Three.{Equals, DemandThree}
 use Rattle.promise.specs.Demanded.{Demanded}
 use Rattle.promise.specs.Fakes.{claims, mutes, slows, turns, losesPulse, stirs}
-use Rattle.promise.proofs.laws.FakesTyped.{reply0, stepsOf, number}
+use Rattle.promise.proofs.laws.FakesTyped.{reply0, withStore, stepsOf, number}
 
 -- where a machine comes to by the lines `@01` and `@0A3,600`
 abbrev pub moving : (m : Machine) → Place m
-moving m = last m (m .first, noStore) (stepsOf (codes "@01\r@0A3,600\r"))
+moving m = last m (m .first, noMemory) (stepsOf (codes "@01\r@0A3,600\r"))
 
 -- ---- the schedules: a stop; a stop, the line `@0S` and clock calls; clock calls alone; a call that is refused 102
 
@@ -55,7 +55,7 @@ abbrev pub thrice : List Step
 thrice = call own ∷ call own ∷ call own ∷ []
 
 abbrev elsewhere : List Step
-elsewhere = call (other []) ∷ []
+elsewhere = call (other (withStore [])) ∷ []
 
 abbrev fits : (v : ℕ) → leb (suc v) 254 ≡ true → Mild (receive v [] reply0 own)
 fits v h = ((λ q. leb-true (suc v) 254 h), tt)
@@ -67,7 +67,7 @@ mild-again es m = (fits 253 refl, (fits 64 refl, (fits 48 refl, (fits 83 refl, (
 
 claims-begun : Begun claims (moving claims)
 unfolding reached shown number receiving sound soundOf counted inRange underWay hearing stopped earOf gathering gathered returned directSaid replyOf first directOf afterAddress letterOf behind digitsBehind digitsOf numberOf parted itemsOf numbersOf within in24 signed word placed added inSpeed rightCount rightZ2 rightDistances rightSpeeds pulses steps countAfter goal goalX goalY goalZ1 goalZ2 firstSpeed laterSpeed route goingTo planOf fromOf toOf leftOf afterOf countRight axesRight rangesRight speedsRight beginOf clocking ticked pulseOf nextBy skipped signAt speedAt
-claims-begun = record { sound = refl; runs = refl; standing = refl; line = refl; store = refl }
+claims-begun = record { sound = refl; runs = refl; standing = refl; line = refl; memory = refl }
 
 pub claims-fails-midway : StopChangesNothing claims → ⊥
 unfolding reached shown number receiving sound soundOf counted inRange underWay hearing stopped earOf gathering gathered returned directSaid replyOf first directOf afterAddress letterOf behind digitsBehind digitsOf numberOf parted itemsOf numbersOf within in24 signed word placed added inSpeed rightCount rightZ2 rightDistances rightSpeeds pulses steps countAfter goal goalX goalY goalZ1 goalZ2 firstSpeed laterSpeed route goingTo planOf fromOf toOf leftOf afterOf countRight axesRight rangesRight speedsRight beginOf clocking ticked pulseOf nextBy skipped signAt speedAt
@@ -79,7 +79,7 @@ claims-fails-midway f =
 
 mutes-begun : Begun mutes (moving mutes)
 unfolding reached shown number receiving sound soundOf counted inRange underWay hearing stopped earOf gathering gathered returned directSaid replyOf first directOf afterAddress letterOf behind digitsBehind digitsOf numberOf parted itemsOf numbersOf within in24 signed word placed added inSpeed rightCount rightZ2 rightDistances rightSpeeds pulses steps countAfter goal goalX goalY goalZ1 goalZ2 firstSpeed laterSpeed route goingTo planOf fromOf toOf leftOf afterOf countRight axesRight rangesRight speedsRight beginOf clocking ticked pulseOf nextBy skipped signAt speedAt
-mutes-begun = record { sound = refl; runs = refl; standing = refl; line = refl; store = refl }
+mutes-begun = record { sound = refl; runs = refl; standing = refl; line = refl; memory = refl }
 
 abbrev four : List Step
 four = call own ∷ thrice
@@ -101,7 +101,7 @@ mutes-fails-ends d =
 
 slows-begun : Begun slows (moving slows)
 unfolding reached shown number receiving sound soundOf counted inRange underWay hearing stopped earOf gathering gathered returned directSaid replyOf first directOf afterAddress letterOf behind digitsBehind digitsOf numberOf parted itemsOf numbersOf within in24 signed word placed added inSpeed rightCount rightZ2 rightDistances rightSpeeds pulses steps countAfter goal goalX goalY goalZ1 goalZ2 firstSpeed laterSpeed route goingTo planOf fromOf toOf leftOf afterOf countRight axesRight rangesRight speedsRight beginOf clocking ticked pulseOf nextBy skipped signAt speedAt
-slows-begun = record { sound = refl; runs = refl; standing = refl; line = refl; store = refl }
+slows-begun = record { sound = refl; runs = refl; standing = refl; line = refl; memory = refl }
 
 slows-same : (countOf slows (moving slows) (again once) ≡ 1) × (countOf slows (moving slows) once ≡ 1) × (taken slows (moving slows) (again once) ≡ []) × (taken slows (moving slows) once ≡ [])
 unfolding reached shown number receiving sound soundOf counted inRange underWay hearing stopped earOf gathering gathered returned directSaid replyOf first directOf afterAddress letterOf behind digitsBehind digitsOf numberOf parted itemsOf numbersOf within in24 signed word placed added inSpeed rightCount rightZ2 rightDistances rightSpeeds pulses steps countAfter goal goalX goalY goalZ1 goalZ2 firstSpeed laterSpeed route goingTo planOf fromOf toOf leftOf afterOf countRight axesRight rangesRight speedsRight beginOf clocking ticked pulseOf nextBy skipped signAt speedAt
@@ -122,7 +122,7 @@ signs (a ∷ l) = map number (a .values) ++ signs l
 
 turns-begun : Begun turns (moving turns)
 unfolding reached shown number receiving sound soundOf counted inRange underWay hearing stopped earOf gathering gathered returned directSaid replyOf first directOf afterAddress letterOf behind digitsBehind digitsOf numberOf parted itemsOf numbersOf within in24 signed word placed added inSpeed rightCount rightZ2 rightDistances rightSpeeds pulses steps countAfter goal goalX goalY goalZ1 goalZ2 firstSpeed laterSpeed route goingTo planOf fromOf toOf leftOf afterOf countRight axesRight rangesRight speedsRight beginOf clocking ticked pulseOf nextBy skipped signAt speedAt
-turns-begun = record { sound = refl; runs = refl; standing = refl; line = refl; store = refl }
+turns-begun = record { sound = refl; runs = refl; standing = refl; line = refl; memory = refl }
 
 turns-same : (countOf turns (moving turns) (again once) ≡ 1) × (countOf turns (moving turns) once ≡ 1) × (taken turns (moving turns) (again once) ≡ []) × (taken turns (moving turns) once ≡ [])
 unfolding reached shown number receiving sound soundOf counted inRange underWay hearing stopped earOf gathering gathered returned directSaid replyOf first directOf afterAddress letterOf behind digitsBehind digitsOf numberOf parted itemsOf numbersOf within in24 signed word placed added inSpeed rightCount rightZ2 rightDistances rightSpeeds pulses steps countAfter goal goalX goalY goalZ1 goalZ2 firstSpeed laterSpeed route goingTo planOf fromOf toOf leftOf afterOf countRight axesRight rangesRight speedsRight beginOf clocking ticked pulseOf nextBy skipped signAt speedAt
@@ -139,7 +139,7 @@ turns-fails d =
 
 losesPulse-begun : Begun losesPulse (moving losesPulse)
 unfolding reached shown number receiving sound soundOf counted inRange underWay hearing stopped earOf gathering gathered returned directSaid replyOf first directOf afterAddress letterOf behind digitsBehind digitsOf numberOf parted itemsOf numbersOf within in24 signed word placed added inSpeed rightCount rightZ2 rightDistances rightSpeeds pulses steps countAfter goal goalX goalY goalZ1 goalZ2 firstSpeed laterSpeed route goingTo planOf fromOf toOf leftOf afterOf countRight axesRight rangesRight speedsRight beginOf clocking ticked pulseOf nextBy skipped signAt speedAt
-losesPulse-begun = record { sound = refl; runs = refl; standing = refl; line = refl; store = refl }
+losesPulse-begun = record { sound = refl; runs = refl; standing = refl; line = refl; memory = refl }
 
 losesPulse-same : (countOf losesPulse (moving losesPulse) (again thrice) ≡ 3) × (countOf losesPulse (moving losesPulse) thrice ≡ 3) × (taken losesPulse (moving losesPulse) (again thrice) ≡ []) × (taken losesPulse (moving losesPulse) thrice ≡ [])
 unfolding reached shown number receiving sound soundOf counted inRange underWay hearing stopped earOf gathering gathered returned directSaid replyOf first directOf afterAddress letterOf behind digitsBehind digitsOf numberOf parted itemsOf numbersOf within in24 signed word placed added inSpeed rightCount rightZ2 rightDistances rightSpeeds pulses steps countAfter goal goalX goalY goalZ1 goalZ2 firstSpeed laterSpeed route goingTo planOf fromOf toOf leftOf afterOf countRight axesRight rangesRight speedsRight beginOf clocking ticked pulseOf nextBy skipped signAt speedAt
@@ -156,7 +156,7 @@ losesPulse-fails d =
 
 stirs-begun : Begun stirs (moving stirs)
 unfolding reached shown number receiving sound soundOf counted inRange underWay hearing stopped earOf gathering gathered returned directSaid replyOf first directOf afterAddress letterOf behind digitsBehind digitsOf numberOf parted itemsOf numbersOf within in24 signed word placed added inSpeed rightCount rightZ2 rightDistances rightSpeeds pulses steps countAfter goal goalX goalY goalZ1 goalZ2 firstSpeed laterSpeed route goingTo planOf fromOf toOf leftOf afterOf countRight axesRight rangesRight speedsRight beginOf clocking ticked pulseOf nextBy skipped signAt speedAt
-stirs-begun = record { sound = refl; runs = refl; standing = refl; line = refl; store = refl }
+stirs-begun = record { sound = refl; runs = refl; standing = refl; line = refl; memory = refl }
 
 pub stirs-fails : Demanded stirs → ⊥
 unfolding reached shown number receiving sound soundOf counted inRange underWay hearing stopped earOf gathering gathered returned directSaid replyOf first directOf afterAddress letterOf behind digitsBehind digitsOf numberOf parted itemsOf numbersOf within in24 signed word placed added inSpeed rightCount rightZ2 rightDistances rightSpeeds pulses steps countAfter goal goalX goalY goalZ1 goalZ2 firstSpeed laterSpeed route goingTo planOf fromOf toOf leftOf afterOf countRight axesRight rangesRight speedsRight beginOf clocking ticked pulseOf nextBy skipped signAt speedAt

@@ -36,12 +36,12 @@ use Rattle.record.proofs.laws.Below.{below-cons}
 use Rattle.record.specs.Listing.{more, numbersText, lineText, listText, listOf}
 use Rattle.program.specs.Program.{passes, sized, accepted}
 use Rattle.board.specs.Calls.{listing}
-use Rattle.course.specs.Walk.{noPorts, noStore}
+use Rattle.course.specs.Walk.{noPorts, noMemory}
 use Rattle.promise.specs.Machine.{Event, afterAll}
 use Rattle.promise.specs.Demands.{ticks, Host, sent, ListedAgain}
 use Rattle.promise.specs.Demanded.{Demanded}
 use Rattle.promise.specs.Fakes.{losesBytes}
-use Rattle.promise.proofs.laws.FakesTyped.{typedOn}
+use Rattle.promise.proofs.laws.FakesTyped.{withStore, typedOn}
 
 -- ---- a program of one delay, typed in with a store that has its bytes
 
@@ -49,7 +49,7 @@ abbrev written : List ℕ
 written = 0xD7 ∷ 0x2B ∷ 53 ∷ 1 ∷ 1 ∷ 0 ∷ 0 ∷ 0 ∷ replicate 16376 0
 
 abbrev events : List Event
-events = typedOn written (codes "@01\r@0i\r5 1\r9\r")
+events = typedOn (withStore written) (codes "@01\r@0i\r5 1\r9\r")
 
 abbrev page : List ℕ
 page = replicate 32768 0
@@ -81,6 +81,6 @@ room = leb-true 32768 (length page) refl
 pub losesBytes-fails : Demanded losesBytes → ⊥
 unfolding afterAll sent ticks listing listOf more numbersText lineText listText within in24 signed word placed added inSpeed inOffset inBack inLoop inDelay inCharacter inSwitch inPort inByte inZero rightCount rightZ2 rightDistances rightSpeeds hexDigit hexes twos24 report twoHex decimal digits shown fromOf toOf speedAt skipped nextBy pulseOf afterOf leftOf pulses steps signAt countAfter goal goalX goalY goalZ1 goalZ2 firstSpeed laterSpeed route goingTo planOf counted inRange underWay behind letterOf afterAddress directOf codeOf storedOf digitsBehind digitsOf numberOf parted itemsOf numbersOf bytes4 numBytes encode wordAt wordsOf front isCode countRight axesRight loopRight rangesRight speedsRight faultOf hasRoom storeOf recordAt spotFrom spotOf fetchOf recordsFrom recordsOf holds share around crosses early overlaps holders outside strays letter checked inside again opens looped aimed onwardOf checkOf verdictOf soundOf mixed resetOf heard beginOf performed ticked runsOf receiving clocking first replyOf directSaid earOf returned gathering stopped broken resetSaid hearing gathered sound recordReply storedSaid
 losesBytes-fails d =
-    let r : ListedAgain losesBytes written page noStore host (afterAll losesBytes events (losesBytes .first)) =
-    d .demand-2 .round-trip events written page noStore host refl written-below accepts room refl (zeros-below 16384) in
+    let r : ListedAgain losesBytes written page noMemory host (afterAll losesBytes events (losesBytes .first)) =
+    d .demand-2 .round-trip events written page noMemory host refl written-below accepts room refl (zeros-below 16384) in
     eqb-false 0 0xD7 refl (ap (λ (s : List ℕ). getD s 0 0) (r .restored .bytes))

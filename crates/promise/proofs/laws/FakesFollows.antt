@@ -25,7 +25,7 @@ use Rattle.board.specs.Calls.{receiving, clocking}
 use Rattle.engine.specs.State.{zeroes, nothingHeld, idle}
 use Rattle.board.specs.declared.Board.{Board}
 use Rattle.board.specs.State.{board, noLine}
-use Rattle.course.specs.Walk.{noStore}
+use Rattle.course.specs.Walk.{noMemory}
 use Rattle.promise.specs.Machine.{Heard, Clocked, afterAll}
 use Rattle.promise.specs.Demanded.{Demanded}
 use Rattle.promise.specs.Fakes.{refuses, agrees, sleeps, blind}
@@ -50,7 +50,7 @@ pub sleeps-fails : Demanded sleeps → ⊥
 unfolding afterAll receiving sound soundOf counted inRange underWay hearing stopped earOf gathering gathered returned directSaid replyOf first directOf afterAddress letterOf behind digitsBehind digitsOf numberOf parted itemsOf numbersOf within in24 signed word placed added inSpeed rightCount rightZ2 rightDistances rightSpeeds pulses steps countAfter goal goalX goalY goalZ1 goalZ2 firstSpeed laterSpeed route goingTo planOf fromOf toOf leftOf afterOf countRight axesRight rangesRight speedsRight beginOf clocking ticked pulseOf nextBy skipped signAt speedAt
 sleeps-fails d =
     eqb-false 5 1 refl
-    (ap (λ (c : Clocked). c .answer .number) (d .demand-2 .follows .ticks noStore (afterAll sleeps (typed (codes "@01\r@0A3,600\r")) (sleeps .first))))
+    (ap (λ (c : Clocked). c .answer .number) (d .demand-2 .follows .ticks noMemory (afterAll sleeps (typed (codes "@01\r@0A3,600\r")) (sleeps .first))))
 
 -- axes 2 are refused 103
 abbrev odd : Board

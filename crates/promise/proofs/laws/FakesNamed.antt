@@ -27,7 +27,7 @@ use Rattle.program.specs.Program.{checkOf, verdictOf}
 use Rattle.engine.specs.Sound.{soundOf}
 use Rattle.engine.specs.State.{mixed, resetOf, heard, beginOf}
 use Rattle.engine.specs.Tick.{performed, ticked, runsOf}
-use Rattle.board.specs.Calls.{receiving, clocking}
+use Rattle.board.specs.Calls.{lent, receiving, clocking}
 use Rattle.board.specs.Direct.{first, replyOf, directSaid}
 use Rattle.board.specs.Receive.{earOf, returned, gathering, stopped, broken, resetSaid, hearing}
 use Rattle.board.specs.State.{gathered, sound}
@@ -37,12 +37,12 @@ use Rattle.count.proofs.laws.Digits.{four-one}
 use Rattle.record.specs.declared.Held.{Held}
 use Rattle.record.specs.declared.Record.{Record}
 use Rattle.record.specs.Places.Records.{are}
-use Rattle.promise.specs.Machine.{Machine, lent, Event, afterAll}
+use Rattle.promise.specs.Machine.{Machine, Event, afterAll}
 use Rattle.promise.specs.Demands.{endLine}
 use Rattle.promise.specs.Named.{faulty, Named, EndReply, passed, failed, unreadable}
 use Rattle.promise.specs.Demanded.{Demanded, Requested}
 use Rattle.promise.specs.Fakes.{bare, largest, later}
-use Rattle.promise.proofs.laws.FakesTyped.{reply0, typedOn}
+use Rattle.promise.proofs.laws.FakesTyped.{reply0, withStore, typedOn}
 
 -- ---- a program of two jumps behind its end and a loop around them, typed in with a store that has its bytes: a and e hold at places 0 and 1
 
@@ -56,7 +56,7 @@ abbrev stored : List ℕ
 stored = jump ++ jump ++ loop ++ replicate 16348 0
 
 abbrev events : List Event
-events = typedOn stored (codes "@01\r@0i\r3 0,9\r3 0,9\r3 1,-2\r9")
+events = typedOn (withStore stored) (codes "@01\r@0i\r3 0,9\r3 0,9\r3 1,-2\r9")
 
 abbrev reached : (m : Machine) → m .State
 reached m = afterAll m events (m .first)
@@ -100,13 +100,13 @@ module _ (h : Held) (store : List ℕ) (l : List Record) (r : recordsOf h store 
 pub bare-fails : Demanded bare → ⊥
 unfolding afterAll endLine within in24 signed word placed added inSpeed inOffset inBack inLoop inDelay inCharacter inSwitch inPort inByte inZero rightCount rightZ2 rightDistances rightSpeeds hexDigit hexes twos24 report twoHex decimal digits shown decimals fourDigits fromOf toOf speedAt skipped nextBy pulseOf afterOf leftOf pulses steps signAt countAfter goal goalX goalY goalZ1 goalZ2 firstSpeed laterSpeed route goingTo planOf counted inRange underWay behind letterOf afterAddress directOf codeOf storedOf digitsBehind digitsOf numberOf parted itemsOf numbersOf bytes4 numBytes encode wordAt wordsOf front isCode countRight axesRight loopRight rangesRight speedsRight faultOf hasRoom storeOf recordAt spotFrom spotOf fetchOf recordsFrom recordsOf holds share around crosses early overlaps holders outside strays letter checked inside again opens looped aimed onwardOf checkOf verdictOf soundOf mixed resetOf heard beginOf performed ticked runsOf receiving clocking first replyOf directSaid earOf returned gathering stopped broken resetSaid hearing gathered sound recordReply storedSaid
 bare-fails d =
-    let u = d .demand-1 .refused-line [] (lent reply0 stored) (reached bare) 71 [] refl refl (eqb-false 71 48 refl) in
+    let u = d .demand-1 .refused-line [] (lent reply0 (withStore stored)) (reached bare) 71 [] refl refl (eqb-false 71 48 refl) in
     eqb-false 0 5 refl (ap length (u .named refl))
 
 -- 02 §1: a single G is an unreadable store's
 pub bare-requested-fails : Requested bare → ⊥
 unfolding afterAll endLine within in24 signed word placed added inSpeed inOffset inBack inLoop inDelay inCharacter inSwitch inPort inByte inZero rightCount rightZ2 rightDistances rightSpeeds hexDigit hexes twos24 report twoHex decimal digits shown decimals fourDigits fromOf toOf speedAt skipped nextBy pulseOf afterOf leftOf pulses steps signAt countAfter goal goalX goalY goalZ1 goalZ2 firstSpeed laterSpeed route goingTo planOf counted inRange underWay behind letterOf afterAddress directOf codeOf storedOf digitsBehind digitsOf numberOf parted itemsOf numbersOf bytes4 numBytes encode wordAt wordsOf front isCode countRight axesRight loopRight rangesRight speedsRight faultOf hasRoom storeOf recordAt spotFrom spotOf fetchOf recordsFrom recordsOf holds share around crosses early overlaps holders outside strays letter checked inside again opens looped aimed onwardOf checkOf verdictOf soundOf mixed resetOf heard beginOf performed ticked runsOf receiving clocking first replyOf directSaid earOf returned gathering stopped broken resetSaid hearing gathered sound recordReply storedSaid
-bare-requested-fails d = alone held3 stored items reads (d .end-names [] (lent reply0 stored) (reached bare) refl refl)
+bare-requested-fails d = alone held3 stored items reads (d .end-names [] (lent reply0 (withStore stored)) (reached bare) refl refl)
 
 -- ---- a at place 1: place 0 has it too
 
@@ -118,7 +118,7 @@ not-largest s =
 
 pub largest-fails : Requested largest → ⊥
 unfolding afterAll endLine within in24 signed word placed added inSpeed inOffset inBack inLoop inDelay inCharacter inSwitch inPort inByte inZero rightCount rightZ2 rightDistances rightSpeeds hexDigit hexes twos24 report twoHex decimal digits shown decimals fourDigits fromOf toOf speedAt skipped nextBy pulseOf afterOf leftOf pulses steps signAt countAfter goal goalX goalY goalZ1 goalZ2 firstSpeed laterSpeed route goingTo planOf counted inRange underWay behind letterOf afterAddress directOf codeOf storedOf digitsBehind digitsOf numberOf parted itemsOf numbersOf bytes4 numBytes encode wordAt wordsOf front isCode countRight axesRight loopRight rangesRight speedsRight faultOf hasRoom storeOf recordAt spotFrom spotOf fetchOf recordsFrom recordsOf holds share around crosses early overlaps holders outside strays letter checked inside again opens looped aimed onwardOf checkOf verdictOf soundOf mixed resetOf heard beginOf performed ticked runsOf receiving clocking first replyOf directSaid earOf returned gathering stopped broken resetSaid hearing gathered sound recordReply storedSaid
-largest-fails d = not-largest (six held3 stored items reads 97 (codes "0001") (d .end-names [] (lent reply0 stored) (reached largest) refl refl))
+largest-fails d = not-largest (six held3 stored items reads 97 (codes "0001") (d .end-names [] (lent reply0 (withStore stored)) (reached largest) refl refl))
 
 -- ---- e at place 0: it has a too
 
@@ -131,4 +131,4 @@ not-later s =
 
 pub later-fails : Requested later → ⊥
 unfolding afterAll endLine faulty within in24 signed word placed added inSpeed inOffset inBack inLoop inDelay inCharacter inSwitch inPort inByte inZero rightCount rightZ2 rightDistances rightSpeeds hexDigit hexes twos24 report twoHex decimal digits shown decimals fourDigits fromOf toOf speedAt skipped nextBy pulseOf afterOf leftOf pulses steps signAt countAfter goal goalX goalY goalZ1 goalZ2 firstSpeed laterSpeed route goingTo planOf counted inRange underWay behind letterOf afterAddress directOf codeOf storedOf digitsBehind digitsOf numberOf parted itemsOf numbersOf bytes4 numBytes encode wordAt wordsOf front isCode countRight axesRight loopRight rangesRight speedsRight faultOf hasRoom storeOf recordAt spotFrom spotOf fetchOf recordsFrom recordsOf holds share around crosses early overlaps holders outside strays letter checked inside again opens looped aimed onwardOf checkOf verdictOf soundOf mixed resetOf heard beginOf performed ticked runsOf receiving clocking first replyOf directSaid earOf returned gathering stopped broken resetSaid hearing gathered sound recordReply storedSaid
-later-fails d = not-later (six held3 stored items reads 101 (codes "0000") (d .end-names [] (lent reply0 stored) (reached later) refl refl))
+later-fails d = not-later (six held3 stored items reads 101 (codes "0000") (d .end-names [] (lent reply0 (withStore stored)) (reached later) refl refl))

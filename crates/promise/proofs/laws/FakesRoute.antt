@@ -36,7 +36,7 @@ use Rattle.record.specs.declared.Record.{Record}
 use Rattle.record.specs.Bytes.{made}
 use Rattle.record.specs.Places.Records.{are}
 use Rattle.program.specs.Program.{passes, sized, accepted}
-use Rattle.course.specs.Walk.{noStore}
+use Rattle.course.specs.Walk.{noMemory}
 use Rattle.promise.specs.Machine.{Machine}
 use Rattle.promise.specs.Steps.{reached}
 use Rattle.promise.specs.Stop.{Step, call, own, Place, boardAt, last}
@@ -47,7 +47,7 @@ use Rattle.promise.proofs.laws.FakesTyped.{stepsOf}
 
 -- where a machine comes to by a text, and what its store then holds
 abbrev sends : (m : Machine) → List ℕ → Place m
-sends m t = last m (m .first, noStore) (stepsOf t)
+sends m t = last m (m .first, noMemory) (stepsOf t)
 
 abbrev inStore : (m : Machine) → Place m → Held
 inStore m p = boardAt m p .engine .held
@@ -62,9 +62,9 @@ looping = sends shorts (codes "@01\r@0i\r1 65\r1 66\r3 1,-2\r9\r@0S\r")
 
 looping-started : Started shorts (inStore shorts looping) looping
 unfolding reached within in24 signed word placed added inSpeed inOffset inBack inLoop inDelay inCharacter inSwitch inPort inByte inZero rightCount rightZ2 rightDistances rightSpeeds hexDigit hexes twos24 report twoHex decimal digits shown fromOf toOf speedAt skipped nextBy pulseOf afterOf leftOf pulses steps signAt countAfter goal goalX goalY goalZ1 goalZ2 firstSpeed laterSpeed route goingTo planOf counted inRange underWay behind letterOf afterAddress directOf codeOf storedOf digitsBehind digitsOf numberOf parted itemsOf numbersOf bytes4 numBytes encode wordAt wordsOf front isCode countRight axesRight loopRight rangesRight speedsRight faultOf hasRoom storeOf recordAt spotFrom spotOf fetchOf recordsFrom recordsOf holds share around crosses early overlaps holders outside strays letter checked inside again opens looped aimed onwardOf checkOf verdictOf soundOf mixed resetOf heard beginOf performed ticked runsOf receiving clocking first replyOf directSaid earOf returned gathering stopped broken resetSaid hearing gathered sound recordReply storedSaid
-looping-started = record { sound = refl; standing = refl; held = refl; run = refl; store = refl }
+looping-started = record { sound = refl; standing = refl; held = refl; run = refl; memory = refl }
 
-looping-program : (accepted (inStore shorts looping) (looping .1) ≡ true) × (recordsOf (inStore shorts looping) (looping .1) ≡ are pattern)
+looping-program : (accepted (inStore shorts looping) (looping .1 .store) ≡ true) × (recordsOf (inStore shorts looping) (looping .1 .store) ≡ are pattern)
 unfolding passes accepted sized reached within in24 signed word placed added inSpeed inOffset inBack inLoop inDelay inCharacter inSwitch inPort inByte inZero rightCount rightZ2 rightDistances rightSpeeds hexDigit hexes twos24 report twoHex decimal digits shown fromOf toOf speedAt skipped nextBy pulseOf afterOf leftOf pulses steps signAt countAfter goal goalX goalY goalZ1 goalZ2 firstSpeed laterSpeed route goingTo planOf counted inRange underWay behind letterOf afterAddress directOf codeOf storedOf digitsBehind digitsOf numberOf parted itemsOf numbersOf bytes4 numBytes encode wordAt wordsOf front isCode countRight axesRight loopRight rangesRight speedsRight faultOf hasRoom storeOf recordAt spotFrom spotOf fetchOf recordsFrom recordsOf holds share around crosses early overlaps holders outside strays letter checked inside again opens looped aimed onwardOf checkOf verdictOf soundOf mixed resetOf heard beginOf performed ticked runsOf receiving clocking first replyOf directSaid earOf returned gathering stopped broken resetSaid hearing gathered sound recordReply storedSaid
 looping-program = (refl, refl)
 
@@ -88,9 +88,9 @@ milling = sends overleaps (codes "@01\r@0i\r01,600\r1 65\r1 66\r9\r@0S\r")
 
 milling-started : Started overleaps (inStore overleaps milling) milling
 unfolding reached within in24 signed word placed added inSpeed inOffset inBack inLoop inDelay inCharacter inSwitch inPort inByte inZero rightCount rightZ2 rightDistances rightSpeeds hexDigit hexes twos24 report twoHex decimal digits shown fromOf toOf speedAt skipped nextBy pulseOf afterOf leftOf pulses steps signAt countAfter goal goalX goalY goalZ1 goalZ2 firstSpeed laterSpeed route goingTo planOf counted inRange underWay behind letterOf afterAddress directOf codeOf storedOf digitsBehind digitsOf numberOf parted itemsOf numbersOf bytes4 numBytes encode wordAt wordsOf front isCode countRight axesRight loopRight rangesRight speedsRight faultOf hasRoom storeOf recordAt spotFrom spotOf fetchOf recordsFrom recordsOf holds share around crosses early overlaps holders outside strays letter checked inside again opens looped aimed onwardOf checkOf verdictOf soundOf mixed resetOf heard beginOf performed ticked runsOf receiving clocking first replyOf directSaid earOf returned gathering stopped broken resetSaid hearing gathered sound recordReply storedSaid
-milling-started = record { sound = refl; standing = refl; held = refl; run = refl; store = refl }
+milling-started = record { sound = refl; standing = refl; held = refl; run = refl; memory = refl }
 
-milling-program : (accepted (inStore overleaps milling) (milling .1) ≡ true) × (recordsOf (inStore overleaps milling) (milling .1) ≡ are course)
+milling-program : (accepted (inStore overleaps milling) (milling .1 .store) ≡ true) × (recordsOf (inStore overleaps milling) (milling .1 .store) ≡ are course)
 unfolding passes accepted sized reached within in24 signed word placed added inSpeed inOffset inBack inLoop inDelay inCharacter inSwitch inPort inByte inZero rightCount rightZ2 rightDistances rightSpeeds hexDigit hexes twos24 report twoHex decimal digits shown fromOf toOf speedAt skipped nextBy pulseOf afterOf leftOf pulses steps signAt countAfter goal goalX goalY goalZ1 goalZ2 firstSpeed laterSpeed route goingTo planOf counted inRange underWay behind letterOf afterAddress directOf codeOf storedOf digitsBehind digitsOf numberOf parted itemsOf numbersOf bytes4 numBytes encode wordAt wordsOf front isCode countRight axesRight loopRight rangesRight speedsRight faultOf hasRoom storeOf recordAt spotFrom spotOf fetchOf recordsFrom recordsOf holds share around crosses early overlaps holders outside strays letter checked inside again opens looped aimed onwardOf checkOf verdictOf soundOf mixed resetOf heard beginOf performed ticked runsOf receiving clocking first replyOf directSaid earOf returned gathering stopped broken resetSaid hearing gathered sound recordReply storedSaid
 milling-program = (refl, refl)
 

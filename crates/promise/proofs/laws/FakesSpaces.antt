@@ -16,7 +16,7 @@ use Rattle.board.specs.State.{gathered, sound}
 use Rattle.board.specs.Direct.{first, replyOf, directSaid}
 use Rattle.board.specs.Receive.{earOf, hearing, gathering, returned}
 use Rattle.board.specs.Calls.{receiving}
-use Rattle.course.specs.Walk.{noStore}
+use Rattle.course.specs.Walk.{noMemory}
 use Rattle.promise.specs.Demands.{ticks, Host, sent}
 use Rattle.promise.specs.Demanded.{Requested}
 use Rattle.promise.specs.Spaces.{no-calls}
@@ -33,7 +33,7 @@ byteAt i l = getD (getD l i []) 0 0
 pub strict-fails : Requested strict → ⊥
 unfolding ticks sent receiving sound soundOf counted hearing earOf gathering gathered returned directSaid replyOf first directOf afterAddress letterOf behind digitsBehind digitsOf numberOf parted itemsOf numbersOf word unspaced
 strict-fails d =
-    let x = d .spaces host0 host0 (codes "@01, 3") (codes "@01,3") (strict .first) noStore
+    let x = d .spaces host0 host0 (codes "@01, 3") (codes "@01,3") (strict .first) noMemory
     (record { short = omega arith; bytes = ((omega arith, λ z. omega arith), ((omega arith, λ z. omega arith), ((omega arith, λ z. omega arith), ((omega arith, λ z. omega arith), ((omega arith, λ z. omega arith), ((omega arith, λ z. omega arith), tt)))))) })
     (record { short = omega arith; bytes = ((omega arith, λ z. omega arith), ((omega arith, λ z. omega arith), ((omega arith, λ z. omega arith), ((omega arith, λ z. omega arith), ((omega arith, λ z. omega arith), tt))))) })
     refl

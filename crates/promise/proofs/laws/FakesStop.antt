@@ -1,6 +1,6 @@
 -- Where one demand alone does not shut 01's fourth fake out. With the positions claimed it has demand 3 for every run that ends and for every
 -- run without end, and fails the sum of the pulses (demand 2). With the pulses muted it fails demand 3 by its pulses alone: its boards and
--- stores, so its last positions, origins and outputs, are ours at every moment. Assumes nothing.
+-- memories, so its last positions, origins and outputs, are ours at every moment. Assumes nothing.
 use mathlib.Core.Bool.{Bool, true, false, not, _&&_, _||_, true≢false}
 use mathlib.Core.List.{List, _++_, map}
 use mathlib.Core.Path.{_≡_, refl, sym, _∙_, ap}
@@ -84,7 +84,7 @@ claims-over p es fs g m n o q t =
       axes = ap (λ (l : List Paper). map unsped l) k;
       speeds = ap speedsOf k;
       engine = shows-ours p es o ∙ ap (λ (r : At). final (r .0)) (a .last) ∙ sym (shows-ours p fs q);
-      store = ap (λ (r : At). r .1) (core-last p es) ∙ ap (λ (r : At). r .1) (a .last) ∙ sym (ap (λ (r : At). r .1) (core-last p fs));
+      memory = ap (λ (r : At). r .1) (core-last p es) ∙ ap (λ (r : At). r .1) (a .last) ∙ sym (ap (λ (r : At). r .1) (core-last p fs));
     }
 
 claims-followed : SameAsFarAsFollowed claims
@@ -113,14 +113,14 @@ same : (flag : Bool) (b : Board) → pick flag b b ≡ b
 same true b = refl
 same false b = refl
 
--- its board and its store are ours at every moment
+-- its board and its memory are ours at every moment
 pub mutes-moves : (p : Place mutes) (es : List Step)
     → (boardAt mutes (last mutes p es) ≡ boardAt ours (last ours (p .0 .0, p .1) es)) × (last mutes p es .1 ≡ last ours (p .0 .0, p .1) es .1)
 mutes-moves p es =
     let h : _≡_ {A = At} (last mutes p es .0 .0, last mutes p es .1) (last ours (p .0 .0, p .1) es) = C.core-last (λ b. b) muted p es in
     (same (last mutes p es .0 .1) (last mutes p es .0 .0) ∙ ap (λ (q : At). q .0) h, ap (λ (q : At). q .1) h)
 
--- so of a run that ends it has the last engine (positions, origins, outputs, the store's part in use) and the store; what fails is its pulses
+-- so of a run that ends it has the last engine (positions, origins, outputs, the store's part in use) and the memory; what fails is its pulses
 pub mutes-keeps-the-rest : (p : Place mutes) (es fs : List Step) → Begun mutes p → Mildly es → Never mutes fs
     → over (boardAt mutes (last mutes p es)) ≡ true → over (boardAt mutes (last mutes p fs)) ≡ true → taken mutes p es ≡ taken mutes p fs
     → (final (boardAt mutes (last mutes p es)) ≡ final (boardAt mutes (last mutes p fs))) × (last mutes p es .1 ≡ last mutes p fs .1)

@@ -20,7 +20,7 @@ use Rattle.board.specs.State.{gathered, sound}
 use Rattle.board.specs.Direct.{first, replyOf, directSaid}
 use Rattle.board.specs.Receive.{earOf, hearing, gathering, returned, stopped}
 use Rattle.board.specs.Calls.{receiving, clocking}
-use Rattle.course.specs.Walk.{noStore}
+use Rattle.course.specs.Walk.{noMemory}
 use Rattle.promise.specs.Machine.{Event, clock, afterAll}
 use Rattle.promise.specs.Demands.{X, adds, zeroLine, zeroes, pulseSum}
 use Rattle.promise.specs.Demanded.{Demanded}
@@ -28,7 +28,7 @@ use Rattle.promise.specs.Fakes.{claims, mutes}
 use Rattle.promise.proofs.laws.FakesTyped.{typed, number}
 
 abbrev stopped-once : List Event
-stopped-once = typed (codes "@01\r@0A3,600\r") ++ clock noStore ∷ typed (253 ∷ [])
+stopped-once = typed (codes "@01\r@0A3,600\r") ++ clock noMemory ∷ typed (253 ∷ [])
 
 -- it shows three steps, and one pulse was made
 pub claims-fails : Demanded claims → ⊥
@@ -38,4 +38,4 @@ claims-fails d = eqb-false 3 1 refl (ap number (d .demand-2 .sum-of-pulses X sto
 -- started again, it has made two steps, and one pulse was answered
 pub mutes-fails : Demanded mutes → ⊥
 unfolding number afterAll pulseSum zeroes zeroLine adds receiving sound soundOf counted inRange underWay hearing stopped earOf gathering gathered returned directSaid replyOf first directOf afterAddress letterOf behind digitsBehind digitsOf numberOf parted itemsOf numbersOf within in24 signed word placed added inSpeed rightCount rightZ2 rightDistances rightSpeeds pulses steps countAfter goal goalX goalY goalZ1 goalZ2 firstSpeed laterSpeed route goingTo planOf fromOf toOf leftOf afterOf countRight axesRight rangesRight speedsRight beginOf clocking ticked pulseOf nextBy skipped signAt speedAt
-mutes-fails d = eqb-false 2 1 refl (ap number (d .demand-2 .sum-of-pulses X (stopped-once ++ typed (codes "@0S\r") ++ clock noStore ∷ [])))
+mutes-fails d = eqb-false 2 1 refl (ap number (d .demand-2 .sum-of-pulses X (stopped-once ++ typed (codes "@0S\r") ++ clock noMemory ∷ [])))

@@ -3,24 +3,30 @@ use Prim.Native.Nat.{ℕ}
 use mathlib.Core.List.{List, [], _∷_}
 use lib.IntN.{ℤ, pos, negsuc}
 use lib.ListN.{replicate}
-use Rattle.course.specs.Walk.{noStore}
-use Rattle.promise.specs.Machine.{Lent, lent, Event, byte}
+use Rattle.record.specs.Memory.{Memory, memory}
+use Rattle.board.specs.Calls.{Lent, lent}
+use Rattle.course.specs.Walk.{noMemory}
+use Rattle.promise.specs.Machine.{Event, byte}
 use Rattle.promise.specs.Stop.{Step, receive, own}
 
 -- a reply buffer of 32 bytes
 abbrev pub reply0 : List ℕ
 reply0 = replicate 32 0
 
-abbrev pub lent0 : Lent
-lent0 = lent reply0 noStore
+-- a memory with these bytes in its store
+abbrev pub withStore : List ℕ → Memory
+withStore store = memory store
 
--- bytes one after the other, each lent such a buffer: as events with a store, and as steps with the one store
-abbrev pub typedOn : List ℕ → List ℕ → List Event
-typedOn store [] = []
-typedOn store (v ∷ l) = byte v [] (lent reply0 store) ∷ typedOn store l
+abbrev pub lent0 : Lent
+lent0 = lent reply0 noMemory
+
+-- bytes one after the other, each lent such a buffer: as events with a memory, and as steps with the one memory
+abbrev pub typedOn : Memory → List ℕ → List Event
+typedOn mem [] = []
+typedOn mem (v ∷ l) = byte v [] (lent reply0 mem) ∷ typedOn mem l
 
 abbrev pub typed : List ℕ → List Event
-typed l = typedOn noStore l
+typed l = typedOn noMemory l
 
 abbrev pub stepsOf : List ℕ → List Step
 stepsOf [] = []

@@ -8,7 +8,7 @@ ours-follows = record {
   starts = refl;
   hears = λ v ports l s. refl;
   heard = λ v ports l s. refl;
-  ticks = λ store s. refl;
-  ticked = λ store s. refl;
+  ticks = λ mem s. refl;
+  ticked = λ mem s. refl;
   lists = λ store text s. refl;
 }

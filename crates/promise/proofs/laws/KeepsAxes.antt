@@ -15,6 +15,7 @@ use Rattle.motion.specs.Next.{pulseOf}
 use Rattle.motion.specs.Plan.{asked, planOf}
 use Rattle.record.specs.declared.Record.{Record}
 use Rattle.record.specs.Bytes.{encode}
+use Rattle.record.specs.Memory.{Memory}
 use Rattle.record.specs.Keep.{Storing, hasRoom, storeOf}
 use Rattle.record.specs.Places.{fetchOf}
 use Rattle.program.specs.Program.{verdictOf, isSound, axesSet}
@@ -94,9 +95,9 @@ module _ (rule : Rule) (fetch : Fetching) (e : Engine) (w : Written e) where
         got = λ l r p. record-kept r;
       })
 
-clock-written : (b : Board) (store : List ℕ) → Written (b .engine) → Written (clocking b store .board .engine)
-clock-written b store w =
-    by-call b store (λ (t : Ticked). Written (t .board .engine)) w w w (λ p q. tick-kept pulseOf (fetchOf (b .engine .held) store) (b .engine) w)
+clock-written : (b : Board) (mem : Memory) → Written (b .engine) → Written (clocking b mem .board .engine)
+clock-written b mem w =
+    by-call b mem (λ (t : Ticked). Written (t .board .engine)) w w w (λ p q. tick-kept pulseOf (fetchOf (b .engine .held) (mem .store)) (b .engine) w)
 
 -- ---- a byte: `i` on a board with axes, and no other byte, begins storing
 
@@ -114,7 +115,7 @@ kept-axes : (t : Bool) (x y : Storing) (a : ℕ) → x .kept .held .axes ≡ a �
 kept-axes true x y a p q = p
 kept-axes false x y a p q = q
 
-module _ (v : ℕ) (ports : List ℕ) (b : Board) (store : List ℕ) (h : sound b ≡ true) (w : Written (b .engine)) where
+module _ (v : ℕ) (ports : List ℕ) (b : Board) (mem : Memory) (h : sound b ≡ true) (w : Written (b .engine)) where
   abbrev On : Said → Type 0
   On x = Written (x .board .engine)
 
@@ -124,16 +125,16 @@ module _ (v : ℕ) (ports : List ℕ) (b : Board) (store : List ℕ) (h : sound 
 
   -- a line while storing
 
-  stored-axes : (r : Record) → storeOf (b .engine .held) r store .kept .held .axes ≡ b .engine .held .axes
+  stored-axes : (r : Record) → storeOf (b .engine .held) r (mem .store) .kept .held .axes ≡ b .engine .held .axes
   unfolding storeOf
-  stored-axes r = kept-axes (hasRoom (b .engine .held) (length (encode r)) (length store)) _ _ (b .engine .held .axes) refl refl
+  stored-axes r = kept-axes (hasRoom (b .engine .held) (length (encode r)) (length (mem .store))) _ _ (b .engine .held .axes) refl refl
 
-  code-on : (k : Code) (d : Stored) → On (storedBy k d b store)
+  code-on : (k : Code) (d : Stored) → On (storedBy k d b mem)
   code-on code.Wrong d = w
   code-on (code.Record c) d =
-      pick-on (eqb (recordReply (b .engine .held) (recordOf c d) store) 48) _ _
+      pick-on (eqb (recordReply (b .engine .held) (recordOf c d) mem) 48) _ _
       (λ p. record { axes = λ z. ap axesSet (stored-axes (recordOf c d)) ∙ w .axes z }) (λ p. w)
-  code-on code.End d = pick-on (isSound (verdictOf (b .engine .held) store)) _ _ (λ p. other _ refl) (λ p. other _ refl)
+  code-on code.End d = pick-on (isSound (verdictOf (b .engine .held) (mem .store))) _ _ (λ p. other _ refl) (λ p. other _ refl)
 
   -- a line outside storing
 
@@ -145,13 +146,13 @@ module _ (v : ℕ) (ports : List ℕ) (b : Board) (store : List ℕ) (h : sound 
       by false = other _ refl
   begun-on planned.Outside = w
 
-  start-on : (s : Bool) → On (acceptedSaid (effectOf letter.Start [] ports (b .engine) s) store)
+  start-on : (s : Bool) → On (acceptedSaid (effectOf letter.Start [] ports (b .engine) s) mem)
   start-on true = w
   start-on false = other _ refl
 
   module _ (k : isStoring (b .engine .run .job) && not (b .standing) ≡ false) where
     effect-on : (x : Letter) (l : List ℕ) → b .standing && not (heardStanding x) ≡ false → needsAxes x && eqb (b .engine .axes) 0 ≡ false
-        → On (acceptedSaid (effectOf x l ports (b .engine) (b .standing)) store)
+        → On (acceptedSaid (effectOf x l ports (b .engine) (b .standing)) mem)
     unfolding beginOf
     effect-on letter.Wrong l p q = w
     effect-on letter.Axes l p q = record { axes = w .axes }
@@ -169,13 +170,13 @@ module _ (v : ℕ) (ports : List ℕ) (b : Board) (store : List ℕ) (h : sound 
     effect-on letter.Empty l p q = other _ (still (b .standing) (isStoring (b .engine .run .job)) k p)
     effect-on letter.Start l p q = start-on (b .standing)
 
-    direct-on : (d : Direct) → On (directSaid d ports b store)
+    direct-on : (d : Direct) → On (directSaid d ports b mem)
     unfolding directSaid
     direct-on d =
         pick-on (eqb (replyOf (b .engine) (b .standing) d) 48) _ _
         (λ p. let f = row-facts (b .engine) (b .standing) d (eqb-true _ 48 p) in effect-on (d .letter) (d .words) (f .1) (f .3)) (λ p. w)
 
-  returned-on : On (returned ports b store)
+  returned-on : On (returned ports b mem)
   unfolding returned storedSaid
   returned-on =
       pick-on (b .line .over) _ _ (λ p. w)
@@ -197,13 +198,13 @@ module _ (v : ℕ) (ports : List ℕ) (b : Board) (store : List ℕ) (h : sound 
   heard-on (job.Moving m) = w
   heard-on (job.Delay q) = w
 
-  ear-on : (e : Ear) → On (ordinary e v ports b store)
+  ear-on : (e : Ear) → On (ordinary e v ports b mem)
   unfolding gathering heard
   ear-on gathers = pick-on (eqb v 13) _ _ (λ q. returned-on) (λ q. w)
   ear-on drops = w
   ear-on waits = heard-on (b .engine .run .job)
 
-  byte-written : On (hearing v ports b store)
+  byte-written : On (hearing v ports b mem)
   unfolding hearing stopped broken resetSaid resetOf
   byte-written =
       pick-on (eqb v 253) _ _ (λ p. pick-on (holdsBy (b .engine .run .job) && not (b .standing)) _ _ (λ q. w) (λ q. w))
@@ -218,5 +219,5 @@ Right b = (sound b ≡ true) × Written (b .engine)
 
 pub always-written : (es : List Event) → Right (afterAll ours es fresh)
 always-written es =
-    all-kept Right (λ v ports b store r. (hearing-sound v ports b store (r .0), byte-written v ports b store (r .0) (r .1)))
-    (λ b store r. (clocking-sound b store (r .0), clock-written b store (r .1))) es fresh (fresh-sound, other _ refl)
+    all-kept Right (λ v ports b mem r. (hearing-sound v ports b mem (r .0), byte-written v ports b mem (r .0) (r .1)))
+    (λ b mem r. (clocking-sound b mem (r .0), clock-written b mem (r .1))) es fresh (fresh-sound, other _ refl)

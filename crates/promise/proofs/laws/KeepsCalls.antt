@@ -4,13 +4,14 @@ use mathlib.Core.Path.{_≡_, refl, sym, ap, _∙_}
 use mathlib.Core.Bool.{Bool, true, false, not, _&&_, _||_}
 use mathlib.Core.List.{List, []}
 use native.Mathlib.Omega.{arith}
-use borrow.Author.Tests.{eqb-true}
+use borrow.Author.Tests.{eq-eqb, eqb-true, eqb-false}
 use lib.Dec.{ltb, eqb}
 use lib.ListN.{length}
 use Rattle.count.specs.Pick.{pick}
 use Rattle.count.specs.Paper.{says}
 use Rattle.count.proofs.laws.Truth.{never}
 use Rattle.motion.specs.Next.{pulseOf}
+use Rattle.record.specs.Memory.{Memory}
 use Rattle.record.specs.Places.{Records, recordsOf, fetchOf}
 use Rattle.record.specs.Places.Records.{are, none-are}
 use Rattle.record.specs.Listing.{Telling, telling, tell, listOf}
@@ -25,81 +26,89 @@ use Rattle.board.specs.declared.Board.{Board}
 use Rattle.board.specs.declared.Ticked.{Ticked}
 use Rattle.board.specs.State.{board, sound}
 use Rattle.board.specs.Receive.{hearing, isStoring}
-use Rattle.board.specs.Calls.{Outcome, refused, answered, receiving, clocked, wentOn, clocking, listing}
+use Rattle.board.specs.Calls.{Lent, Outcome, refused, answered, receiving, clocked, wentOn, clocking, listing}
 use Rattle.course.specs.Text.{answerText}
 use Rattle.course.specs.Run.{runsNow, Course, noCalls, then, course}
-use Rattle.promise.specs.Machine.{Lent, lent, ours}
+use Rattle.promise.specs.Machine.{RightMemory, ours}
 use Rattle.promise.specs.Demands.{isIdle, isWaiting, RefusedCall, Quiet, ticks, CountedRun, Counted}
+
+-- ---- a memory as every call asks for it, as the calls test it
+
+abbrev pub isRight : Memory → Bool
+isRight mem = eqb (length (mem .store)) 16384
+
+pub is-right : (mem : Memory) → isRight mem ≡ true → RightMemory mem
+is-right mem h = eqb-true (length (mem .store)) 16384 h
+
+pub right-is : (mem : Memory) → RightMemory mem → isRight mem ≡ true
+right-is mem h = eq-eqb (length (mem .store)) 16384 h
 
 -- ---- a received byte: refused, or heard
 
-module _ (v : ℕ) (ports : List ℕ) (b : Board) (reply store : List ℕ) where
+module _ (v : ℕ) (ports : List ℕ) (b : Board) (l : Lent) where
   calm-by : (x y z : Bool) (o : Outcome)
-      → pick x (refused 101 b reply store) (pick y (refused 102 b reply store) (pick z (refused 103 b reply store) o)) .result .refusal ≡ 0
-      → pick x (refused 101 b reply store) (pick y (refused 102 b reply store) (pick z (refused 103 b reply store) o)) ≡ o
+      → pick x (refused 101 b l) (pick y (refused 102 b l) (pick z (refused 103 b l) o)) .result .refusal ≡ 0
+      → pick x (refused 101 b l) (pick y (refused 102 b l) (pick z (refused 103 b l) o)) ≡ o
   calm-by true y z o h = absurd (omega arith)
   calm-by false true z o h = absurd (omega arith)
   calm-by false false true o h = absurd (omega arith)
   calm-by false false false o h = refl
 
   -- a call that is not refused hears the byte
-  pub calm : receiving v ports b reply store .result .refusal ≡ 0 → receiving v ports b reply store ≡ answered (hearing v ports b store) reply
+  pub calm : receiving v ports b l .result .refusal ≡ 0 → receiving v ports b l ≡ answered (hearing v ports b (l .memory)) (l .reply)
   unfolding receiving
-  calm h = calm-by (ltb (length reply) 32) (not (eqb (length store) 16384)) (not (sound b)) (answered (hearing v ports b store) reply) h
+  calm h = calm-by (ltb (length (l .reply)) 32) (not (isRight (l .memory))) (not (sound b)) (answered (hearing v ports b (l .memory)) (l .reply)) h
 
   long-by : (x z : Bool) (o : Outcome) (y : Bool)
-      → pick x (refused 101 b reply store) (pick (not y) (refused 102 b reply store) (pick z (refused 103 b reply store) o)) .result .refusal ≡ 0 → y ≡ true
+      → pick x (refused 101 b l) (pick (not y) (refused 102 b l) (pick z (refused 103 b l) o)) .result .refusal ≡ 0 → y ≡ true
   long-by true z o y h = absurd (omega arith)
   long-by false z o true h = refl
   long-by false z o false h = absurd (omega arith)
 
-  -- and was lent a store of the right length
-  pub calm-store : receiving v ports b reply store .result .refusal ≡ 0 → length store ≡ 16384
+  -- and was lent a memory as every call asks for it
+  pub calm-memory : receiving v ports b l .result .refusal ≡ 0 → RightMemory (l .memory)
   unfolding receiving
-  calm-store h =
-      eqb-true (length store) 16384
-      (long-by (ltb (length reply) 32) (not (sound b)) (answered (hearing v ports b store) reply) (eqb (length store) 16384) h)
+  calm-memory h =
+      is-right (l .memory) (long-by (ltb (length (l .reply)) 32) (not (sound b)) (answered (hearing v ports b (l .memory)) (l .reply)) (isRight (l .memory)) h)
 
   sound-by : (x y : Bool) (o : Outcome) (z : Bool)
-      → pick x (refused 101 b reply store) (pick y (refused 102 b reply store) (pick (not z) (refused 103 b reply store) o)) .result .refusal ≡ 0 → z ≡ true
+      → pick x (refused 101 b l) (pick y (refused 102 b l) (pick (not z) (refused 103 b l) o)) .result .refusal ≡ 0 → z ≡ true
   sound-by true y o z h = absurd (omega arith)
   sound-by false true o z h = absurd (omega arith)
   sound-by false false o true h = refl
   sound-by false false o false h = absurd (omega arith)
 
   -- in a state that 103 does not refuse
-  pub calm-sound : receiving v ports b reply store .result .refusal ≡ 0 → sound b ≡ true
+  pub calm-sound : receiving v ports b l .result .refusal ≡ 0 → sound b ≡ true
   unfolding receiving
-  calm-sound h = sound-by (ltb (length reply) 32) (not (eqb (length store) 16384)) (answered (hearing v ports b store) reply) (sound b) h
+  calm-sound h = sound-by (ltb (length (l .reply)) 32) (not (isRight (l .memory))) (answered (hearing v ports b (l .memory)) (l .reply)) (sound b) h
 
   kept-by : (x y z : Bool) (o : Outcome) → o .result .refusal ≡ 0
-      → (pick x (refused 101 b reply store) (pick y (refused 102 b reply store) (pick z (refused 103 b reply store) o)) .result .refusal ≡ 0 → ⊥)
-      → (pick x (refused 101 b reply store) (pick y (refused 102 b reply store) (pick z (refused 103 b reply store) o)) .result .board ≡ b)
-      × (pick x (refused 101 b reply store) (pick y (refused 102 b reply store) (pick z (refused 103 b reply store) o)) .reply ≡ reply)
-      × (pick x (refused 101 b reply store) (pick y (refused 102 b reply store) (pick z (refused 103 b reply store) o)) .store ≡ store)
-      × (pick x (refused 101 b reply store) (pick y (refused 102 b reply store) (pick z (refused 103 b reply store) o)) .result .len ≡ 0)
-  kept-by true y z o e h = (refl, refl, refl, refl)
-  kept-by false true z o e h = (refl, refl, refl, refl)
-  kept-by false false true o e h = (refl, refl, refl, refl)
+      → (pick x (refused 101 b l) (pick y (refused 102 b l) (pick z (refused 103 b l) o)) .result .refusal ≡ 0 → ⊥)
+      → (pick x (refused 101 b l) (pick y (refused 102 b l) (pick z (refused 103 b l) o)) .result .board ≡ b)
+      × (pick x (refused 101 b l) (pick y (refused 102 b l) (pick z (refused 103 b l) o)) .after ≡ l)
+      × (pick x (refused 101 b l) (pick y (refused 102 b l) (pick z (refused 103 b l) o)) .result .len ≡ 0)
+  kept-by true y z o e h = (refl, refl, refl)
+  kept-by false true z o e h = (refl, refl, refl)
+  kept-by false false true o e h = (refl, refl, refl)
   kept-by false false false o e h = absurd (h e)
 
-  pub kept : (receiving v ports b reply store .result .refusal ≡ 0 → ⊥)
-      → (receiving v ports b reply store .result .board ≡ b) × (receiving v ports b reply store .reply ≡ reply)
-      × (receiving v ports b reply store .store ≡ store) × (receiving v ports b reply store .result .len ≡ 0)
+  pub kept : (receiving v ports b l .result .refusal ≡ 0 → ⊥)
+      → (receiving v ports b l .result .board ≡ b) × (receiving v ports b l .after ≡ l) × (receiving v ports b l .result .len ≡ 0)
   unfolding receiving
-  kept h = kept-by (ltb (length reply) 32) (not (eqb (length store) 16384)) (not (sound b)) (answered (hearing v ports b store) reply) refl h
+  kept h = kept-by (ltb (length (l .reply)) 32) (not (isRight (l .memory))) (not (sound b)) (answered (hearing v ports b (l .memory)) (l .reply)) refl h
 
 -- ---- a clock call: refused, standing, or the engine's
 
-module _ (b : Board) (store : List ℕ) where
+module _ (b : Board) (mem : Memory) where
   abbrev engineCall : Ticked
-  engineCall = wentOn b (ticked pulseOf (fetchOf (b .engine .held) store) (b .engine))
+  engineCall = wentOn b (ticked pulseOf (fetchOf (b .engine .held) (mem .store)) (b .engine))
 
   -- a property of a clock call by its four cases
   pub by-call : (P : Ticked → Type 0) → P (clocked 102 b answer.Nothing) → P (clocked 103 b answer.Nothing) → P (clocked 0 b answer.Nothing)
-      → (sound b ≡ true → b .standing ≡ false → P engineCall) → P (clocking b store)
+      → (sound b ≡ true → b .standing ≡ false → P engineCall) → P (clocking b mem)
   unfolding clocking
-  by-call P p2 p3 p0 p = by (not (eqb (length store) 16384)) (sound b) (b .standing) refl refl
+  by-call P p2 p3 p0 p = by (not (isRight mem)) (sound b) (b .standing) refl refl
     where
       by : (x y z : Bool) → sound b ≡ y → b .standing ≡ z
           → P (pick x (clocked 102 b answer.Nothing) (pick (not y) (clocked 103 b answer.Nothing) (pick z (clocked 0 b answer.Nothing) engineCall)))
@@ -108,20 +117,35 @@ module _ (b : Board) (store : List ℕ) where
       by false true true e f = p0
       by false true false e f = p e f
 
+-- ---- lent another memory, no call changes anything
+
+pub elsewhere-byte : (v : ℕ) (ports : List ℕ) (b : Board) (l : Lent) → (RightMemory (l .memory) → ⊥) → receiving v ports b l .result .board ≡ b
+elsewhere-byte v ports b l n = by (eqb (receiving v ports b l .result .refusal) 0) refl
+  where
+    by : (x : Bool) → eqb (receiving v ports b l .result .refusal) 0 ≡ x → receiving v ports b l .result .board ≡ b
+    by true q = absurd (n (calm-memory v ports b l (eqb-true (receiving v ports b l .result .refusal) 0 q)))
+    by false q = kept v ports b l (eqb-false (receiving v ports b l .result .refusal) 0 q) .0
+
+pub elsewhere-call : (b : Board) (mem : Memory) → (RightMemory mem → ⊥) → clocking b mem ≡ clocked 102 b answer.Nothing
+unfolding clocking
+elsewhere-call b mem n = by (isRight mem) refl
+  where
+    by : (x : Bool) → isRight mem ≡ x
+        → pick (not x) (clocked 102 b answer.Nothing)
+        (pick (not (sound b)) (clocked 103 b answer.Nothing) (pick (b .standing) (clocked 0 b answer.Nothing) (engineCall b mem))) ≡ clocked 102 b answer.Nothing
+    by true q = absurd (n (is-right mem q))
+    by false q = refl
+
 -- ---- RefusedCall
 
-heard-refused : (v : ℕ) (ports : List ℕ) (l : Lent) (s : Board) → (receiving v ports s (l .reply) (l .store) .result .refusal ≡ 0 → ⊥)
-    → (receiving v ports s (l .reply) (l .store) .result .board ≡ s)
-    × (lent (receiving v ports s (l .reply) (l .store) .reply) (receiving v ports s (l .reply) (l .store) .store) ≡ l)
-    × (receiving v ports s (l .reply) (l .store) .result .len ≡ 0)
-heard-refused v ports l s h =
-    let k = kept v ports s (l .reply) (l .store) h in
-    (k .0, (λ i. lent (k .1 i) (k .2 i)), k .3)
+heard-refused : (v : ℕ) (ports : List ℕ) (l : Lent) (s : Board) → (receiving v ports s l .result .refusal ≡ 0 → ⊥)
+    → (receiving v ports s l .result .board ≡ s) × (receiving v ports s l .after ≡ l) × (receiving v ports s l .result .len ≡ 0)
+heard-refused v ports l s h = kept v ports s l h
 
-ticked-refused : (store : List ℕ) (s : Board) → (clocking s store .refusal ≡ 0 → ⊥)
-    → (clocking s store .board ≡ s) × (paper (clocking s store .answer) ≡ says 5 [])
-ticked-refused store s =
-    by-call s store (λ (t : Ticked). (t .refusal ≡ 0 → ⊥) → (t .board ≡ s) × (paper (t .answer) ≡ says 5 []))
+ticked-refused : (mem : Memory) (s : Board) → (clocking s mem .refusal ≡ 0 → ⊥)
+    → (clocking s mem .board ≡ s) × (paper (clocking s mem .answer) ≡ says 5 [])
+ticked-refused mem s =
+    by-call s mem (λ (t : Ticked). (t .refusal ≡ 0 → ⊥) → (t .board ≡ s) × (paper (t .answer) ≡ says 5 []))
     (λ h. (refl, refl)) (λ h. (refl, refl)) (λ h. (refl, refl)) (λ p q h. absurd (h refl))
 
 module _ (store text : List ℕ) (s : Board) where
@@ -168,45 +192,45 @@ rest-job false false false false e h = h
 
 pub keeps-quiet : Quiet ours
 unfolding ticked
-keeps-quiet store s h =
-    by-call s store (λ (t : Ticked). (t .board ≡ s) × (paper (t .answer) ≡ says 5 [])) (refl, refl) (refl, refl) (refl, refl)
+keeps-quiet mem s h =
+    by-call s mem (λ (t : Ticked). (t .board ≡ s) × (paper (t .answer) ≡ says 5 [])) (refl, refl) (refl, refl) (refl, refl)
     (λ p q.
     let j = s .engine .run .job in
     let r = rest-job (s .standing) (isIdle j) (isStoring j) (isWaiting j) q h in
-    let e = tick-quiet pulseOf (fetchOf (s .engine .held) store) (s .engine) j r in
+    let e = tick-quiet pulseOf (fetchOf (s .engine .held) (mem .store)) (s .engine) j r in
     (ap (λ (t : Told). board (t .engine) (s .standing) (s .line)) e, ap (λ (t : Told). paper (t .answer)) e))
 
 -- ---- Counted
 
-module _ (store : List ℕ) where
+module _ (mem : Memory) where
   first-each : (s : Board) (n : ℕ) → runsNow s ≡ true
-      → ((j : ℕ) → j < n → runsNow (ticks ours j store (clocking s store .board)) ≡ true)
-      → (j : ℕ) → j < suc n → runsNow (ticks ours j store s) ≡ true
+      → ((j : ℕ) → j < n → runsNow (ticks ours j mem (clocking s mem .board)) ≡ true)
+      → (j : ℕ) → j < suc n → runsNow (ticks ours j mem s) ≡ true
   unfolding ticks
   first-each s n r f zero h = r
   first-each s n r f (suc j) h = f j (omega arith)
 
   counted-by : (k : ℕ) (s : Board) (x : Bool) → runsNow s ≡ x
-      → CountedRun ours k store (clocking s store .board) (course k store (clocking s store .board) .board) (course k store (clocking s store .board) .calls)
-      → CountedRun ours (suc k) store s
-      ((elim x as (λ _. Course) [ true ↦ then (answerText (clocking s store .answer)) (course k store (clocking s store .board)) | false ↦ noCalls s ]) .board)
-      ((elim x as (λ _. Course) [ true ↦ then (answerText (clocking s store .answer)) (course k store (clocking s store .board)) | false ↦ noCalls s ]) .calls)
+      → CountedRun ours k mem (clocking s mem .board) (course k mem (clocking s mem .board) .board) (course k mem (clocking s mem .board) .calls)
+      → CountedRun ours (suc k) mem s
+      ((elim x as (λ _. Course) [ true ↦ then (answerText (clocking s mem .answer)) (course k mem (clocking s mem .board)) | false ↦ noCalls s ]) .board)
+      ((elim x as (λ _. Course) [ true ↦ then (answerText (clocking s mem .answer)) (course k mem (clocking s mem .board)) | false ↦ noCalls s ]) .calls)
   unfolding ticks
   counted-by k s true e c =
-      let n = course k store (clocking s store .board) .calls in
+      let n = course k mem (clocking s mem .board) .calls in
       let q : 1 + n ≡ suc n = omega arith in
       record {
-        made = c .made ∙ ap (λ (i : ℕ). ticks ours i store s) (sym q);
+        made = c .made ∙ ap (λ (i : ℕ). ticks ours i mem s) (sym q);
         most = omega (arith, c .most);
         each = λ j l. first-each s n e (c .each) j (omega arith);
         over = λ l. c .over (omega arith);
       }
   counted-by k s false e c = record { made = refl; most = omega arith; each = λ j l. absurd (omega arith); over = λ l. e }
 
-  pub keeps-counted-by : (limit : ℕ) (s : Board) → CountedRun ours limit store s (course limit store s .board) (course limit store s .calls)
+  pub keeps-counted-by : (limit : ℕ) (s : Board) → CountedRun ours limit mem s (course limit mem s .board) (course limit mem s .calls)
   unfolding course ticks
   keeps-counted-by zero s = record { made = refl; most = omega arith; each = λ j l. absurd (omega arith); over = λ l. absurd (omega arith) }
-  keeps-counted-by (suc k) s = counted-by k s (runsNow s) refl (keeps-counted-by k (clocking s store .board))
+  keeps-counted-by (suc k) s = counted-by k s (runsNow s) refl (keeps-counted-by k (clocking s mem .board))
 
 pub keeps-counted : Counted ours
-keeps-counted limit store s = keeps-counted-by store limit s
+keeps-counted limit mem s = keeps-counted-by mem limit s

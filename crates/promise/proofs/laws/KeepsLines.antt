@@ -14,7 +14,9 @@ use Rattle.motion.specs.declared.Planned.{Planned}
 use Rattle.motion.specs.declared.Planned.the-variants as planned
 use Rattle.motion.specs.Next.{leftOf}
 use Rattle.motion.specs.Plan.{asked, planOf}
+use Rattle.record.specs.declared.Held.{Held}
 use Rattle.record.specs.declared.Record.{Record}
+use Rattle.record.specs.Memory.{Memory, memory}
 use Rattle.record.specs.Keep.{storeOf}
 use Rattle.program.specs.Program.{verdictOf, isSound}
 use Rattle.line.specs.declared.Letter.{Letter}
@@ -39,13 +41,17 @@ use Rattle.board.specs.Receive.{earBy, earOf, isStoring, returned, gathering, o
 use Rattle.course.specs.Run.{runsNow}
 use Rattle.promise.specs.Demands.{isIdle, isWaiting, idles, stores, isNine, endLine, unstored, Silent, begun, onward, dropped, taken}
 
+-- the memory once a record is stored in it
+abbrev pub storedIn : Held → Record → Memory → Memory
+storedIn h r mem = memory (storeOf h r (mem .store) .bytes)
+
 -- ---- what a return comes to
 
-pub data Came (b : Board) (store : List ℕ) (x : Said) : Type 0 where
-  refused : (c : ℕ) → (c ≡ 48 → ⊥) → endLine b ≡ false → x ≡ said (lineDone b) (c ∷ []) store → Came b store x
-  failed : endLine b ≡ true → x ≡ said (unstored b) (71 ∷ namedFault (verdictOf (b .engine .held) store)) store → Came b store x
-  zeroed : (t : List ℕ) → x .reply ≡ 48 ∷ t → eqb (length (x .reply)) 1 || eqb (length (x .reply)) 3 || eqb (length (x .reply)) 19 ≡ true → Came b store x
-  still : x .reply ≡ [] → Silent b (x .board) → Came b store x
+pub data Came (b : Board) (mem : Memory) (x : Said) : Type 0 where
+  refused : (c : ℕ) → (c ≡ 48 → ⊥) → endLine b ≡ false → x ≡ said (lineDone b) (c ∷ []) mem → Came b mem x
+  failed : endLine b ≡ true → x ≡ said (unstored b) (71 ∷ namedFault (verdictOf (b .engine .held) (mem .store))) mem → Came b mem x
+  zeroed : (t : List ℕ) → x .reply ≡ 48 ∷ t → eqb (length (x .reply)) 1 || eqb (length (x .reply)) 3 || eqb (length (x .reply)) 19 ≡ true → Came b mem x
+  still : x .reply ≡ [] → Silent b (x .board) → Came b mem x
 
 -- ---- the rows of the table: reply 0 where none of them holds
 
@@ -81,25 +87,25 @@ and-not-false false e = refl
 
 -- ---- an accepted line
 
-module _ (b : Board) (store ports words : List ℕ) (idle : b .standing ≡ false → idles b ≡ true) where
+module _ (b : Board) (mem : Memory) (ports words : List ℕ) (idle : b .standing ≡ false → idles b ≡ true) where
   moving-by : (p : Planned) → isOutside p ≡ false → b .standing ≡ false
-      → Came b store (acceptedSaid (started-with (begunBy p (b .engine)) (b .standing)) store)
+      → Came b mem (acceptedSaid (started-with (begunBy p (b .engine)) (b .standing)) mem)
   unfolding runsNow runsOf
   moving-by (planned.Going m) h s = by (eqb (leftOf m) 0)
     where
       by : (z : Bool)
-          → Came b store (acceptedSaid (started-with (pick z (begunWith 48 (b .engine)) (begunWith 0 (withJob (b .engine) (job.Direct m)))) (b .standing)) store)
+          → Came b mem (acceptedSaid (started-with (pick z (begunWith 48 (b .engine)) (begunWith 0 (withJob (b .engine) (job.Direct m)))) (b .standing)) mem)
       by true = zeroed [] refl refl
       by false = still refl (begun (idle s) (rw s))
   moving-by planned.Outside h s = never (sym h)
 
-  started-by : (s : Bool) → b .standing ≡ s → Came b store (acceptedSaid (effectOf letter.Start words ports (b .engine) s) store)
+  started-by : (s : Bool) → b .standing ≡ s → Came b mem (acceptedSaid (effectOf letter.Start words ports (b .engine) s) mem)
   unfolding runsNow runsOf
   started-by true q = still refl (onward q refl)
   started-by false q = still refl (begun (idle q) refl)
 
   effect-came : (k : Letter) → isWrong k ≡ false → b .standing && not (heardStanding k) ≡ false → restsOutside k (b .engine) words ≡ false
-      → Came b store (acceptedSaid (effectOf k words ports (b .engine) (b .standing)) store)
+      → Came b mem (acceptedSaid (effectOf k words ports (b .engine) (b .standing)) mem)
   unfolding beginOf report twoHex hexes
   effect-came letter.Wrong p q r = never (sym p)
   effect-came letter.Axes p q r = zeroed [] refl refl
@@ -117,13 +123,13 @@ module _ (b : Board) (store ports words : List ℕ) (idle : b .standing ≡ fals
   effect-came letter.Empty p q r = zeroed [] refl refl
   effect-came letter.Start p q r = started-by (b .standing) refl
 
-  pub direct-came : (d : Direct) → words ≡ d .words → endLine b ≡ false → Came b store (directSaid d ports b store)
+  pub direct-came : (d : Direct) → words ≡ d .words → endLine b ≡ false → Came b mem (directSaid d ports b mem)
   unfolding directSaid
   direct-came d w n = by (eqb (replyOf (b .engine) (b .standing) d) 48) refl
     where
       by : (z : Bool) → eqb (replyOf (b .engine) (b .standing) d) 48 ≡ z
-          → Came b store (pick z (acceptedSaid (effectOf (d .letter) (d .words) ports (b .engine) (b .standing)) store)
-          (said (lineDone b) (replyOf (b .engine) (b .standing) d ∷ []) store))
+          → Came b mem (pick z (acceptedSaid (effectOf (d .letter) (d .words) ports (b .engine) (b .standing)) mem)
+          (said (lineDone b) (replyOf (b .engine) (b .standing) d ∷ []) mem))
       by true e =
           let f = row-facts (b .engine) (b .standing) d (eqb-true _ 48 e) in
           rw (← w) (effect-came (d .letter) (f .0) (f .1) (rw w (f .2)))
@@ -184,26 +190,26 @@ nine-not t k e f = by (isNine t) refl
     by true h = absurd (f (sym e ∙ nine-end t h))
     by false h = refl
 
-module _ (b : Board) (store : List ℕ) (q : endLine b ≡ isNine (textOf (b .line))) where
-  record-came : (r : Record) → isNine (textOf (b .line)) ≡ false → Came b store (recordSaid r b store)
-  record-came r n = by (eqb (recordReply (b .engine .held) r store) 48) refl
+module _ (b : Board) (mem : Memory) (q : endLine b ≡ isNine (textOf (b .line))) where
+  record-came : (r : Record) → isNine (textOf (b .line)) ≡ false → Came b mem (recordSaid r b mem)
+  record-came r n = by (eqb (recordReply (b .engine .held) r mem) 48) refl
     where
-      by : (z : Bool) → eqb (recordReply (b .engine .held) r store) 48 ≡ z
-          → Came b store (pick z
-          (said (board (withHeld (b .engine) (storeOf (b .engine .held) r store .kept .held)) (b .standing) noLine) (48 ∷ []) (storeOf (b .engine .held) r store .bytes))
-          (said (lineDone b) (recordReply (b .engine .held) r store ∷ []) store))
+      by : (z : Bool) → eqb (recordReply (b .engine .held) r mem) 48 ≡ z
+          → Came b mem (pick z
+          (said (board (withHeld (b .engine) (storeOf (b .engine .held) r (mem .store) .kept .held)) (b .standing) noLine) (48 ∷ []) (storedIn (b .engine .held) r mem))
+          (said (lineDone b) (recordReply (b .engine .held) r mem ∷ []) mem))
       by true e = zeroed [] refl refl
-      by false e = refused (recordReply (b .engine .held) r store) (eqb-false _ 48 e) (q ∙ n) refl
+      by false e = refused (recordReply (b .engine .held) r mem) (eqb-false _ 48 e) (q ∙ n) refl
 
-  end-came : isNine (textOf (b .line)) ≡ true → Came b store (endSaid b store)
-  end-came n = by (isSound (verdictOf (b .engine .held) store))
+  end-came : isNine (textOf (b .line)) ≡ true → Came b mem (endSaid b mem)
+  end-came n = by (isSound (verdictOf (b .engine .held) (mem .store)))
     where
-      by : (z : Bool) → Came b store (pick z (said (board (ceased (b .engine)) (b .standing) noLine) (48 ∷ []) store)
-          (said (board (ceased (emptied (b .engine))) (b .standing) noLine) (71 ∷ namedFault (verdictOf (b .engine .held) store)) store))
+      by : (z : Bool) → Came b mem (pick z (said (board (ceased (b .engine)) (b .standing) noLine) (48 ∷ []) mem)
+          (said (board (ceased (emptied (b .engine))) (b .standing) noLine) (71 ∷ namedFault (verdictOf (b .engine .held) (mem .store))) mem))
       by true = zeroed [] refl refl
       by false = failed (q ∙ n) refl
 
-  stored-came : (d : Stored) (k : Code) → storedOf (textOf (b .line)) .code ≡ k → Came b store (storedBy k d b store)
+  stored-came : (d : Stored) (k : Code) → storedOf (textOf (b .line)) .code ≡ k → Came b mem (storedBy k d b mem)
   stored-came d code.Wrong e =
       refused 53 (λ (p : _≡_ {A = ℕ} 53 48). omega arith) (q ∙ nine-not (textOf (b .line)) code.Wrong e (λ p. let z : _≡_ {A = ℕ} 0 1 = cc in omega arith)) refl
   stored-came d (code.Record c) e =
@@ -229,16 +235,16 @@ module _ (b : Board) where
   unfolding endLine
   end-so p q = rw (p, q)
 
-  returned-came : (ports store : List ℕ) → (b .standing ≡ false → stores b ≡ false → idles b ≡ true) → Came b store (returned ports b store)
+  returned-came : (ports : List ℕ) (mem : Memory) → (b .standing ≡ false → stores b ≡ false → idles b ≡ true) → Came b mem (returned ports b mem)
   unfolding returned storedSaid
-  returned-came ports store idle = by (b .line .over) (stores b) refl refl
+  returned-came ports mem idle = by (b .line .over) (stores b) refl refl
     where
       by : (o s : Bool) → b .line .over ≡ o → stores b ≡ s
-          → Came b store (pick o (said (lineDone b) (53 ∷ []) store) (pick s (storedSaid (storedOf (textOf (b .line))) b store)
-          (directSaid (directOf (textOf (b .line))) ports b store)))
+          → Came b mem (pick o (said (lineDone b) (53 ∷ []) mem) (pick s (storedSaid (storedOf (textOf (b .line))) b mem)
+          (directSaid (directOf (textOf (b .line))) ports b mem)))
       by true s p q = refused 53 (λ (n : _≡_ {A = ℕ} 53 48). omega arith) (end-over p) refl
-      by false true p q = stored-came b store (end-so p q) (storedOf (textOf (b .line))) (storedOf (textOf (b .line)) .code) refl
-      by false false p q = direct-came b store ports (directOf (textOf (b .line)) .words) (λ h. idle h q) (directOf (textOf (b .line))) refl (end-not q)
+      by false true p q = stored-came b mem (end-so p q) (storedOf (textOf (b .line))) (storedOf (textOf (b .line)) .code) refl
+      by false false p q = direct-came b mem ports (directOf (textOf (b .line)) .words) (λ h. idle h q) (directOf (textOf (b .line))) refl (end-not q)
 
 wait-by : (t : Bool) (x y : Engine) → runsOf x ≡ true → runsOf y ≡ true → runsOf (pick t x y) ≡ true
 wait-by true x y p q = p
@@ -250,18 +256,18 @@ wait-runs e c t v = wait-by (eqb v c) _ (withJob e job.Ready) refl refl
 
 module _ (b : Board) where
   -- WHAT A RETURN COMES TO
-  pub came : (ports store : List ℕ) → Came b store (hearing 13 ports b store)
+  pub came : (ports : List ℕ) (mem : Memory) → Came b mem (hearing 13 ports b mem)
   unfolding hearing earOf gathering heard runsNow runsOf
-  came ports store = by (b .standing) (b .engine .run .job) refl refl
+  came ports mem = by (b .standing) (b .engine .run .job) refl refl
     where
       runs : (j : Job) → b .engine .run .job ≡ j → runsBy j ≡ true → b .standing ≡ false → runsNow b ≡ true
       runs j q r p = and-not (runsBy (b .engine .run .job)) (b .standing) (ap runsBy q ∙ r) p
 
-      by : (s : Bool) (j : Job) → b .standing ≡ s → b .engine .run .job ≡ j → Came b store (ordinary (pick s gathers (earBy j)) 13 ports b store)
-      by true j p q = returned-came b ports store (λ h. never (sym h ∙ p))
-      by false job.Idle p q = returned-came b ports store (λ h z. and-not (isIdle (b .engine .run .job)) (b .standing) (ap isIdle q) p)
+      by : (s : Bool) (j : Job) → b .standing ≡ s → b .engine .run .job ≡ j → Came b mem (ordinary (pick s gathers (earBy j)) 13 ports b mem)
+      by true j p q = returned-came b ports mem (λ h. never (sym h ∙ p))
+      by false job.Idle p q = returned-came b ports mem (λ h z. and-not (isIdle (b .engine .run .job)) (b .standing) (ap isIdle q) p)
       by false job.Storing p q =
-          returned-came b ports store (λ h z. never (sym z ∙ and-not (isStoring (b .engine .run .job)) (b .standing) (ap isStoring q) p))
+          returned-came b ports mem (λ h z. never (sym z ∙ and-not (isStoring (b .engine .run .job)) (b .standing) (ap isStoring q) p))
       by false (job.Direct m) p q = still refl (dropped (runs (job.Direct m) q refl p) refl)
       by false job.Ready p q = still refl (dropped (runs job.Ready q refl p) refl)
       by false (job.Moving m) p q = still refl (dropped (runs (job.Moving m) q refl p) refl)

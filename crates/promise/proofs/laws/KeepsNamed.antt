@@ -26,6 +26,7 @@ use Rattle.engine.proofs.laws.Facts.{facts}
 use Rattle.board.specs.declared.Board.{Board}
 use Rattle.board.specs.State.{Said, said}
 use Rattle.board.specs.Storing.{namedFault}
+use Rattle.record.specs.Memory.{Memory}
 use Rattle.board.specs.Calls.{receiving}
 use Rattle.board.proofs.laws.Hears.{sound-engine}
 use Rattle.promise.specs.Machine.{ours}
@@ -172,17 +173,17 @@ module _ (h : Held) (store : List ℕ) where
   unfolding verdictOf
   end-reply n = rw (le-ltb 1000 (h .records) n) (reply-by (recordsOf h store) refl)
 
-sent-by : (x : Bool) (c d : Board) (t u store : List ℕ) → pick x (said c t store) (said d u store) .reply ≡ pick x t u
-sent-by true c d t u store = refl
-sent-by false c d t u store = refl
+sent-by : (x : Bool) (c d : Board) (t u : List ℕ) (mem : Memory) → pick x (said c t mem) (said d u mem) .reply ≡ pick x t u
+sent-by true c d t u mem = refl
+sent-by false c d t u mem = refl
 
 pub keeps-end-names : EndNames ours
 keeps-end-names ports l s e h =
-    let n = facts (s .engine) (sound-engine s (calm-sound 13 ports s (l .reply) (l .store) h)) .records in
-    let v = verdictOf (s .engine .held) (l .store) in
-    let r : take (receiving 13 ports s (l .reply) (l .store) .result .len) (receiving 13 ports s (l .reply) (l .store) .reply) ≡ pick (isSound v) (48 ∷ []) (71 ∷ namedFault v) =
-    out-reply 13 ports l s h ∙ ap (λ (x : Said). x .reply) (end-heard s ports (l .store) e) ∙ sent-by (isSound v) _ _ (48 ∷ []) (71 ∷ namedFault v) (l .store) in
-    subst (λ (t : List ℕ). EndReply (s .engine .held) (l .store) t) (sym r) (end-reply (s .engine .held) (l .store) n)
+    let n = facts (s .engine) (sound-engine s (calm-sound 13 ports s l h)) .records in
+    let v = verdictOf (s .engine .held) (l .memory .store) in
+    let r : take (receiving 13 ports s l .result .len) (receiving 13 ports s l .after .reply) ≡ pick (isSound v) (48 ∷ []) (71 ∷ namedFault v) =
+    out-reply 13 ports l s h ∙ ap (λ (x : Said). x .reply) (end-heard s ports (l .memory) e) ∙ sent-by (isSound v) _ _ (48 ∷ []) (71 ∷ namedFault v) (l .memory) in
+    subst (λ (t : List ℕ). EndReply (s .engine .held) (l .memory .store) t) (sym r) (end-reply (s .engine .held) (l .memory .store) n)
 
 -- THE SIX CHARACTERS say one letter and one place
 pub six-one : (a b p q : ℕ) → p < 10000 → q < 10000 → 71 ∷ a ∷ fourDigits p ≡ 71 ∷ b ∷ fourDigits q → (a ≡ b) × (p ≡ q)

@@ -2,7 +2,6 @@
 use Prim.Native.Nat.{ℕ, zero, suc}
 use mathlib.Core.Path.{_≡_, refl, sym}
 use mathlib.Core.Bool.{Bool, true, false, _&&_}
-use mathlib.Core.List.{List}
 use lib.Dec.{eqb, leb}
 use lib.IntN.{pos, _+ℤ_, +ℤ-idr}
 use lib.ListN.{getD}
@@ -27,6 +26,7 @@ use Rattle.record.specs.declared.Record.{Record}
 use Rattle.record.specs.Fault.{isMovement, isAbsolute}
 use Rattle.record.specs.Bytes.{Fetch}
 use Rattle.record.specs.Bytes.Fetch.{Got, End, Wrong}
+use Rattle.record.specs.Memory.{Memory}
 use Rattle.record.specs.Places.{fetchOf}
 use Rattle.program.specs.declared.Going.{Going}
 use Rattle.program.specs.declared.Going.the-variants as going
@@ -160,11 +160,11 @@ module _ (e : Engine) (h : soundOf e ≡ true) where
       (and-left (ends && known && inUse && leb (e .run .loops .depth) 7) (jobSound (e .run .job) (e .at)) h))))
 
 -- A CLOCK CALL ADDS ITS PULSE
-pub clock-adds : (a : Axis) (b : Board) (store : List ℕ) → position a (clocking b store .board) ≡ position a b +ℤ adds a (paper (clocking b store .answer))
+pub clock-adds : (a : Axis) (b : Board) (mem : Memory) → position a (clocking b mem .board) ≡ position a b +ℤ adds a (paper (clocking b mem .answer))
 unfolding ticked adds sound
-clock-adds a b store =
+clock-adds a b mem =
     let z : position a b ≡ position a b +ℤ pos 0 = sym (+ℤ-idr (position a b)) in
-    by-call b store (λ (t : Ticked). position a (t .board) ≡ position a b +ℤ adds a (paper (t .answer))) z z z
+    by-call b mem (λ (t : Ticked). position a (t .board) ≡ position a b +ℤ adds a (paper (t .answer))) z z z
     (λ h s.
     let g = and-left (soundOf (b .engine)) (leb (b .line .len) 80) h in
-    sum-ticked a (b .engine) (fetchOf (b .engine .held) store) (b .engine .run .job) (sound-at (b .engine) g) (sound-job (b .engine) g))
+    sum-ticked a (b .engine) (fetchOf (b .engine .held) (mem .store)) (b .engine .run .job) (sound-at (b .engine) g) (sound-job (b .engine) g))

@@ -8,6 +8,7 @@ use borrow.Author.Tests.{lt-ltb, ne-eqb}
 use lib.ListN.{length, length-append}
 use Rattle.count.proofs.laws.Words.{pad-put}
 use Rattle.count.specs.Words.{pad}
+use Rattle.record.specs.Memory.{Memory}
 use Rattle.engine.specs.declared.Engine.{Engine}
 use Rattle.engine.specs.Sound.{soundOf}
 use Rattle.engine.specs.Kinds.Ear.{gathers}
@@ -16,10 +17,11 @@ use Rattle.board.specs.declared.Board.{Board}
 use Rattle.board.specs.State.{board, noLine, gathered, said, sound}
 use Rattle.board.specs.Receive.{earBy, earOf, hearing}
 use Rattle.board.proofs.laws.Fair.{line-sound}
-use Rattle.promise.specs.Machine.{ours}
+use Rattle.promise.specs.Machine.{RightMemory, ours}
 use Rattle.promise.specs.Demands.{ticks, Host, zeroAtReturns, Sent, sent}
 use Rattle.promise.specs.Steps.{Each}
 use Rattle.promise.specs.Spaces.{Gathers}
+use Rattle.promise.proofs.laws.KeepsCalls.{right-is}
 use Rattle.promise.proofs.laws.Gathering.{Resting, ticks-quiet, one-step, gatheredAll, unanswered, gather-bytes}
 
 -- a board on which nothing stands, with a line
@@ -56,17 +58,17 @@ gathered-line (v ∷ t) p h =
 
 -- ---- a line, byte by byte: what holds of all that is sent afterwards holds of the whole
 
-module _ (host : Host) (Q : Board → List ℕ → Type 0) where
+module _ (host : Host) (Q : Board → Memory → Type 0) where
   -- each return of t was answered 0 and no other byte was answered, and Q holds at the end
   abbrev pub Ends : List ℕ → Sent ours → Type 0
-  Ends t x = (x .replies ≡ zeroAtReturns t) × Q (x .state) (x .store)
+  Ends t x = (x .replies ≡ zeroAtReturns t) × Q (x .state) (x .memory)
 
-  pub return-one : (i : ℕ) (l : List ℕ) (b b′ : Board) (store store′ : List ℕ) → Resting b → sound b ≡ true → length store ≡ 16384
-      → hearing 13 (host .ports i) b store ≡ said b′ (48 ∷ []) store′
-      → ((j : ℕ) → Ends l (sent ours host j l b′ store′)) → Ends (13 ∷ l) (sent ours host i (13 ∷ l) b store)
-  return-one i l b b′ store store′ r s n e f =
+  pub return-one : (i : ℕ) (l : List ℕ) (b b′ : Board) (mem mem′ : Memory) → Resting b → sound b ≡ true → RightMemory mem
+      → hearing 13 (host .ports i) b mem ≡ said b′ (48 ∷ []) mem′
+      → ((j : ℕ) → Ends l (sent ours host j l b′ mem′)) → Ends (13 ∷ l) (sent ours host i (13 ∷ l) b mem)
+  return-one i l b b′ mem mem′ r s n e f =
       let g = f (suc i) in
-      rw (one-step host i 13 l b store (ticks-quiet (host .calls i) store b r), n, s, e) (ap (λ (x : List (List ℕ)). (48 ∷ []) ∷ x) (g .0), g .1)
+      rw (one-step host i 13 l b mem (ticks-quiet (host .calls i) mem b r), right-is mem n, s, e) (ap (λ (x : List (List ℕ)). (48 ∷ []) ∷ x) (g .0), g .1)
 
   ends-behind : (t l : List ℕ) (x : Sent ours) → AllPlain t → Ends l x → Ends (t ++ l) (unanswered t x)
   ends-behind [] l x q g = g
@@ -74,27 +76,27 @@ module _ (host : Host) (Q : Board → List ℕ → Type 0) where
       let f = ends-behind t l x (q .1) g in
       (rw (ne-eqb v 13 (λ z. omega (arith, q .0 .0))) (ap (λ (r : List (List ℕ)). [] ∷ r) (f .0)), f .1)
 
-  module _ (e : Engine) (store : List ℕ) (ear : earBy (e .run .job) ≡ gathers) (rest : Resting (with-line e noLine)) (right : soundOf e ≡ true)
-      (n : length store ≡ 16384) where
+  module _ (e : Engine) (mem : Memory) (ear : earBy (e .run .job) ≡ gathers) (rest : Resting (with-line e noLine)) (right : soundOf e ≡ true)
+      (n : RightMemory mem) where
     hears : earOf (with-line e noLine) ≡ gathers
     unfolding earOf
     hears = ear
 
-    calm : (i : ℕ) (x : Line) → ticks ours (host .calls i) store (with-line e x) ≡ with-line e x
-    calm i x = ticks-quiet (host .calls i) store (with-line e x) rest
+    calm : (i : ℕ) (x : Line) → ticks ours (host .calls i) mem (with-line e x) ≡ with-line e x
+    calm i x = ticks-quiet (host .calls i) mem (with-line e x) rest
 
     pub gather-all : (t p : List ℕ) (i : ℕ) (l : List ℕ) → AllPlain t → length p + length t ≤ 80
-        → ((j : ℕ) → Ends l (sent ours host j l (with-line e (lineOf (p ++ t))) store))
-        → Ends (t ++ l) (sent ours host i (t ++ l) (with-line e (lineOf p)) store)
+        → ((j : ℕ) → Ends l (sent ours host j l (with-line e (lineOf (p ++ t))) mem))
+        → Ends (t ++ l) (sent ours host i (t ++ l) (with-line e (lineOf p)) mem)
     gather-all t p i l q h f =
-        rw (gather-bytes host (with-line e noLine) store hears right n calm t i l (lineOf p) (plain-gathers t q) h, gathered-line t p h)
+        rw (gather-bytes host (with-line e noLine) mem hears right n calm t i l (lineOf p) (plain-gathers t q) h, gathered-line t p h)
         (ends-behind t l _ q (f (i + length t)))
 
     -- A LINE
-    pub line-all : (t : List ℕ) (i : ℕ) (l : List ℕ) (b′ : Board) (store′ : List ℕ) → AllPlain t → length t ≤ 80
-        → ((ports : List ℕ) → hearing 13 ports (with-line e (lineOf t)) store ≡ said b′ (48 ∷ []) store′)
-        → ((j : ℕ) → Ends l (sent ours host j l b′ store′))
-        → Ends (t ++ 13 ∷ l) (sent ours host i (t ++ 13 ∷ l) (with-line e noLine) store)
-    line-all t i l b′ store′ q h g f =
+    pub line-all : (t : List ℕ) (i : ℕ) (l : List ℕ) (b′ : Board) (mem′ : Memory) → AllPlain t → length t ≤ 80
+        → ((ports : List ℕ) → hearing 13 ports (with-line e (lineOf t)) mem ≡ said b′ (48 ∷ []) mem′)
+        → ((j : ℕ) → Ends l (sent ours host j l b′ mem′))
+        → Ends (t ++ 13 ∷ l) (sent ours host i (t ++ 13 ∷ l) (with-line e noLine) mem)
+    line-all t i l b′ mem′ q h g f =
         gather-all t [] i (13 ∷ l) q (omega arith)
-        (λ j. return-one j l (with-line e (lineOf t)) b′ store store′ rest (line-sound e false (lineOf t) right h) n (g (host .ports j)) f)
+        (λ j. return-one j l (with-line e (lineOf t)) b′ mem mem′ rest (line-sound e false (lineOf t) right h) n (g (host .ports j)) f)

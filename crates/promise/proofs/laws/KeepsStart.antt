@@ -8,6 +8,7 @@ use borrow.Author.Tests.{eqb-true}
 use lib.Dec.{eqb}
 use Rattle.count.proofs.laws.Truth.{never}
 use Rattle.record.specs.declared.Held.{Held}
+use Rattle.record.specs.Memory.{Memory}
 use Rattle.program.specs.Onward.{noLoops}
 use Rattle.program.specs.Program.{axesSet}
 use Rattle.engine.specs.declared.Engine.{Engine}
@@ -26,10 +27,10 @@ abbrev pub restingWith : ℕ → Held → Engine
 restingWith axes h = record { axes = axes; at = zeroes; origin = zeroes; three = false; output = 0; held = h; run = idle }
 
 pub record Starts (axes : ℕ) : Type 0 where
-  pub set : (ports store : List ℕ) → hearing 13 ports (with-line (restingWith 0 nothingHeld) (lineOf (64 ∷ 48 ∷ (48 + axes) ∷ []))) store
-      ≡ said (board (restingWith axes nothingHeld) false noLine) (48 ∷ []) store
-  pub store : (ports store : List ℕ) → hearing 13 ports (with-line (restingWith axes nothingHeld) (lineOf (64 ∷ 48 ∷ 105 ∷ []))) store
-      ≡ said (board (storingWith axes (record { used = 0; records = 0; axes = axes })) false noLine) (48 ∷ []) store
+  pub set : (ports : List ℕ) (mem : Memory) → hearing 13 ports (with-line (restingWith 0 nothingHeld) (lineOf (64 ∷ 48 ∷ (48 + axes) ∷ []))) mem
+      ≡ said (board (restingWith axes nothingHeld) false noLine) (48 ∷ []) mem
+  pub store : (ports : List ℕ) (mem : Memory) → hearing 13 ports (with-line (restingWith axes nothingHeld) (lineOf (64 ∷ 48 ∷ 105 ∷ []))) mem
+      ≡ said (board (storingWith axes (record { used = 0; records = 0; axes = axes })) false noLine) (48 ∷ []) mem
   pub known : axesKnown axes ≡ true
   pub sound : soundOf (restingWith axes nothingHeld) ≡ true
   pub plain : Plain (48 + axes)
@@ -38,9 +39,9 @@ pub record Starts (axes : ℕ) : Type 0 where
 computed : Starts 1 × Starts 3 × Starts 7 × (soundOf (restingWith 0 nothingHeld) ≡ true)
 unfolding Rattle.count.specs.Numbers.word Rattle.motion.specs.Sound.counted Rattle.line.specs.Lines.behind Rattle.line.specs.Lines.letterOf Rattle.line.specs.Lines.afterAddress Rattle.line.specs.Lines.directOf Rattle.line.specs.Numbers.digitsBehind Rattle.line.specs.Numbers.digitsOf Rattle.line.specs.Numbers.numberOf Rattle.line.specs.Numbers.parted Rattle.line.specs.Numbers.itemsOf Rattle.line.specs.Numbers.numbersOf Rattle.engine.specs.Sound.soundOf Rattle.board.specs.Direct.first Rattle.board.specs.Direct.replyOf Rattle.board.specs.Direct.directSaid Rattle.board.specs.Receive.earOf Rattle.board.specs.Receive.returned Rattle.board.specs.Receive.gathering Rattle.board.specs.Receive.hearing
 computed = (
-  record { set = λ ports store. refl; store = λ ports store. refl; known = refl; sound = refl; plain = (omega arith, omega arith) },
-  record { set = λ ports store. refl; store = λ ports store. refl; known = refl; sound = refl; plain = (omega arith, omega arith) },
-  record { set = λ ports store. refl; store = λ ports store. refl; known = refl; sound = refl; plain = (omega arith, omega arith) },
+  record { set = λ ports mem. refl; store = λ ports mem. refl; known = refl; sound = refl; plain = (omega arith, omega arith) },
+  record { set = λ ports mem. refl; store = λ ports mem. refl; known = refl; sound = refl; plain = (omega arith, omega arith) },
+  record { set = λ ports mem. refl; store = λ ports mem. refl; known = refl; sound = refl; plain = (omega arith, omega arith) },
   refl,
 )
 

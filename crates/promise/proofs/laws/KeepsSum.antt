@@ -18,6 +18,7 @@ use Rattle.motion.specs.Plan.{asked, planOf}
 use Rattle.line.specs.declared.Letter.{Letter}
 use Rattle.line.specs.declared.Letter.the-variants as letter
 use Rattle.line.specs.declared.Direct.{Direct}
+use Rattle.record.specs.Memory.{Memory}
 use Rattle.line.specs.Lines.{letterPaper, directOf}
 use Rattle.engine.specs.declared.Job.the-variants as job
 use Rattle.count.specs.Ranges.{names}
@@ -56,9 +57,9 @@ module _ (a : Axis) (b : Board) where
 
   -- ---- an accepted line, idle
 
-  module _ (ports words store : List ℕ) where
+  module _ (ports words : List ℕ) (mem : Memory) where
     abbrev after : Letter → Said
-    after k = acceptedSaid (effectOf k words ports (b .engine) (b .standing)) store
+    after k = acceptedSaid (effectOf k words ports (b .engine) (b .standing)) mem
 
     abbrev zeroBy : Letter → Bool
     zeroBy k = eqb (letterPaper k .number) 48 || (eqb (letterPaper k .number) 78 && names (getD words 0 0) (part a))
@@ -86,44 +87,44 @@ zero-pick : (t : Bool) (c : ℕ) → value (pick t half c) ≡ pick t (pos 0) (v
 zero-pick true c = refl
 zero-pick false c = refl
 
-axes-at : (a : Axis) (b : Board) (ports words store : List ℕ) → RightBy a b ports words store letter.Axes
-axes-at X b ports words store = refl
-axes-at Y b ports words store = refl
-axes-at Z b ports words store = refl
+axes-at : (a : Axis) (b : Board) (ports words : List ℕ) (mem : Memory) → RightBy a b ports words mem letter.Axes
+axes-at X b ports words mem = refl
+axes-at Y b ports words mem = refl
+axes-at Z b ports words mem = refl
 
-zero-at : (a : Axis) (b : Board) (ports words store : List ℕ) → RightBy a b ports words store letter.Zero
+zero-at : (a : Axis) (b : Board) (ports words : List ℕ) (mem : Memory) → RightBy a b ports words mem letter.Zero
 unfolding mixed
-zero-at X b ports words store = zero-pick (names (getD words 0 0) 1) (b .engine .at .x)
-zero-at Y b ports words store = zero-pick (names (getD words 0 0) 2) (b .engine .at .y)
-zero-at Z b ports words store = zero-pick (names (getD words 0 0) 4) (b .engine .at .z)
+zero-at X b ports words mem = zero-pick (names (getD words 0 0) 1) (b .engine .at .x)
+zero-at Y b ports words mem = zero-pick (names (getD words 0 0) 2) (b .engine .at .y)
+zero-at Z b ports words mem = zero-pick (names (getD words 0 0) 4) (b .engine .at .z)
 
-module _ (a : Axis) (b : Board) (ports words store : List ℕ) where
-  abbrev keep : (k : Letter) → after a b ports words store k .board .engine .at ≡ b .engine .at → zeroBy a b ports words store k ≡ false → RightBy a b ports words store k
-  keep k p q = kept-at a b ports words store k p q
+module _ (a : Axis) (b : Board) (ports words : List ℕ) (mem : Memory) where
+  abbrev keep : (k : Letter) → after a b ports words mem k .board .engine .at ≡ b .engine .at → zeroBy a b ports words mem k ≡ false → RightBy a b ports words mem k
+  keep k p q = kept-at a b ports words mem k p q
 
-  letter-at : (k : Letter) → isWrong k ≡ false → RightBy a b ports words store k
+  letter-at : (k : Letter) → isWrong k ≡ false → RightBy a b ports words mem k
   unfolding beginOf
   letter-at letter.Wrong h = never (sym h)
-  letter-at letter.Axes h = axes-at a b ports words store
+  letter-at letter.Axes h = axes-at a b ports words mem
   letter-at letter.Relative h =
-      keep letter.Relative (moving-at a b ports words store (planOf (asked (b .engine .axes) (b .engine .three) (b .engine .at) (b .engine .origin) false words))) refl
+      keep letter.Relative (moving-at a b ports words mem (planOf (asked (b .engine .axes) (b .engine .three) (b .engine .at) (b .engine .origin) false words))) refl
   letter-at letter.Absolute h =
-      keep letter.Absolute (moving-at a b ports words store (planOf (asked (b .engine .axes) (b .engine .three) (b .engine .at) (b .engine .origin) true words))) refl
+      keep letter.Absolute (moving-at a b ports words mem (planOf (asked (b .engine .axes) (b .engine .three) (b .engine .at) (b .engine .origin) true words))) refl
   letter-at letter.Origin h = keep letter.Origin refl refl
-  letter-at letter.Zero h = zero-at a b ports words store
+  letter-at letter.Zero h = zero-at a b ports words mem
   letter-at letter.Three h = keep letter.Three refl refl
   letter-at letter.Position h = keep letter.Position refl refl
   letter-at letter.Input h = keep letter.Input refl refl
   letter-at letter.Output h = keep letter.Output refl refl
   letter-at letter.Store h = keep letter.Store refl refl
   letter-at letter.Empty h = keep letter.Empty refl refl
-  letter-at letter.Start h = keep letter.Start (start-at a b ports words store (b .standing)) refl
+  letter-at letter.Start h = keep letter.Start (start-at a b ports words mem (b .standing)) refl
 
   -- P, b and S alone are heard while something stands
-  standing-at : (k : Letter) → heardStanding k ≡ true → after a b ports words store k .board .engine .at ≡ b .engine .at
+  standing-at : (k : Letter) → heardStanding k ≡ true → after a b ports words mem k .board .engine .at ≡ b .engine .at
   standing-at letter.Position h = refl
   standing-at letter.Input h = refl
-  standing-at letter.Start h = start-at a b ports words store (b .standing)
+  standing-at letter.Start h = start-at a b ports words mem (b .standing)
   standing-at letter.Wrong h = never h
   standing-at letter.Axes h = never h
   standing-at letter.Relative h = never h
@@ -135,7 +136,7 @@ module _ (a : Axis) (b : Board) (ports words store : List ℕ) where
   standing-at letter.Store h = never h
   standing-at letter.Empty h = never h
 
-module _ (a : Axis) (b : Board) (ports store : List ℕ) where
+module _ (a : Axis) (b : Board) (ports : List ℕ) (mem : Memory) where
   abbrev line : Direct
   line = directOf (textOf (b .line))
 
@@ -147,7 +148,7 @@ module _ (a : Axis) (b : Board) (ports store : List ℕ) where
   heard-so false e = never (sym e)
 
   -- a line on a board that stands
-  pub stands-right : b .standing ≡ true → Right a b (directSaid line ports b store)
+  pub stands-right : b .standing ≡ true → Right a b (directSaid line ports b mem)
   unfolding directSaid
   stands-right s = by (eqb reply 48) refl
     where
@@ -159,21 +160,21 @@ module _ (a : Axis) (b : Board) (ports store : List ℕ) where
       off x = off-1 (idles b) (not (b .line .over)) (eqb (getD (x .reply) 0 0) 48) (zeroLine a line) (no-idle (isIdle (b .engine .run .job)))
 
       by : (z : Bool) → eqb reply 48 ≡ z
-          → Right a b (pick z (acceptedSaid (effectOf (line .letter) (line .words) ports (b .engine) (b .standing)) store) (said (lineDone b) (reply ∷ []) store))
+          → Right a b (pick z (acceptedSaid (effectOf (line .letter) (line .words) ports (b .engine) (b .standing)) mem) (said (lineDone b) (reply ∷ []) mem))
       by true e =
           let f = row-facts (b .engine) (b .standing) line (eqb-true reply 48 e) .1 in
-          same a b (after a b ports (line .words) store (line .letter))
-          (standing-at a b ports (line .words) store (line .letter) (heard-so (heardStanding (line .letter)) (rw s at f))) (off (after a b ports (line .words) store (line .letter)))
-      by false e = same a b (said (lineDone b) (reply ∷ []) store) refl (off (said (lineDone b) (reply ∷ []) store))
+          same a b (after a b ports (line .words) mem (line .letter))
+          (standing-at a b ports (line .words) mem (line .letter) (heard-so (heardStanding (line .letter)) (rw s at f))) (off (after a b ports (line .words) mem (line .letter)))
+      by false e = same a b (said (lineDone b) (reply ∷ []) mem) refl (off (said (lineDone b) (reply ∷ []) mem))
 
   -- a line on an idle board
-  pub idle-right : idles b ≡ true → b .line .over ≡ false → Right a b (directSaid line ports b store)
+  pub idle-right : idles b ≡ true → b .line .over ≡ false → Right a b (directSaid line ports b mem)
   unfolding directSaid zeroLine
   idle-right i o = by (eqb reply 48) refl
     where
       by : (z : Bool) → eqb reply 48 ≡ z
-          → Right a b (pick z (acceptedSaid (effectOf (line .letter) (line .words) ports (b .engine) (b .standing)) store) (said (lineDone b) (reply ∷ []) store))
+          → Right a b (pick z (acceptedSaid (effectOf (line .letter) (line .words) ports (b .engine) (b .standing)) mem) (said (lineDone b) (reply ∷ []) mem))
       by true e =
           let f = row-facts (b .engine) (b .standing) line (eqb-true reply 48 e) .0 in
-          rw (i, o) (letter-at a b ports (line .words) store (line .letter) f)
-      by false e = same a b (said (lineDone b) (reply ∷ []) store) refl (off-3 (idles b) (not (b .line .over)) (eqb reply 48) (zeroLine a line) e)
+          rw (i, o) (letter-at a b ports (line .words) mem (line .letter) f)
+      by false e = same a b (said (lineDone b) (reply ∷ []) mem) refl (off-3 (idles b) (not (b .line .over)) (eqb reply 48) (zeroLine a line) e)

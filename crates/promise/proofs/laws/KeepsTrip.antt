@@ -12,6 +12,7 @@ use Rattle.motion.specs.Sound.{counted}
 use Rattle.record.specs.declared.Held.{Held}
 use Rattle.record.specs.declared.Record.{Record}
 use Rattle.record.specs.Bytes.{encode, numbersOf}
+use Rattle.record.specs.Memory.{Memory}
 use Rattle.record.specs.Places.{recordsFrom, recordsOf, encodeAll}
 use Rattle.record.specs.Places.Records.{are}
 use Rattle.record.specs.Keep.{longer, hasRoom, storeOf}
@@ -36,8 +37,9 @@ use Rattle.board.specs.Storing.{recordReply, recordSaid, namedFault, storedSaid
 use Rattle.board.specs.Receive.{earOf, returned, gathering, hearing}
 use Rattle.board.specs.Calls.{fresh, listing}
 use Rattle.board.proofs.laws.Hears.{sound-engine}
-use Rattle.promise.specs.Machine.{ours, afterAll}
+use Rattle.promise.specs.Machine.{RightMemory, ours, afterAll}
 use Rattle.promise.specs.Demands.{idles, Host, storingText, sent, Restored, ListedAgain, RoundTrip}
+use Rattle.promise.proofs.laws.KeepsLines.{storedIn}
 use Rattle.promise.proofs.laws.KeepsSending.{with-line, lineOf, Ends, line-all}
 use Rattle.promise.proofs.laws.KeepsStart.{storingWith, restingWith, starts, fresh-sound}
 use Rattle.promise.proofs.laws.KeepsNumbers.{line, line-plain, line-back, record-back}
@@ -55,38 +57,38 @@ storing-sound axes h k e u r = rw (e, k, le-leb (h .used) 16384 u, le-leb (h .re
 
 -- ---- a return while storing
 
-module _ (axes : ℕ) (h : Held) (store : List ℕ) where
+module _ (axes : ℕ) (h : Held) (mem : Memory) where
   abbrev here : List ℕ → Board
   here t = with-line (storingWith axes h) (lineOf t)
 
-  stored-here : (t ports : List ℕ) → length t ≤ 80 → hearing 13 ports (here t) store ≡ storedSaid (storedOf t) (here t) store
+  stored-here : (t ports : List ℕ) → length t ≤ 80 → hearing 13 ports (here t) mem ≡ storedSaid (storedOf t) (here t) mem
   unfolding hearing earOf gathering returned
-  stored-here t ports n = ap (λ (s : List ℕ). storedSaid (storedOf s) (here t) store) (take-pad 80 t n)
+  stored-here t ports n = ap (λ (s : List ℕ). storedSaid (storedOf s) (here t) mem) (take-pad 80 t n)
 
   -- a right record with room is answered 0
-  rows-none : (r : Record) → Faultless (h .axes) (r .code) (r .count) (r .words) → storeOf h r store .kept .stored ≡ true → recordReply h r store ≡ 48
+  rows-none : (r : Record) → Faultless (h .axes) (r .code) (r .count) (r .words) → storeOf h r (mem .store) .kept .stored ≡ true → recordReply h r mem ≡ 48
   unfolding recordReply first
   rows-none r f s = rw (f .count-so, f .axes-so, f .ranges-so, f .speeds-so, s)
 
-  record-said : (r : Record) (ports : List ℕ) (g : RightOne (h .axes) r) → length (line (h .axes) r g) ≤ 80 → storeOf h r store .kept .stored ≡ true
-      → hearing 13 ports (here (line (h .axes) r g)) store
-      ≡ said (board (storingWith axes (storeOf h r store .kept .held)) false noLine) (48 ∷ []) (storeOf h r store .bytes)
+  record-said : (r : Record) (ports : List ℕ) (g : RightOne (h .axes) r) → length (line (h .axes) r g) ≤ 80 → storeOf h r (mem .store) .kept .stored ≡ true
+      → hearing 13 ports (here (line (h .axes) r g)) mem
+      ≡ said (board (storingWith axes (storeOf h r (mem .store) .kept .held)) false noLine) (48 ∷ []) (storedIn h r mem)
   unfolding storedSaid
   record-said r ports g n s =
       let t = line (h .axes) r g in
-      stored-here t ports n ∙ ap (λ (d : Stored). storedSaid d (here t) store) (line-back (h .axes) r g)
-      ∙ ap (λ (x : Record). recordSaid x (here t) store) (record-back (h .axes) r g)
+      stored-here t ports n ∙ ap (λ (d : Stored). storedSaid d (here t) mem) (line-back (h .axes) r g)
+      ∙ ap (λ (x : Record). recordSaid x (here t) mem) (record-back (h .axes) r g)
       ∙ rw (rows-none r (right-faultless (h .axes) r (g .right)) s)
 
-  end-said : (ports : List ℕ) → isSound (verdictOf h store) ≡ true → hearing 13 ports (here (57 ∷ [])) store ≡ said (board (restingWith axes h) false noLine) (48 ∷ []) store
+  end-said : (ports : List ℕ) → isSound (verdictOf h (mem .store)) ≡ true → hearing 13 ports (here (57 ∷ [])) mem ≡ said (board (restingWith axes h) false noLine) (48 ∷ []) mem
   unfolding storedSaid
   end-said ports s =
-      stored-here (57 ∷ []) ports (omega arith) ∙ ap (λ (d : Stored). storedSaid d (here (57 ∷ [])) store) stored-end
-      ∙ ap (λ (x : Bool). pick x (said (board (restingWith axes h) false noLine) (48 ∷ []) store) (said (board (restingWith axes nothingHeld) false noLine) (71 ∷ namedFault (verdictOf h store)) store)) s
+      stored-here (57 ∷ []) ports (omega arith) ∙ ap (λ (d : Stored). storedSaid d (here (57 ∷ [])) mem) stored-end
+      ∙ ap (λ (x : Bool). pick x (said (board (restingWith axes h) false noLine) (48 ∷ []) mem) (said (board (restingWith axes nothingHeld) false noLine) (71 ∷ namedFault (verdictOf h (mem .store))) mem)) s
 
   -- room for one record more
-  room-stored : (r : Record) → hasRoom h (length (encode r)) (length store) ≡ true
-      → (storeOf h r store .kept .stored ≡ true) × (storeOf h r store .kept .held ≡ longer h (length (encode r)))
+  room-stored : (r : Record) → hasRoom h (length (encode r)) (length (mem .store)) ≡ true
+      → (storeOf h r (mem .store) .kept .stored ≡ true) × (storeOf h r (mem .store) .kept .held ≡ longer h (length (encode r)))
   unfolding storeOf
   room-stored r p = (rw p, rw p)
 
@@ -118,60 +120,60 @@ text-so : (r : Record) (rest : List Record) → listText (r ∷ rest) ≡ (r .co
 unfolding listText lineText
 text-so r rest = append-assoc (r .code ∷ numbersText (numbersOf r)) (13 ∷ []) (listText rest)
 
-has-room : (axes : ℕ) (done : List Record) (r : Record) (store : List ℕ) → length store ≡ 16384 → length done + 1 ≤ 1000
-    → length (encodeAll done) + length (encode r) ≤ 16384 → hasRoom (heldBy axes done) (length (encode r)) (length store) ≡ true
+has-room : (axes : ℕ) (done : List Record) (r : Record) (mem : Memory) → RightMemory mem → length done + 1 ≤ 1000
+    → length (encodeAll done) + length (encode r) ≤ 16384 → hasRoom (heldBy axes done) (length (encode r)) (length (mem .store)) ≡ true
 unfolding hasRoom
-has-room axes done r store n m u = rw (n, le-leb (length done + 1) 1000 m, le-leb (length (encodeAll done) + length (encode r)) 16384 u)
+has-room axes done r mem n m u = rw (n, le-leb (length done + 1) 1000 m, le-leb (length (encodeAll done) + length (encode r)) 16384 u)
 
 -- ---- all records and the end line
 
 module _ (host : Host) (axes : ℕ) (k : axesKnown axes ≡ true) (l : List Record) (few : length l ≤ 1000) (room : length (encodeAll l) ≤ 16384)
     (pass : passes l ≡ true) where
   -- what is stored at the end
-  abbrev pub Kept-all : Board → List ℕ → Type 0
-  Kept-all b s = (b .engine .held ≡ heldBy axes l) × (take (length (encodeAll l)) s ≡ encodeAll l) × (idles b ≡ true)
+  abbrev pub Kept-all : Board → Memory → Type 0
+  Kept-all b mem = (b .engine .held ≡ heldBy axes l) × (take (length (encodeAll l)) (mem .store) ≡ encodeAll l) × (idles b ≡ true)
 
   verdict : (store : List ℕ) → recordsOf (heldBy axes l) store ≡ are l → isSound (verdictOf (heldBy axes l) store) ≡ true
   unfolding verdictOf passes
   verdict store q = rw (le-ltb 1000 (length l) few, q) pass
 
-  at-end : (store : List ℕ) (i : ℕ) → recordsOf (heldBy axes l) store ≡ are l → Below 256 store → length store ≡ 16384
-      → Ends host Kept-all (57 ∷ 13 ∷ []) (sent ours host i (57 ∷ 13 ∷ []) (with-line (storingWith axes (heldBy axes l)) noLine) store)
+  at-end : (mem : Memory) (i : ℕ) → recordsOf (heldBy axes l) (mem .store) ≡ are l → Below 256 (mem .store) → RightMemory mem
+      → Ends host Kept-all (57 ∷ 13 ∷ []) (sent ours host i (57 ∷ 13 ∷ []) (with-line (storingWith axes (heldBy axes l)) noLine) mem)
   unfolding sent
-  at-end store i q b n =
-      line-all host Kept-all (storingWith axes (heldBy axes l)) store refl refl (storing-sound axes (heldBy axes l) k refl room few) n (57 ∷ []) i []
-      (board (restingWith axes (heldBy axes l)) false noLine) store ((omega arith, omega arith), tt) (omega arith)
-      (λ ports. end-said axes (heldBy axes l) store ports (verdict store q))
-      (λ j. (refl, (refl, readable-list (heldBy axes l) store l b q .bytes, refl)))
+  at-end mem i q b n =
+      line-all host Kept-all (storingWith axes (heldBy axes l)) mem refl refl (storing-sound axes (heldBy axes l) k refl room few) n (57 ∷ []) i []
+      (board (restingWith axes (heldBy axes l)) false noLine) mem ((omega arith, omega arith), tt) (omega arith)
+      (λ ports. end-said axes (heldBy axes l) mem ports (verdict (mem .store) q))
+      (λ j. (refl, (refl, readable-list (heldBy axes l) (mem .store) l b q .bytes, refl)))
 
-  records-all : (rest done : List Record) (store : List ℕ) (i : ℕ) → done ++ rest ≡ l → AllRight axes rest → recordsOf (heldBy axes done) store ≡ are done
-      → Below 256 store → length store ≡ 16384
-      → Ends host Kept-all (listText rest) (sent ours host i (listText rest) (with-line (storingWith axes (heldBy axes done)) noLine) store)
+  records-all : (rest done : List Record) (mem : Memory) (i : ℕ) → done ++ rest ≡ l → AllRight axes rest → recordsOf (heldBy axes done) (mem .store) ≡ are done
+      → Below 256 (mem .store) → RightMemory mem
+      → Ends host Kept-all (listText rest) (sent ours host i (listText rest) (with-line (storingWith axes (heldBy axes done)) noLine) mem)
   unfolding listText
-  records-all [] done store i e g q b n =
+  records-all [] done mem i e g q b n =
       let d : l ≡ done = sym e ∙ append-nil done in
-      let p : recordsOf (heldBy axes l) store ≡ are l = rw d q in
-      subst (λ (x : List Record). Ends host Kept-all (57 ∷ 13 ∷ []) (sent ours host i (57 ∷ 13 ∷ []) (with-line (storingWith axes (heldBy axes x)) noLine) store)) d
-      (at-end store i p b n)
-  records-all (r ∷ rest) done store i e g q b n =
+      let p : recordsOf (heldBy axes l) (mem .store) ≡ are l = rw d q in
+      subst (λ (x : List Record). Ends host Kept-all (57 ∷ 13 ∷ []) (sent ours host i (57 ∷ 13 ∷ []) (with-line (storingWith axes (heldBy axes x)) noLine) mem)) d
+      (at-end mem i p b n)
+  records-all (r ∷ rest) done mem i e g q b n =
       let h = heldBy axes done in
       let t = line axes r (g .0) in
       let long : length (encodeAll l) ≡ length (encodeAll done) + (length (encode r) + length (encodeAll rest)) =
       ap (λ (x : List Record). length (encodeAll x)) (sym e) ∙ encode-more done rest r in
       let many : length l ≡ length done + suc (length rest) = ap length (sym e) ∙ length-append done (r ∷ rest) in
-      let c = room-stored axes h store r (has-room axes done r store n (omega arith) (omega arith)) in
-      let a = stored-list h r store done b q (g .0) (c .0) in
-      let w : storeOf h r store .kept .held ≡ heldBy axes (done ++ r ∷ []) = c .1 ∙ held-behind axes done r in
+      let c = room-stored axes h mem r (has-room axes done r mem n (omega arith) (omega arith)) in
+      let a = stored-list h r (mem .store) done b q (g .0) (c .0) in
+      let w : storeOf h r (mem .store) .kept .held ≡ heldBy axes (done ++ r ∷ []) = c .1 ∙ held-behind axes done r in
       let f : (done ++ r ∷ []) ++ rest ≡ l = append-assoc done (r ∷ []) rest ∙ e in
-      let z : recordsOf (heldBy axes (done ++ r ∷ [])) (storeOf h r store .bytes) ≡ are (done ++ r ∷ []) = rw (← w) (a .list) in
+      let z : recordsOf (heldBy axes (done ++ r ∷ [])) (storedIn h r mem .store) ≡ are (done ++ r ∷ []) = rw (← w) (a .list) in
       let next : (j : ℕ) → Ends host Kept-all (listText rest)
-      (sent ours host j (listText rest) (board (storingWith axes (storeOf h r store .kept .held)) false noLine) (storeOf h r store .bytes)) =
-      λ j. rw w (records-all rest (done ++ r ∷ []) (storeOf h r store .bytes) j f (g .1) z (a .below) (a .long ∙ n)) in
-      subst (λ (x : List ℕ). Ends host Kept-all x (sent ours host i x (with-line (storingWith axes h) noLine) store))
+      (sent ours host j (listText rest) (board (storingWith axes (storeOf h r (mem .store) .kept .held)) false noLine) (storedIn h r mem)) =
+      λ j. rw w (records-all rest (done ++ r ∷ []) (storedIn h r mem) j f (g .1) z (a .below) (a .long ∙ n)) in
+      subst (λ (x : List ℕ). Ends host Kept-all x (sent ours host i x (with-line (storingWith axes h) noLine) mem))
       (sym (text-so r rest))
-      (line-all host Kept-all (storingWith axes h) store refl refl (storing-sound axes h k refl (omega arith) (omega arith)) n t i (listText rest)
-      (board (storingWith axes (storeOf h r store .kept .held)) false noLine) (storeOf h r store .bytes) (line-plain axes r (g .0)) (line-short axes r (g .0))
-      (λ ports. record-said axes h store r ports (g .0) (line-short axes r (g .0)) (c .0)) next)
+      (line-all host Kept-all (storingWith axes h) mem refl refl (storing-sound axes h k refl (omega arith) (omega arith)) n t i (listText rest)
+      (board (storingWith axes (storeOf h r (mem .store) .kept .held)) false noLine) (storedIn h r mem) (line-plain axes r (g .0)) (line-short axes r (g .0))
+      (λ ports. record-said axes h mem r ports (g .0) (line-short axes r (g .0)) (c .0)) next)
 
 -- ---- RoundTrip
 
@@ -187,8 +189,8 @@ unfolding encodeAll
 empty-held axes = refl
 
 -- the lines of a program of records, sent to a fresh board
-restored : (h : Held) (store : List ℕ) (l : List Record) (other : List ℕ) (host : Host) → length store ≡ 16384 → Below 256 store → h .used ≤ 16384
-    → h .records ≤ 1000 → accepted h store ≡ true → recordsOf h store ≡ are l → length other ≡ 16384 → Below 256 other
+restored : (h : Held) (store : List ℕ) (l : List Record) (other : Memory) (host : Host) → length store ≡ 16384 → Below 256 store → h .used ≤ 16384
+    → h .records ≤ 1000 → accepted h store ≡ true → recordsOf h store ≡ are l → RightMemory other → Below 256 (other .store)
     → Restored ours h store (storingText (h .axes) (listText l)) (sent ours host 0 (storingText (h .axes) (listText l)) fresh other)
 restored h store l other host n b u r a q n′ b′ =
     let p = accepted-list h store l q a .passing in
@@ -206,7 +208,7 @@ restored h store l other host n b u r a q n′ b′ =
     (board (storingWith (h .axes) (heldBy (h .axes) [])) false noLine) other
     ((omega arith, omega arith), ((omega arith, omega arith), ((omega arith, omega arith), tt))) (omega arith)
     (λ ports. s .store ports other ∙ ap (λ (k : Held). said (board (storingWith (h .axes) k) false noLine) (48 ∷ []) other) (empty-held (h .axes)))
-    (λ j. records-all host (h .axes) (s .known) l few room p l [] other j refl (g .right) (no-records (h .axes) other) b′ n′)) in
+    (λ j. records-all host (h .axes) (s .known) l few room p l [] other j refl (g .right) (no-records (h .axes) (other .store)) b′ n′)) in
     record {
       replies = x .0;
       held = x .1 .0 ∙ same-held h l used (g .count);
@@ -221,8 +223,8 @@ unfolding listing listOf
 lister-text b store t l n s h q = rw (n, s, le-ltb (length t) 32768 h, le-ltb 16384 (b .engine .held .used) (facts (b .engine) (sound-engine b s) .used), q)
 
 -- what a board that passes 103 lists is stored again
-pub listed-again : (b : Board) (store text other : List ℕ) (host : Host) → sound b ≡ true → length store ≡ 16384 → Below 256 store
-    → accepted (b .engine .held) store ≡ true → 32768 ≤ length text → length other ≡ 16384 → Below 256 other → ListedAgain ours store text other host b
+pub listed-again : (b : Board) (store text : List ℕ) (other : Memory) (host : Host) → sound b ≡ true → length store ≡ 16384 → Below 256 store
+    → accepted (b .engine .held) store ≡ true → 32768 ≤ length text → RightMemory other → Below 256 (other .store) → ListedAgain ours store text other host b
 listed-again b store text other host s n below a w n′ below′ =
     let h = b .engine .held in
     let f = facts (b .engine) (sound-engine b s) in

@@ -32,7 +32,7 @@ use Rattle.course.specs.Run.{runsNow, course}
 use Rattle.course.specs.Text.{pulseText, positionsText}
 use Rattle.course.specs.Walk.{walkedFrom, walked}
 use Rattle.sheet.proofs.laws.Examples.{nine, ten, eleven}
-use Rattle.course.specs.Walk.{noStore}
+use Rattle.course.specs.Walk.{noMemory}
 use Rattle.promise.specs.Twelve.{History, from, standsOn, standsAt, sends, ticks, One, Two, Three, Four, Five, Six, Seven, Eight, Twelve}
 
 -- (1) to (3), which run
@@ -46,7 +46,7 @@ last = sends (codes "@0A1,600\r") (from (standsAt (pos 8388607)))
 
 -- (4) to (8) and (12), lines and their replies
 replied : Four × Five × Six × Seven × Eight
-    × ((last .replies ≡ codes "9") × (last .board ≡ standsOn 16777215) × (last .store ≡ noStore) × (last .refusal ≡ 0))
+    × ((last .replies ≡ codes "9") × (last .board ≡ standsOn 16777215) × (last .memory ≡ noMemory) × (last .refusal ≡ 0))
 unfolding sends ticks within in24 signed word placed added inSpeed inOffset inBack inLoop inDelay inCharacter inSwitch inPort inByte inZero rightCount rightZ2 rightDistances rightSpeeds hexDigit hexes twos24 report twoHex decimal digits shown decimals fourDigits fromOf toOf speedAt skipped nextBy pulseOf afterOf leftOf pulses steps signAt countAfter goal goalX goalY goalZ1 goalZ2 firstSpeed laterSpeed route goingTo planOf counted inRange underWay behind letterOf afterAddress directOf codeOf storedOf digitsBehind digitsOf numberOf parted itemsOf numbersOf bytes4 numBytes encode wordAt wordsOf front isCode countRight axesRight loopRight rangesRight speedsRight faultOf hasRoom storeOf recordAt spotFrom spotOf fetchOf recordsFrom recordsOf holds share around crosses early overlaps holders outside strays letter checked inside again opens looped aimed onwardOf checkOf verdictOf soundOf mixed resetOf heard beginOf performed ticked runsOf receiving clocking first replyOf directSaid earOf returned gathering stopped broken resetSaid hearing gathered sound recordReply storedSaid runsNow course pulseText positionsText walkedFrom walked
 replied = ((refl, refl, refl), (refl, refl), (refl, refl), refl, refl, (refl, refl, refl, refl))
 

@@ -9,6 +9,7 @@ use Rattle.count.specs.Pick.{pick}
 use Rattle.count.proofs.laws.Truth.{never}
 use Rattle.record.specs.declared.Held.{Held}
 use Rattle.record.specs.declared.Record.{Record}
+use Rattle.record.specs.Memory.{Memory}
 use Rattle.engine.specs.declared.Engine.{Engine}
 use Rattle.engine.specs.declared.Job.{Job}
 use Rattle.engine.specs.declared.Job.the-variants as job
@@ -23,16 +24,16 @@ use Rattle.promise.proofs.laws.StopBoard.{left, held-byte}
 use Rattle.promise.proofs.laws.RouteCall.{Goes, goes-none, rests-none, heard-goes}
 
 abbrev pub At : Type 0
-At = Board × List ℕ
+At = Board × Memory
 
-module _ (l : List Record) (h : Held) (s : List ℕ) where
-  -- what a byte leaves: unless nothing runs any more, the store and its part in use; and what the run comes to, it came to before
+module _ (l : List Record) (h : Held) (mem : Memory) where
+  -- what a byte leaves: unless nothing runs any more, the memory and the store's part in use; and what the run comes to, it came to before
   pub record Follows (e : Engine) (q : At) : Type 0 where
-    pub keeps : rests (q .0) ≡ false → (q .0 .engine .held ≡ h) × (q .1 ≡ s)
+    pub keeps : rests (q .0) ≡ false → (q .0 .engine .held ≡ h) × (q .1 ≡ mem)
     pub goes : (v : List ℕ) → Goes l (q .0 .engine) v → Goes l e v
 
   module _ (e : Engine) (d : e .held ≡ h) where
-    pub same : (q : At) → q .0 .engine ≡ e → q .1 ≡ s → Follows e q
+    pub same : (q : At) → q .0 .engine ≡ e → q .1 ≡ mem → Follows e q
     same q i j = record {
       keeps = λ r. (ap (λ (x : Engine). x .held) i ∙ d, j);
       goes = λ v g. subst (λ (x : Engine). Goes l x v) i g;
@@ -52,10 +53,10 @@ module _ (l : List Record) (h : Held) (s : List ℕ) where
 
     module _ (v : ℕ) (ports : List ℕ) (k : Line) (n : leb (k .len) 80 ≡ true) where
       -- a byte from 0 to 252: while something stands it is gathered; else it is dropped, or a wait takes it
-      ear : (st : Bool) (j : Job) → restsBy j ≡ false → Follows e (left (ordinary (pick st gathers (earBy j)) v ports (board e st k) s))
+      ear : (st : Bool) (j : Job) → restsBy j ≡ false → Follows e (left (ordinary (pick st gathers (earBy j)) v ports (board e st k) mem))
       ear true j r =
-          let f = held-byte e s ports k v n in
-          same _ (ap (λ (x : Board). x .engine) (f .twin)) (f .store)
+          let f = held-byte e mem ports k v n in
+          same _ (ap (λ (x : Board). x .engine) (f .twin)) (f .memory)
       ear false job.Idle r = never (sym r)
       ear false job.Storing r = never (sym r)
       ear false (job.Direct m) r = same _ refl refl
@@ -64,7 +65,7 @@ module _ (l : List Record) (h : Held) (s : List ℕ) where
       ear false (job.Delay q) r = same _ refl refl
       ear false (job.Wait c t) r = let f = heard-goes l v e in record { keeps = λ z. (f .held ∙ d, refl); goes = f .goes }
 
-      pub hears : (st : Bool) → restsBy (e .run .job) ≡ false → Follows e (left (hearing v ports (board e st k) s))
+      pub hears : (st : Bool) → restsBy (e .run .job) ≡ false → Follows e (left (hearing v ports (board e st k) mem))
       unfolding hearing stopped resetSaid broken resetOf earOf
       hears st r =
           either (eqb v 253) _ _ (either (holdsBy (e .run .job) && not st) _ _ (same _ refl refl) (same _ refl refl))

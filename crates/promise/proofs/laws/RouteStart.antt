@@ -4,14 +4,14 @@ use mathlib.Core.Bool.{Bool, true, false, not, _&&_}
 use mathlib.Core.List.{List, [], _∷_}
 use mathlib.Core.Path.{_≡_, refl, sym, _∙_, ap, subst}
 use native.Mathlib.Omega.{arith}
-use borrow.Author.Tests.{eqb-true}
-use lib.Dec.{ltb, eqb}
+use lib.Dec.{eqb}
 use lib.ListN.{length}
 use Rattle.count.specs.Pick.{pick}
 use Rattle.count.proofs.laws.Truth.{never, and-parts}
 use Rattle.line.specs.declared.Letter.{Letter}
 use Rattle.line.specs.declared.Letter.the-variants as letter
 use Rattle.line.specs.Lines.{letterPaper, directOf, storedOf}
+use Rattle.record.specs.Memory.{Memory}
 use Rattle.engine.specs.declared.Engine.{Engine}
 use Rattle.engine.specs.declared.Job.{Job}
 use Rattle.engine.specs.declared.Job.the-variants as job
@@ -24,26 +24,12 @@ use Rattle.board.specs.Storing.{storedSaid}
 use Rattle.engine.specs.Kinds.{Ear}
 use Rattle.board.specs.Receive.{earBy, earOf, isStoring, returned, gathering, ordinary, hearing}
 use Rattle.engine.specs.Kinds.Ear.{gathers}
-use Rattle.board.specs.Calls.{Outcome, refused, answered, receiving}
+use Rattle.board.specs.Calls.{Lent, Outcome, receiving}
 use Rattle.board.proofs.laws.Laws.{hearing-sound}
-use Rattle.promise.specs.Machine.{ours, Lent, afterAll}
+use Rattle.promise.specs.Machine.{RightMemory, ours, afterAll}
 use Rattle.promise.specs.Demands.{isIdle}
 use Rattle.promise.specs.Route.{Started, StartRoutes}
-use Rattle.promise.proofs.laws.KeepsCalls.{calm}
-
--- a call that is not refused was lent a store of 16,384 bytes and a board that passes 103
-right-by : (v : ℕ) (ports : List ℕ) (b : Board) (reply store : List ℕ) → receiving v ports b reply store .result .refusal ≡ 0
-    → (length store ≡ 16384) × (sound b ≡ true)
-unfolding receiving
-right-by v ports b reply store = by (ltb (length reply) 32) (eqb (length store) 16384) (sound b) refl
-  where
-    by : (x y z : Bool) → eqb (length store) 16384 ≡ y
-        → pick x (refused 101 b reply store) (pick (not y) (refused 102 b reply store) (pick (not z) (refused 103 b reply store) (answered (hearing v ports b store) reply))) .result .refusal ≡ 0
-        → (length store ≡ 16384) × (z ≡ true)
-    by true y z q e = absurd (omega arith)
-    by false false z q e = absurd (omega arith)
-    by false true false q e = absurd (omega arith)
-    by false true true q e = (eqb-true (length store) 16384 q, refl)
+use Rattle.promise.proofs.laws.KeepsCalls.{calm, calm-memory, calm-sound}
 
 -- only S has the letter 83
 is-start : (k : Letter) → letterPaper k .number ≡ 83 → k ≡ letter.Start
@@ -61,28 +47,28 @@ is-start letter.Output e = absurd (omega arith)
 is-start letter.Store e = absurd (omega arith)
 is-start letter.Empty e = absurd (omega arith)
 
-module _ (ports : List ℕ) (e : Engine) (l : Line) (store : List ℕ) (k : directOf (textOf l) .letter ≡ letter.Start) where
+module _ (ports : List ℕ) (e : Engine) (l : Line) (mem : Memory) (k : directOf (textOf l) .letter ≡ letter.Start) where
   abbrev b : Board
   b = board e false l
 
   -- what it comes to, if it is not replied to
   abbrev Begins : Said → Type 0
-  Begins x = length (x .reply) ≡ 0 → x ≡ said (board (started e) false noLine) [] store
+  Begins x = length (x .reply) ≡ 0 → x ≡ said (board (started e) false noLine) [] mem
 
-  direct-begins : Begins (directSaid (directOf (textOf l)) ports b store)
+  direct-begins : Begins (directSaid (directOf (textOf l)) ports b mem)
   unfolding directSaid
   direct-begins = by (eqb (replyOf e false (directOf (textOf l))) 48)
     where
-      by : (t : Bool) → Begins (pick t (acceptedSaid (effectOf (directOf (textOf l) .letter) (directOf (textOf l) .words) ports e false) store)
-          (said (lineDone b) (replyOf e false (directOf (textOf l)) ∷ []) store))
-      by true n = ap (λ (x : Letter). acceptedSaid (effectOf x (directOf (textOf l) .words) ports e false) store) k
+      by : (t : Bool) → Begins (pick t (acceptedSaid (effectOf (directOf (textOf l) .letter) (directOf (textOf l) .words) ports e false) mem)
+          (said (lineDone b) (replyOf e false (directOf (textOf l)) ∷ []) mem))
+      by true n = ap (λ (x : Letter). acceptedSaid (effectOf x (directOf (textOf l) .words) ports e false) mem) k
       by false n = absurd (omega arith)
 
   return-begins : (j : Job) → isIdle j ≡ true
-      → Begins (pick (l .over) (said (lineDone b) (53 ∷ []) store) (pick (isStoring j && not false) (storedSaid (storedOf (textOf l)) b store) (directSaid (directOf (textOf l)) ports b store)))
+      → Begins (pick (l .over) (said (lineDone b) (53 ∷ []) mem) (pick (isStoring j && not false) (storedSaid (storedOf (textOf l)) b mem) (directSaid (directOf (textOf l)) ports b mem)))
   return-begins job.Idle i = by (l .over)
     where
-      by : (t : Bool) → Begins (pick t (said (lineDone b) (53 ∷ []) store) (directSaid (directOf (textOf l)) ports b store))
+      by : (t : Bool) → Begins (pick t (said (lineDone b) (53 ∷ []) mem) (directSaid (directOf (textOf l)) ports b mem))
       by true n = absurd (omega arith)
       by false n = direct-begins n
   return-begins job.Storing i = never i
@@ -101,36 +87,35 @@ module _ (ports : List ℕ) (e : Engine) (l : Line) (store : List ℕ) (k : dire
   idle-gathers (job.Delay q) i = never i
   idle-gathers (job.Wait c t) i = never i
 
-  start-begins : isIdle (e .run .job) ≡ true → Begins (hearing 13 ports b store)
+  start-begins : isIdle (e .run .job) ≡ true → Begins (hearing 13 ports b mem)
   unfolding hearing earOf gathering returned
   start-begins i =
-      subst (λ (x : Ear). Begins (ordinary x 13 ports b store)) (sym (idle-gathers (e .run .job) i)) (return-begins (e .run .job) i)
+      subst (λ (x : Ear). Begins (ordinary x 13 ports b mem)) (sym (idle-gathers (e .run .job) i)) (return-begins (e .run .job) i)
 
 -- the same of a board that does not stand
-begun : (ports : List ℕ) (b : Board) (s : Bool) (store : List ℕ) → s ≡ false → directOf (textOf (b .line)) .letter ≡ letter.Start
-    → isIdle (b .engine .run .job) ≡ true → length (hearing 13 ports (board (b .engine) s (b .line)) store .reply) ≡ 0
-    → hearing 13 ports (board (b .engine) s (b .line)) store ≡ said (board (started (b .engine)) false noLine) [] store
-begun ports b true store p k i n = never (sym p)
-begun ports b false store p k i n = start-begins ports (b .engine) (b .line) store k i n
+begun : (ports : List ℕ) (b : Board) (s : Bool) (mem : Memory) → s ≡ false → directOf (textOf (b .line)) .letter ≡ letter.Start
+    → isIdle (b .engine .run .job) ≡ true → length (hearing 13 ports (board (b .engine) s (b .line)) mem .reply) ≡ 0
+    → hearing 13 ports (board (b .engine) s (b .line)) mem ≡ said (board (started (b .engine)) false noLine) [] mem
+begun ports b true mem p k i n = never (sym p)
+begun ports b false mem p k i n = start-begins ports (b .engine) (b .line) mem k i n
 
 begins-from : (ports : List ℕ) (l : Lent) (b : Board) → isIdle (b .engine .run .job) && not (b .standing) ≡ true
     → letterPaper (directOf (textOf (b .line)) .letter) .number ≡ 83
-    → receiving 13 ports b (l .reply) (l .store) .result .refusal ≡ 0 → receiving 13 ports b (l .reply) (l .store) .result .len ≡ 0
-    → Started ours (b .engine .held) (receiving 13 ports b (l .reply) (l .store) .result .board, receiving 13 ports b (l .reply) (l .store) .store)
+    → receiving 13 ports b l .result .refusal ≡ 0 → receiving 13 ports b l .result .len ≡ 0
+    → Started ours (b .engine .held) (receiving 13 ports b l .result .board, receiving 13 ports b l .after .memory)
 begins-from ports l b i k f n =
     let j = and-parts (isIdle (b .engine .run .job)) (not (b .standing)) i in
-    let c = calm 13 ports b (l .reply) (l .store) f in
-    let g = right-by 13 ports b (l .reply) (l .store) f in
-    let u : length (hearing 13 ports b (l .store) .reply) ≡ 0 = sym (ap (λ (o : Outcome). o .result .len) c) ∙ n in
-    let w = begun ports b (b .standing) (l .store) (down (b .standing) (j .1)) (is-start (directOf (textOf (b .line)) .letter) k) (j .0) u in
-    let a : receiving 13 ports b (l .reply) (l .store) .result .board ≡ board (started (b .engine)) false noLine =
+    let c = calm 13 ports b l f in
+    let u : length (hearing 13 ports b (l .memory) .reply) ≡ 0 = sym (ap (λ (o : Outcome). o .result .len) c) ∙ n in
+    let w = begun ports b (b .standing) (l .memory) (down (b .standing) (j .1)) (is-start (directOf (textOf (b .line)) .letter) k) (j .0) u in
+    let a : receiving 13 ports b l .result .board ≡ board (started (b .engine)) false noLine =
     ap (λ (o : Outcome). o .result .board) c ∙ ap (λ (x : Said). x .board) w in
     record {
-      sound = ap (λ (o : Outcome). sound (o .result .board)) c ∙ hearing-sound 13 ports b (l .store) (g .1);
+      sound = ap (λ (o : Outcome). sound (o .result .board)) c ∙ hearing-sound 13 ports b (l .memory) (calm-sound 13 ports b l f);
       standing = ap (λ (x : Board). x .standing) a;
       held = ap (λ (x : Board). x .engine .held) a;
       run = ap (λ (x : Board). x .engine .run) a;
-      store = ap (λ (o : Outcome). length (o .store)) c ∙ ap (λ (x : Said). length (x .store)) w ∙ g .0;
+      memory = subst RightMemory (sym (ap (λ (o : Outcome). o .after .memory) c ∙ ap (λ (x : Said). x .memory) w)) (calm-memory 13 ports b l f);
     }
   where
     down : (s : Bool) → not s ≡ true → s ≡ false

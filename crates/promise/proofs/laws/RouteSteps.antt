@@ -5,14 +5,14 @@ use mathlib.Core.Bool.{Bool, true, false, not, _&&_}
 use mathlib.Core.List.{List, [], _∷_, _++_}
 use mathlib.Core.Logic.{_⊎_, inl, inr}
 use mathlib.Core.Path.{_≡_, refl, sym, _∙_, ap, subst}
-use borrow.Author.Tests.{eq-eqb, ne-eqb, eqb-true, eqb-false, le-leb}
-use lib.Dec.{ltb, eqb}
-use lib.ListN.{length}
+use borrow.Author.Tests.{eqb-true, eqb-false, le-leb}
+use lib.Dec.{eqb}
 use Rattle.count.specs.Pick.{pick}
 use Rattle.count.proofs.laws.Truth.{never}
 use Rattle.motion.specs.Next.{pulseOf}
 use Rattle.record.specs.declared.Held.{Held}
 use Rattle.record.specs.declared.Record.{Record}
+use Rattle.record.specs.Memory.{Memory}
 use Rattle.record.specs.Places.{recordsOf, fetchOf}
 use Rattle.record.specs.Places.Records.{are}
 use Rattle.program.proofs.laws.Accepting.{records-count, accepted-list}
@@ -26,38 +26,25 @@ use Rattle.board.specs.declared.Board.{Board}
 use Rattle.board.specs.declared.Ticked.{Ticked}
 use Rattle.board.specs.State.{sound}
 use Rattle.board.specs.Receive.{hearing}
-use Rattle.board.specs.Calls.{Outcome, refused, receiving, clocked, wentOn, clocking}
+use Rattle.board.specs.Calls.{lent, Outcome, receiving, clocked, wentOn, clocking}
 use Rattle.board.proofs.laws.Hears.{sound-line}
 use Rattle.board.proofs.laws.Laws.{hearing-sound, clocking-sound}
-use Rattle.promise.specs.Machine.{ours}
+use Rattle.promise.specs.Machine.{RightMemory, ours}
 use Rattle.promise.specs.Steps.{Each}
 use Rattle.promise.specs.Stop.{Step, Lending, own, other, receive, call, Elsewhere, restsBy, rests, ahead}
 use Rattle.promise.specs.Route.{Alone, comesBy, visitOf, visits, Routes}
 use Rattle.promise.proofs.laws.StopBoard.{left}
-use Rattle.promise.proofs.laws.KeepsCalls.{calm, kept}
+use Rattle.promise.proofs.laws.KeepsCalls.{right-is, calm, kept, elsewhere-byte, elsewhere-call}
 use Rattle.promise.proofs.laws.RouteCall.{Goes, GoesBy, goes-none, call-goes}
 use Rattle.promise.proofs.laws.RouteBytes.{At, Follows, same, hears}
 use Rattle.promise.proofs.laws.RouteLed.{path-route}
 
--- a call with a store of another length changes nothing
-elsewhere-byte : (v : ℕ) (ports : List ℕ) (b : Board) (reply t : List ℕ) → (length t ≡ 16384 → ⊥) → receiving v ports b reply t .result .board ≡ b
-unfolding receiving
-elsewhere-byte v ports b reply t n = rw (ne-eqb (length t) 16384 n) (by (ltb (length reply) 32))
-  where
-    by : (x : Bool) → pick x (refused 101 b reply t) (refused 102 b reply t) .result .board ≡ b
-    by true = refl
-    by false = refl
-
-elsewhere-call : (b : Board) (t : List ℕ) → (length t ≡ 16384 → ⊥) → clocking b t .board ≡ b
-unfolding clocking
-elsewhere-call b t n = rw (ne-eqb (length t) 16384 n)
-
-module _ (l : List Record) (h : Held) (s : List ℕ) (recs : recordsOf h s ≡ are l) (size : length s ≡ 16384) where
+module _ (l : List Record) (h : Held) (mem : Memory) (recs : recordsOf h (mem .store) ≡ are l) (size : RightMemory mem) where
   -- the program runs on its store, or nothing runs
   record On (q : At) : Type 0 where
     sound : sound (q .0) ≡ true
     held : q .0 .engine .held ≡ h
-    store : q .1 ≡ s
+    memory : q .1 ≡ mem
 
   abbrev Fine : At → Type 0
   Fine q = rests (q .0) ≡ false → On q
@@ -70,51 +57,51 @@ module _ (l : List Record) (h : Held) (s : List ℕ) (recs : recordsOf h s ≡ a
   module _ (b : Board) (n : sound b ≡ true) (d : b .engine .held ≡ h) (r : rests b ≡ false) where
     -- ---- bytes
 
-    byte-by : (v : ℕ) (ports reply : List ℕ) (t : Lending) (q : At) → ahead ours (b, s) (receive v ports reply t) ≡ q → sound (q .0) ≡ true
-        → Follows l h s (b .engine) q → Leads (b, s) (receive v ports reply t)
+    byte-by : (v : ℕ) (ports reply : List ℕ) (t : Lending) (q : At) → ahead ours (b, mem) (receive v ports reply t) ≡ q → sound (q .0) ≡ true
+        → Follows l h mem (b .engine) q → Leads (b, mem) (receive v ports reply t)
     byte-by v ports reply t q a m f = record {
-      fine = λ z. subst On (sym a) (let k = f .keeps (subst (λ (x : At). rests (x .0) ≡ false) a z) in record { sound = m; held = k .0; store = k .1 });
+      fine = λ z. subst On (sym a) (let k = f .keeps (subst (λ (x : At). rests (x .0) ≡ false) a z) in record { sound = m; held = k .0; memory = k .1 });
       goes = λ w g. f .goes w (subst (λ (x : At). Goes l (x .0 .engine) w) a g);
     }
 
-    stays : Follows l h s (b .engine) (b, s)
-    stays = same l h s (b .engine) d (b, s) refl refl
+    stays : Follows l h mem (b .engine) (b, mem)
+    stays = same l h mem (b .engine) d (b, mem) refl refl
 
-    byte-own : (v : ℕ) (ports reply : List ℕ) → Leads (b, s) (receive v ports reply own)
-    byte-own v ports reply = by (eqb (receiving v ports b reply s .result .refusal) 0) refl
+    byte-own : (v : ℕ) (ports reply : List ℕ) → Leads (b, mem) (receive v ports reply own)
+    byte-own v ports reply = by (eqb (receiving v ports b (lent reply mem) .result .refusal) 0) refl
       where
-        by : (x : Bool) → eqb (receiving v ports b reply s .result .refusal) 0 ≡ x → Leads (b, s) (receive v ports reply own)
+        by : (x : Bool) → eqb (receiving v ports b (lent reply mem) .result .refusal) 0 ≡ x → Leads (b, mem) (receive v ports reply own)
         by true q =
-            let c = calm v ports b reply s (eqb-true _ _ q) in
-            byte-by v ports reply own (left (hearing v ports b s)) (ap (λ (o : Outcome). (o .result .board, o .store)) c) (hearing-sound v ports b s n)
-            (hears l h s (b .engine) d v ports (b .line) (le-leb (b .line .len) 80 (sound-line b n)) (b .standing) r)
+            let c = calm v ports b (lent reply mem) (eqb-true _ _ q) in
+            byte-by v ports reply own (left (hearing v ports b mem)) (ap (λ (o : Outcome). (o .result .board, o .after .memory)) c) (hearing-sound v ports b mem n)
+            (hears l h mem (b .engine) d v ports (b .line) (le-leb (b .line .len) 80 (sound-line b n)) (b .standing) r)
         by false q =
-            let k = kept v ports b reply s (eqb-false _ _ q) in
-            byte-by v ports reply own (b, s) (λ i. (k .0 i, k .2 i)) n stays
+            let k = kept v ports b (lent reply mem) (eqb-false _ _ q) in
+            byte-by v ports reply own (b, mem) (λ i. (k .0 i, k .1 i .memory)) n stays
 
-    byte-other : (v : ℕ) (ports reply t : List ℕ) → Elsewhere (other t) → Leads (b, s) (receive v ports reply (other t))
-    byte-other v ports reply t a = byte-by v ports reply (other t) (b, s) (λ i. (elsewhere-byte v ports b reply t a i, s)) n stays
+    byte-other : (v : ℕ) (ports reply : List ℕ) (t : Memory) → Elsewhere (other t) → Leads (b, mem) (receive v ports reply (other t))
+    byte-other v ports reply t a = byte-by v ports reply (other t) (b, mem) (λ i. (elsewhere-byte v ports b (lent reply t) a i, mem)) n stays
 
     -- ---- clock calls
 
-    call-other : (t : List ℕ) → Elsewhere (other t) → Leads (b, s) (call (other t))
+    call-other : (t : Memory) → Elsewhere (other t) → Leads (b, mem) (call (other t))
     call-other t a =
-        let k = elsewhere-call b t a in
+        let k = ap (λ (x : Ticked). x .board) (elsewhere-call b t a) in
         record {
-          fine = λ z. record { sound = subst (λ (x : Board). sound x ≡ true) (sym k) n; held = ap (λ (x : Board). x .engine .held) k ∙ d; store = refl };
+          fine = λ z. record { sound = subst (λ (x : Board). sound x ≡ true) (sym k) n; held = ap (λ (x : Board). x .engine .held) k ∙ d; memory = refl };
           goes = λ v g. subst (λ (x : Board). Goes l (x .engine) v) k g;
         }
 
     abbrev tells : Told
-    tells = ticked pulseOf (fetchOf (b .engine .held) s) (b .engine)
+    tells = ticked pulseOf (fetchOf (b .engine .held) (mem .store)) (b .engine)
 
-    called : clocking b s ≡ pick (b .standing) (clocked 0 b answer.Nothing) (wentOn b tells)
+    called : clocking b mem ≡ pick (b .standing) (clocked 0 b answer.Nothing) (wentOn b tells)
     unfolding clocking
-    called = rw (eq-eqb (length s) 16384 size, n)
+    called = rw (right-is mem size, n)
 
     -- the store's part in use stays, or nothing runs any more
     told-held : restsBy (tells .engine .run .job) ≡ false → tells .engine .held ≡ h
-    told-held z = by (held-stays pulseOf (fetchOf (b .engine .held) s) (b .engine))
+    told-held z = by (held-stays pulseOf (fetchOf (b .engine .held) (mem .store)) (b .engine))
       where
         by : (tells .engine .held ≡ b .engine .held) ⊎ (tells ≡ failed (b .engine)) → tells .engine .held ≡ h
         by (inl k) = k ∙ d
@@ -122,8 +109,8 @@ module _ (l : List Record) (h : Held) (s : List ℕ) (recs : recordsOf h s ≡ a
 
     told-goes : (v : List ℕ) → Goes l (tells .engine) v → Goes l (b .engine) (pick (comesBy (b .engine .run .job)) (b .engine .run .place ∷ []) [] ++ v)
     told-goes v g =
-        call-goes l (b .engine) (ap (λ (x : Held). x .records) d ∙ sym (records-count h s l recs)) v
-        (subst (λ (t : Told). Goes l (t .engine) v) (same-tick h s l recs pulseOf (b .engine) d) g)
+        call-goes l (b .engine) (ap (λ (x : Held). x .records) d ∙ sym (records-count h (mem .store) l recs)) v
+        (subst (λ (t : Told). Goes l (t .engine) v) (same-tick h (mem .store) l recs pulseOf (b .engine) d) g)
 
     abbrev To : Bool → Board → Type 0
     To t x = (rests x ≡ false → x .engine .held ≡ h)
@@ -133,12 +120,12 @@ module _ (l : List Record) (h : Held) (s : List ℕ) (recs : recordsOf h s ≡ a
     to-by true = (λ z. d, λ v g. g)
     to-by false = (told-held, told-goes)
 
-    call-own : Leads (b, s) (call own)
+    call-own : Leads (b, mem) (call own)
     call-own =
         let k = subst (λ (x : Ticked). To (b .standing) (x .board)) (sym called) (to-by (b .standing)) in
-        record { fine = λ z. record { sound = clocking-sound b s n; held = k .0 z; store = refl }; goes = k .1 }
+        record { fine = λ z. record { sound = clocking-sound b mem n; held = k .0 z; memory = refl }; goes = k .1 }
 
-    step : (e : Step) → Alone e → Leads (b, s) e
+    step : (e : Step) → Alone e → Leads (b, mem) e
     step (receive v ports reply own) a = byte-own v ports reply
     step (receive v ports reply (other t)) a = byte-other v ports reply t a
     step (call own) a = call-own
@@ -147,7 +134,7 @@ module _ (l : List Record) (h : Held) (s : List ℕ) (recs : recordsOf h s ≡ a
   -- ---- all steps
 
   step-at : (q : At) (e : Step) → rests (q .0) ≡ false → On q → Alone e → Leads q e
-  step-at (b, st) e r n a = subst (λ (x : List ℕ). Leads (b, x) e) (sym (n .store)) (step b (n .sound) (n .held) r e a)
+  step-at (b, m) e r n a = subst (λ (x : Memory). Leads (b, x) e) (sym (n .memory)) (step b (n .sound) (n .held) r e a)
 
   follow-by : (q : At) (e : Step) (es : List Step) → Fine q → Alone e
       → (Fine (ahead ours q e) → Goes l (ahead ours q e .0 .engine) (visits ours (ahead ours q e) es)) → Goes l (q .0 .engine) (visits ours q (e ∷ es))
@@ -166,6 +153,6 @@ module _ (l : List Record) (h : Held) (s : List ℕ) (recs : recordsOf h s ≡ a
 -- THE VISITS OF A STARTED PROGRAM ARE A ROUTE
 pub ours-routes : Routes ours
 ours-routes h l p es start acc recs alone =
-    path-route (h .axes) l (accepted-list h (p .1) l recs acc) (visits ours p es)
+    path-route (h .axes) l (accepted-list h (p .1 .store) l recs acc) (visits ours p es)
     (subst (λ (x : Run). GoesBy l (x .job) (x .place) (x .loops) (visits ours p es)) (start .run)
-    (follow l h (p .1) recs (start .store) es p (λ z. record { sound = start .sound; held = start .held; store = refl }) alone))
+    (follow l h (p .1) recs (start .memory) es p (λ z. record { sound = start .sound; held = start .held; memory = refl }) alone))

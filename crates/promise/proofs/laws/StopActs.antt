@@ -10,6 +10,7 @@ use lib.ListN.{length}
 use Rattle.count.specs.Pick.{pick}
 use Rattle.count.specs.Paper.{Paper}
 use Rattle.count.proofs.laws.Truth.{and-right}
+use Rattle.record.specs.Memory.{Memory}
 use Rattle.board.specs.declared.Board.{Board}
 use Rattle.promise.specs.Machine.{ours}
 use Rattle.promise.proofs.laws.Guard as G
@@ -53,9 +54,9 @@ shows-byte p (receive v ports reply d) f m = by (keeps p (receive v ports reply 
     by false h = rw h
 shows-byte p (call d) f m = none (keeps p (call d)) (byteOf ours) actByte p (call d) refl refl
 
-awake-told : (s : Bool) (b : Board) (store : List ℕ) → b .standing ≡ s → counts b ≡ true → tells (b, store) ≡ tells (twin (b, store))
-awake-told true b store q h = absurd (true≢false (sym (rw q at h)))
-awake-told false b store q h = rw q
+awake-told : (s : Bool) (b : Board) (mem : Memory) → b .standing ≡ s → counts b ≡ true → tells (b, mem) ≡ tells (twin (b, mem))
+awake-told true b mem q h = absurd (true≢false (sym (rw q at h)))
+awake-told false b mem q h = rw q
 
 pick-none : (g : Bool) (l : List Paper) → l ≡ [] → pick g l [] ≡ []
 pick-none true l h = h
@@ -64,11 +65,11 @@ pick-none false l h = refl
 pub shows-answer : (p : At) (e : Step) → FitAt p → Mild e → Shows (answerOf ours) actAnswer (keeps p e) p e
 shows-answer p (receive v ports reply d) f m = none (keeps p (receive v ports reply d)) (answerOf ours) actAnswer p (receive v ports reply d) refl refl
 shows-answer p (call (other t)) f m = refused-tick t p m .1
-shows-answer (b, store) (call own) f m = by (counts b) refl
+shows-answer (b, mem) (call own) f m = by (counts b) refl
   where
-    by : (c : Bool) → counts b ≡ c → Shows (answerOf ours) actAnswer c (b, store) (call own)
-    by true h = our-answer (b, store) (f .short) ∙ ap (λ (l : List Paper). pick (right (b .engine) store) l []) (awake-told (b .standing) b store refl h)
-    by false h = our-answer (b, store) (f .short) ∙ pick-none (right (b .engine) store) (tells (b, store)) (one-answer (b .engine) (b .line) store (b .standing) h)
+    by : (c : Bool) → counts b ≡ c → Shows (answerOf ours) actAnswer c (b, mem) (call own)
+    by true h = our-answer (b, mem) (f .short) ∙ ap (λ (l : List Paper). pick (right (b .engine) mem) l []) (awake-told (b .standing) b mem refl h)
+    by false h = our-answer (b, mem) (f .short) ∙ pick-none (right (b .engine) mem) (tells (b, mem)) (one-answer (b .engine) (b .line) mem (b .standing) h)
 
 -- ---- an act does something where it is made
 

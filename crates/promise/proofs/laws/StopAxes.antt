@@ -18,6 +18,7 @@ use Rattle.line.specs.declared.Code.the-variants as code
 use Rattle.line.specs.declared.Stored.{Stored}
 use Rattle.line.specs.Lines.{directOf, storedOf}
 use Rattle.record.specs.declared.Record.{Record}
+use Rattle.record.specs.Memory.{Memory}
 use Rattle.record.specs.Keep.{storeOf}
 use Rattle.program.specs.Program.{verdictOf, isSound}
 use Rattle.engine.specs.declared.Job.{Job}
@@ -34,7 +35,7 @@ use Rattle.board.specs.Direct.{needsAxes, replyOf, effectOf, acceptedSaid, dire
 use Rattle.board.specs.Storing.{recordReply, recordOf, namedFault, storedBy, storedSaid}
 use Rattle.board.specs.Receive.{isStoring, returned, gathering}
 use Rattle.promise.specs.Stop.{restsBy}
-use Rattle.promise.proofs.laws.KeepsLines.{row-facts}
+use Rattle.promise.proofs.laws.KeepsLines.{storedIn, row-facts}
 
 -- where a job is under way, axes are set
 abbrev pub Axed : Engine → Type 0
@@ -49,7 +50,7 @@ pick-after false x y p q = q
 
 -- ---- a byte that is gathered on a board that rests
 
-module _ (ports : List ℕ) (e : Engine) (l : Line) (store : List ℕ) (r : restsBy (e .run .job) ≡ true) where
+module _ (ports : List ℕ) (e : Engine) (l : Line) (mem : Memory) (r : restsBy (e .run .job) ≡ true) where
   abbrev b : Board
   b = board e false l
 
@@ -81,36 +82,36 @@ module _ (ports : List ℕ) (e : Engine) (l : Line) (store : List ℕ) (r : rest
   effect-axed letter.Empty w a = λ q. still q
   effect-axed letter.Start w a = λ q. a
 
-  direct-axed : (d : Direct) → After (directSaid d ports b store)
+  direct-axed : (d : Direct) → After (directSaid d ports b mem)
   unfolding directSaid
   direct-axed d = by (eqb (replyOf e false d) 48) refl
     where
       by : (c : Bool) → eqb (replyOf e false d) 48 ≡ c →
-          After (pick c (acceptedSaid (effectOf (d .letter) (d .words) ports e false) store) (said (lineDone b) (replyOf e false d ∷ []) store))
+          After (pick c (acceptedSaid (effectOf (d .letter) (d .words) ports e false) mem) (said (lineDone b) (replyOf e false d ∷ []) mem))
       by true q = effect-axed (d .letter) (d .words) (row-facts e false d (eqb-true _ 48 q) .3)
       by false q = λ q. still q
 
-  stored-axed : (k : Code) (d : Stored) → After (storedBy k d b store)
+  stored-axed : (k : Code) (d : Stored) → After (storedBy k d b mem)
   stored-axed code.Wrong d = λ q. still q
   stored-axed (code.Record c) d =
       let k : Record = recordOf c d in
-      pick-after (eqb (recordReply (e .held) k store) 48)
-      (said (board (withHeld e (storeOf (e .held) k store .kept .held)) false noLine) (48 ∷ []) (storeOf (e .held) k store .bytes))
-      (said (lineDone b) (recordReply (e .held) k store ∷ []) store) (λ q. still q) (λ q. still q)
+      pick-after (eqb (recordReply (e .held) k mem) 48)
+      (said (board (withHeld e (storeOf (e .held) k (mem .store) .kept .held)) false noLine) (48 ∷ []) (storedIn (e .held) k mem))
+      (said (lineDone b) (recordReply (e .held) k mem ∷ []) mem) (λ q. still q) (λ q. still q)
   stored-axed code.End d =
-      pick-after (isSound (verdictOf (e .held) store)) (said (board (ceased e) false noLine) (48 ∷ []) store)
-      (said (board (ceased (emptied e)) false noLine) (71 ∷ namedFault (verdictOf (e .held) store)) store) (λ q. absurd (true≢false q)) (λ q. absurd (true≢false q))
+      pick-after (isSound (verdictOf (e .held) (mem .store))) (said (board (ceased e) false noLine) (48 ∷ []) mem)
+      (said (board (ceased (emptied e)) false noLine) (71 ∷ namedFault (verdictOf (e .held) (mem .store))) mem) (λ q. absurd (true≢false q)) (λ q. absurd (true≢false q))
 
-  return-axed : After (returned ports b store)
+  return-axed : After (returned ports b mem)
   unfolding returned storedSaid
   return-axed =
-      pick-after (l .over) (said (lineDone b) (53 ∷ []) store) _ (λ q. still q)
-      (pick-after (isStoring (e .run .job) && true) (storedSaid (storedOf (textOf l)) b store) (directSaid (directOf (textOf l)) ports b store)
+      pick-after (l .over) (said (lineDone b) (53 ∷ []) mem) _ (λ q. still q)
+      (pick-after (isStoring (e .run .job) && true) (storedSaid (storedOf (textOf l)) b mem) (directSaid (directOf (textOf l)) ports b mem)
       (stored-axed (storedOf (textOf l) .code) (storedOf (textOf l))) (direct-axed (directOf (textOf l))))
 
-  pub gather-axed : (v : ℕ) → After (gathering v ports b store)
+  pub gather-axed : (v : ℕ) → After (gathering v ports b mem)
   unfolding gathering
-  gather-axed v = pick-after (eqb v 13) (returned ports b store) (said (board e false (gathered v l)) [] store) return-axed (λ q. still q)
+  gather-axed v = pick-after (eqb v 13) (returned ports b mem) (said (board e false (gathered v l)) [] mem) return-axed (λ q. still q)
 
 -- ---- a byte at a wait
 

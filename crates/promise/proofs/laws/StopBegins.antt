@@ -8,6 +8,7 @@ use lib.Dec.{leb, eqb}
 use Rattle.count.specs.Pick.{pick}
 use Rattle.count.proofs.laws.Truth.{never, and-left}
 use Rattle.motion.specs.Next.{pulseOf}
+use Rattle.record.specs.Memory.{Memory}
 use Rattle.record.specs.Places.{fetchOf}
 use Rattle.engine.specs.declared.Job.{Job}
 use Rattle.engine.specs.declared.Job.the-variants as job
@@ -67,12 +68,12 @@ holds-on (job.Moving m) h = refl
 holds-on (job.Delay q) h = never h
 holds-on (job.Wait c t) h = never h
 
-module _ (e : Engine) (l : Line) (store : List ℕ) where
-  stop-runs : (s : Bool) → Runs (board e s l) → Runs (stopped (board e s l) store .board)
+module _ (e : Engine) (l : Line) (mem : Memory) where
+  stop-runs : (s : Bool) → Runs (board e s l) → Runs (stopped (board e s l) mem .board)
   unfolding stopped
   stop-runs s h = by (holdsBy (e .run .job) && not s) refl
     where
-      by : (t : Bool) → holdsBy (e .run .job) && not s ≡ t → Runs (pick t (said (board e true l) (70 ∷ []) store) (said (board e s l) [] store) .board)
+      by : (t : Bool) → holdsBy (e .run .job) && not s ≡ t → Runs (pick t (said (board e true l) (70 ∷ []) mem) (said (board e s l) [] mem) .board)
       by true q = record {
         fit = record { short = h .fit .short; clear = tt };
         axes = h .axes;
@@ -80,19 +81,19 @@ module _ (e : Engine) (l : Line) (store : List ℕ) where
       }
       by false q = h
 
-  break-runs : (s : Bool) → Runs (board e s l) → Runs (broken (board e s l) store .board)
+  break-runs : (s : Bool) → Runs (board e s l) → Runs (broken (board e s l) mem .board)
   unfolding broken
   break-runs s h =
-      pick-runs (endsBy (e .run .job) || s) (said (board (ceased e) false l) (70 ∷ []) store) (said (board e s l) [] store)
+      pick-runs (endsBy (e .run .job) || s) (said (board (ceased e) false l) (70 ∷ []) mem) (said (board e s l) [] mem)
       (at-rest (ceased e) l (h .fit .short) refl) h
 
-  reset-runs : (s : Bool) → Runs (resetSaid (board e s l) store .board)
+  reset-runs : (s : Bool) → Runs (resetSaid (board e s l) mem .board)
   unfolding resetSaid resetOf
   reset-runs s = at-rest _ noLine refl refl
 
   module _ (v : ℕ) (ports : List ℕ) where
     -- while something stands, the engine stays
-    stood : (q : Board × List ℕ) → Held e store q → Runs (board e true l) → Runs (q .0)
+    stood : (q : Board × Memory) → Held e mem q → Runs (board e true l) → Runs (q .0)
     stood q g h =
         let p : q .0 .engine ≡ e = ap (λ (b : Board). b .engine) (g .twin) in
         let r : restsBy (q .0 .engine .run .job) ≡ restsBy (e .run .job) = ap (λ (x : Engine). restsBy (x .run .job)) p in
@@ -102,10 +103,10 @@ module _ (e : Engine) (l : Line) (store : List ℕ) where
           stands = λ n. r ∙ h .stands refl;
         }
 
-    quiet : restsBy (e .run .job) ≡ true → Runs (board e false l) → Runs (gathering v ports (board e false l) store .board)
+    quiet : restsBy (e .run .job) ≡ true → Runs (board e false l) → Runs (gathering v ports (board e false l) mem .board)
     quiet r h =
-        let g = quiet-byte ports e l store v (h .fit .short) (λ k. rest-clear (e .run .job) k r) in
-        record { fit = g .fit; axes = gather-axed ports e l store r v; stands = λ n. never (sym (g .standing) ∙ n) }
+        let g = quiet-byte ports e l mem v (h .fit .short) (λ k. rest-clear (e .run .job) k r) in
+        record { fit = g .fit; axes = gather-axed ports e l mem r v; stands = λ n. never (sym (g .standing) ∙ n) }
 
     waited : (c t : ℕ) → e .run .job ≡ job.Wait c t → Runs (board e false l) → Runs (board (heard v e) false l)
     unfolding heard
@@ -117,12 +118,12 @@ module _ (e : Engine) (l : Line) (store : List ℕ) where
           stands = λ p. never p;
         }
 
-    ear-runs : (s : Bool) → Runs (board e s l) → Runs (ordinary (earOf (board e s l)) v ports (board e s l) store .board)
+    ear-runs : (s : Bool) → Runs (board e s l) → Runs (ordinary (earOf (board e s l)) v ports (board e s l) mem .board)
     unfolding earOf
-    ear-runs true h = stood (left (gathering v ports (board e true l) store)) (held-byte e store ports l v (h .fit .short)) h
+    ear-runs true h = stood (left (gathering v ports (board e true l) mem)) (held-byte e mem ports l v (h .fit .short)) h
     ear-runs false h = by (e .run .job) refl
       where
-        by : (j : Job) → e .run .job ≡ j → Runs (ordinary (earBy j) v ports (board e false l) store .board)
+        by : (j : Job) → e .run .job ≡ j → Runs (ordinary (earBy j) v ports (board e false l) mem .board)
         by job.Idle q = quiet (ap restsBy q) h
         by job.Storing q = quiet (ap restsBy q) h
         by (job.Direct m) q = h
@@ -131,22 +132,22 @@ module _ (e : Engine) (l : Line) (store : List ℕ) where
         by (job.Delay n) q = h
         by (job.Wait c t) q = waited c t q h
 
-pub byte-runs : (v : ℕ) (ports : List ℕ) (b : Board) (store : List ℕ) → Runs b → Runs (hearing v ports b store .board)
+pub byte-runs : (v : ℕ) (ports : List ℕ) (b : Board) (mem : Memory) → Runs b → Runs (hearing v ports b mem .board)
 unfolding hearing
-byte-runs v ports b store h =
-    pick-runs (eqb v 253) (stopped b store) _ (stop-runs (b .engine) (b .line) store (b .standing) h)
-    (pick-runs (eqb v 254) (resetSaid b store) _ (reset-runs (b .engine) (b .line) store (b .standing))
-    (pick-runs (eqb v 255) (broken b store) (ordinary (earOf b) v ports b store) (break-runs (b .engine) (b .line) store (b .standing) h)
-    (ear-runs (b .engine) (b .line) store v ports (b .standing) h)))
+byte-runs v ports b mem h =
+    pick-runs (eqb v 253) (stopped b mem) _ (stop-runs (b .engine) (b .line) mem (b .standing) h)
+    (pick-runs (eqb v 254) (resetSaid b mem) _ (reset-runs (b .engine) (b .line) mem (b .standing))
+    (pick-runs (eqb v 255) (broken b mem) (ordinary (earOf b) v ports b mem) (break-runs (b .engine) (b .line) mem (b .standing) h)
+    (ear-runs (b .engine) (b .line) mem v ports (b .standing) h)))
 
 -- ---- a clock call
 
-pub clock-runs : (b : Board) (store : List ℕ) → Runs b → Runs (clocking b store .board)
-clock-runs b store h = record {
-  fit = one (b, store) (call own) (h .fit) tt .1;
-  axes = by-call b store (λ (t : Ticked). Axed (t .board .engine)) (h .axes) (h .axes) (h .axes)
-      (λ s q. tick-axed pulseOf (fetchOf (b .engine .held) store) (b .engine) (h .axes));
-  stands = by-call b store (λ (t : Ticked). t .board .standing ≡ true → rests (t .board) ≡ false) (h .stands) (h .stands) (h .stands)
+pub clock-runs : (b : Board) (mem : Memory) → Runs b → Runs (clocking b mem .board)
+clock-runs b mem h = record {
+  fit = one (b, mem) (call own) (h .fit) tt .1;
+  axes = by-call b mem (λ (t : Ticked). Axed (t .board .engine)) (h .axes) (h .axes) (h .axes)
+      (λ s q. tick-axed pulseOf (fetchOf (b .engine .held) (mem .store)) (b .engine) (h .axes));
+  stands = by-call b mem (λ (t : Ticked). t .board .standing ≡ true → rests (t .board) ≡ false) (h .stands) (h .stands) (h .stands)
       (λ s q p. never (sym q ∙ p));
 }
 

@@ -1,5 +1,5 @@
--- What a byte does to a board, as far as demand 3 needs it: while something stands, every line keeps the engine and the store; and
--- neither the engine nor the store ever depends on the input ports.
+-- What a byte does to a board, as far as demand 3 needs it: while something stands, every line keeps the engine and the memory; and
+-- neither the engine nor the memory ever depends on the input ports.
 use Prim.Native.Nat.{ℕ, _+_}
 use native.Mathlib.Omega.{arith}
 use mathlib.Core.Bool.{Bool, true, false, _&&_}
@@ -16,6 +16,7 @@ use Rattle.engine.specs.declared.Job.{Job}
 use Rattle.engine.specs.declared.Job.the-variants as job
 use Rattle.engine.specs.declared.Engine.{Engine}
 use Rattle.board.specs.declared.Line.{Line}
+use Rattle.record.specs.Memory.{Memory}
 use Rattle.board.specs.declared.Board.{Board}
 use Rattle.board.specs.State.{board, noLine, textOf, gathered, lineDone, Said, said}
 use Rattle.board.specs.Direct.{replyOf, first, effectOf, acceptedSaid, directSaid}
@@ -68,41 +69,41 @@ gathered-short v l h = by (ltb (l .len) 80) refl
     by true p = let q = ltb-true (l .len) 80 p in rw p (le-leb (l .len + 1) 80 (omega arith))
     by false p = rw p h
 
--- what a byte leaves: the board and the store
-abbrev pub left : Said → Board × List ℕ
-left s = (s .board, s .store)
+-- what a byte leaves: the board and the memory
+abbrev pub left : Said → Board × Memory
+left s = (s .board, s .memory)
 
 abbrev pub direct : Letter → ℕ → List ℕ → Direct
 direct x n w = record { letter = x; count = n; words = w }
 
 -- ---- while something stands
 
--- the engine and the store are as they were, and nothing stands only with no line begun
-pub record Held (e : Engine) (st : List ℕ) (q : Board × List ℕ) : Type 0 where
+-- the engine and the memory are as they were, and nothing stands only with no line begun
+pub record Held (e : Engine) (mem : Memory) (q : Board × Memory) : Type 0 where
   pub twin : twinBoard (q .0) ≡ board e false noLine
-  pub store : q .1 ≡ st
+  pub memory : q .1 ≡ mem
   pub fit : Fit (q .0)
 
-module _ (e : Engine) (store : List ℕ) where
-  held-on : (l : Line) → leb (l .len) 80 ≡ true → Held e store (board e true l, store)
-  held-on l h = record { twin = refl; store = refl; fit = record { short = h; clear = tt } }
+module _ (e : Engine) (mem : Memory) where
+  held-on : (l : Line) → leb (l .len) 80 ≡ true → Held e mem (board e true l, mem)
+  held-on l h = record { twin = refl; memory = refl; fit = record { short = h; clear = tt } }
 
-  held-off : Held e store (board e false noLine, store)
-  held-off = record { twin = refl; store = refl; fit = fit-of e false }
+  held-off : Held e mem (board e false noLine, mem)
+  held-off = record { twin = refl; memory = refl; fit = fit-of e false }
 
   module _ (ports : List ℕ) (l : Line) where
     -- P, b and S, accepted or not
-    held-heard : (x : Letter) (n : ℕ) (w : List ℕ) (s : Bool) → Held e store (left (acceptedSaid (effectOf x w ports e true) store)) →
-        Held e store (left (directSaid (direct x n w) ports (board e true l) store))
+    held-heard : (x : Letter) (n : ℕ) (w : List ℕ) (s : Bool) → Held e mem (left (acceptedSaid (effectOf x w ports e true) mem)) →
+        Held e mem (left (directSaid (direct x n w) ports (board e true l) mem))
     unfolding directSaid
     held-heard x n w s h = by (eqb (replyOf e true (direct x n w)) 48)
       where
-        by : (c : Bool) → Held e store (left (pick c (acceptedSaid (effectOf x w ports e true) store) (said (lineDone (board e true l)) (replyOf e true (direct x n w) ∷ []) store)))
+        by : (c : Bool) → Held e mem (left (pick c (acceptedSaid (effectOf x w ports e true) mem) (said (lineDone (board e true l)) (replyOf e true (direct x n w) ∷ []) mem)))
         by true = h
         by false = held-on noLine refl
 
     -- every other line is refused: 5 or W
-    held-direct : (x : Letter) (n : ℕ) (w : List ℕ) → Held e store (left (directSaid (direct x n w) ports (board e true l) store))
+    held-direct : (x : Letter) (n : ℕ) (w : List ℕ) → Held e mem (left (directSaid (direct x n w) ports (board e true l) mem))
     unfolding directSaid replyOf first
     held-direct letter.Wrong n w = held-on noLine refl
     held-direct letter.Axes n w = held-on noLine refl
@@ -118,24 +119,24 @@ module _ (e : Engine) (store : List ℕ) where
     held-direct letter.Empty n w = held-on noLine refl
     held-direct letter.Start n w = held-heard letter.Start n w true held-off
 
-    held-return : Held e store (left (returned ports (board e true l) store))
+    held-return : Held e mem (left (returned ports (board e true l) mem))
     unfolding returned
     held-return = by (l .over) (isStoring (e .run .job))
       where
         d : Direct
         d = directOf (textOf l)
 
-        by : (o c : Bool) → Held e store (left (pick o (said (lineDone (board e true l)) (53 ∷ []) store)
-            (pick (c && false) (storedSaid (storedOf (textOf l)) (board e true l) store) (directSaid d ports (board e true l) store))))
+        by : (o c : Bool) → Held e mem (left (pick o (said (lineDone (board e true l)) (53 ∷ []) mem)
+            (pick (c && false) (storedSaid (storedOf (textOf l)) (board e true l) mem) (directSaid d ports (board e true l) mem))))
         by true true = held-on noLine refl
         by true false = held-on noLine refl
         by false true = held-direct (d .letter) (d .count) (d .words)
         by false false = held-direct (d .letter) (d .count) (d .words)
 
-    pub held-byte : (v : ℕ) → leb (l .len) 80 ≡ true → Held e store (left (gathering v ports (board e true l) store))
+    pub held-byte : (v : ℕ) → leb (l .len) 80 ≡ true → Held e mem (left (gathering v ports (board e true l) mem))
     unfolding gathering
     held-byte v h = by (eqb v 13)
       where
-        by : (c : Bool) → Held e store (left (pick c (returned ports (board e true l) store) (said (board e true (gathered v l)) [] store)))
+        by : (c : Bool) → Held e mem (left (pick c (returned ports (board e true l) mem) (said (board e true (gathered v l)) [] mem)))
         by true = held-return
         by false = held-on (gathered v l) (gathered-short v l h)

@@ -47,7 +47,7 @@ module _ (p : At) (es : List Step) (f : FitAt p) (m : Mildly es) where
   works-by : Along acted Works (twin p) (acts p es)
   works-by = G.all-along (ahead ours) acted keeps actOf twin FitAt Mild one Works works p es f m
 
--- ---- THEOREM 1: the same list of clock answers other than nothing, the same engine and the same store
+-- ---- THEOREM 1: the same list of clock answers other than nothing, the same engine and the same memory
 
 pub record Alike (p : At) (es fs : List Step) : Type 0 where
   pub answers : answers ours p es ≡ answers ours p fs
@@ -58,7 +58,7 @@ same-of p es fs a = record {
   axes = ap (λ (l : List Paper). map unsped l) (a .answers);
   speeds = ap speedsOf (a .answers);
   engine = ap (λ (q : At). final (q .0)) (a .last);
-  store = ap (λ (q : At). q .1) (a .last);
+  memory = ap (λ (q : At). q .1) (a .last);
 }
 
 module _ (p : At) (es fs : List Step) (f : FitAt p) (m : Mildly es) (n : Mildly fs) where

@@ -8,6 +8,7 @@ use borrow.Author.Tests.{le-ltb, lt-ltb, leb-true, eqb-true, eqb-false}
 use lib.Dec.{leb, ltb, eqb}
 use lib.ListN.{length}
 use Rattle.count.proofs.laws.Truth.{and-right, and-false}
+use Rattle.record.specs.Memory.{Memory}
 use Rattle.board.specs.declared.Board.{Board}
 use Rattle.board.specs.Receive.{stopped, hearing}
 use Rattle.promise.specs.Machine.{ours}
@@ -19,27 +20,27 @@ use Rattle.promise.proofs.laws.StopSteps.{byte, tick, At, twin, actOf, 
 
 -- ---- one step, refused or not
 
-heard-stop : (v : ℕ) (ports : List ℕ) (b : Board) (store : List ℕ) → eqb v 253 ≡ true → hearing v ports b store ≡ stopped b store
+heard-stop : (v : ℕ) (ports : List ℕ) (b : Board) (mem : Memory) → eqb v 253 ≡ true → hearing v ports b mem ≡ stopped b mem
 unfolding hearing
-heard-stop v ports b store h = rw h
+heard-stop v ports b mem h = rw h
 
 below : (v : ℕ) → v < 254 → eqb v 253 ≡ false → v < 253
 below v h q = let n = eqb-false v 253 q in omega (arith, n)
 
 byte-free : (v : ℕ) (ports : List ℕ) (p : At) → v < 254 → Fit (p .0) →
     Result (ltb v 253 && takes (p .0)) p (left (hearing v [] (twinBoard (p .0)) (p .1))) (left (hearing v ports (p .0) (p .1)))
-byte-free v ports (b, store) m f = by (eqb v 253) refl
+byte-free v ports (b, mem) m f = by (eqb v 253) refl
   where
     by : (t : Bool) → eqb v 253 ≡ t →
-        Result (ltb v 253 && takes b) (b, store) (left (hearing v [] (twinBoard b) store)) (left (hearing v ports b store))
+        Result (ltb v 253 && takes b) (b, mem) (left (hearing v [] (twinBoard b) mem)) (left (hearing v ports b mem))
     by true q =
-        rw (le-ltb v 253 (let e = eqb-true v 253 q in omega arith), heard-stop v ports b store q)
-        (one-stop (b .engine) (b .line) store (b .standing) (left (hearing v [] (twinBoard b) store)) f)
+        rw (le-ltb v 253 (let e = eqb-true v 253 q in omega arith), heard-stop v ports b mem q)
+        (one-stop (b .engine) (b .line) mem (b .standing) (left (hearing v [] (twinBoard b) mem)) f)
     by false q =
         let h = below v m q in
         let l : v ≤ 252 = omega arith in
-        rw (lt-ltb v 253 h, hear-plain v ports b store l, hear-plain v [] (twinBoard b) store l)
-        (one-ordinary (b .engine) (b .line) store v ports (b .standing) f)
+        rw (lt-ltb v 253 h, hear-plain v ports b mem l, hear-plain v [] (twinBoard b) mem l)
+        (one-ordinary (b .engine) (b .line) mem v ports (b .standing) f)
 
 -- the steps that count: a byte that is taken, a clock call while the board runs, neither refused for what is lent
 abbrev pub keeps : At → Step → Bool
@@ -72,7 +73,7 @@ own-byte v ports reply p true q m f =
     (λ h. awake-and (p .0 .standing) (inWait (p .0) || rests (p .0)) (and-right (ltb v 253) (takes (p .0)) h)) (byte-free v ports p (m refl) f))
 own-byte v ports reply p false q m f = passed p (acted (twin p) (byte v)) (ahead ours p (receive v ports reply own)) f (refused-byte v ports reply own p tt (rw q))
 
-other-byte : (v : ℕ) (ports reply t : List ℕ) (p : At) (r : Bool) → Elsewhere (other t) → Fit (p .0) →
+other-byte : (v : ℕ) (ports reply : List ℕ) (t : Memory) (p : At) (r : Bool) → Elsewhere (other t) → Fit (p .0) →
     Result (r && false && (ltb v 253 && takes (p .0))) p (acted (twin p) (byte v)) (ahead ours p (receive v ports reply (other t)))
 other-byte v ports reply t p r n f = by r
   where

@@ -1,7 +1,6 @@
 -- The same schedule never stopped: a schedule without its stops, all that comes while it stands, dropped bytes, and calls refused for what
 -- is lent is a schedule too, counts the same and never stands (see `StopsCanBeLeftOut` in `Stop.antt`). So every stopped run is the same as
 -- one that is never stopped.
-use Prim.Native.Nat.{ℕ}
 use mathlib.Core.Bool.{Bool, true, false, not, _&&_, _||_, true≢false}
 use mathlib.Core.List.{List, [], _∷_}
 use mathlib.Core.Path.{_≡_, refl, sym, _∙_, ap, subst}
@@ -10,6 +9,7 @@ use lib.Dec.{ltb}
 use lib.ListN.{length}
 use Rattle.count.specs.Pick.{pick}
 use Rattle.count.proofs.laws.Truth.{never, and-left, and-right}
+use Rattle.record.specs.Memory.{Memory}
 use Rattle.board.specs.declared.Board.{Board}
 use Rattle.promise.specs.Machine.{ours}
 use Rattle.promise.proofs.laws.Guard as G
@@ -51,9 +51,9 @@ afterwards p (call own) f m h =
     either true q r h k = h
     either false q r h k = k
 
-    ticks-awake : (b : Board) (store : List ℕ) (s : Bool) → b .standing ≡ s → b .standing ≡ false → ticks (b, store) .0 .standing ≡ false
-    ticks-awake b store true q k = absurd (true≢false (sym q ∙ k))
-    ticks-awake b store false q k = rw q
+    ticks-awake : (b : Board) (mem : Memory) (s : Bool) → b .standing ≡ s → b .standing ≡ false → ticks (b, mem) .0 .standing ≡ false
+    ticks-awake b mem true q k = absurd (true≢false (sym q ∙ k))
+    ticks-awake b mem false q k = rw q
 
 same-twin : (p : At) → p .0 .standing ≡ false → twin p ≡ p
 same-twin p h = λ i. (twin-of (p .0) h i, p .1)

@@ -21,12 +21,12 @@ use Rattle.board.specs.Storing.{recordReply, storedSaid}
 use Rattle.engine.specs.declared.Job.the-variants as job
 use Rattle.engine.specs.Sound.{soundOf}
 use Rattle.board.specs.declared.Board.{Board}
-use Rattle.board.specs.Calls.{receiving, fresh}
+use Rattle.board.specs.Calls.{Lent, lent, receiving, fresh}
 use Rattle.board.specs.Direct.{first, replyOf, directSaid}
 use Rattle.board.specs.Receive.{earOf, returned, gathering, hearing}
 use Rattle.board.specs.State.{gathered, sound}
-use Rattle.course.specs.Walk.{noPorts, noStore}
-use Rattle.promise.specs.Machine.{Machine, Lent, lent, ours, Event, byte, clock, afterAll}
+use Rattle.course.specs.Walk.{noPorts, noMemory}
+use Rattle.promise.specs.Machine.{Machine, ours, Event, byte, clock, afterAll}
 use Rattle.promise.specs.Demands.{idles}
 use Rattle.promise.specs.Steps.{reached}
 use Rattle.promise.specs.Stop.{Step, receive, call, own, Place, lentTo, stoppable, ahead, last, Begun}
@@ -57,26 +57,26 @@ abbrev lines : List Step
 lines = typed (codes "@01\r@0i\r0 3,600\r9\r@0S")
 
 abbrev almost : Place ours
-almost = last ours (fresh, noStore) lines
+almost = last ours (fresh, noMemory) lines
 
 abbrev pub program : Place ours
 program = ahead ours almost (receive 13 noPorts (replicate 32 0) own)
 
 -- it is idle, its return is not refused and has no reply, and then a program of one record runs and may be stopped
 computed : (idles (almost .0) ≡ true)
-    × (receiving 13 noPorts (almost .0) (replicate 32 0) (almost .1) .result .refusal ≡ 0)
-    × (receiving 13 noPorts (almost .0) (replicate 32 0) (almost .1) .result .len ≡ 0)
+    × (receiving 13 noPorts (almost .0) (lent (replicate 32 0) (almost .1)) .result .refusal ≡ 0)
+    × (receiving 13 noPorts (almost .0) (lent (replicate 32 0) (almost .1)) .result .len ≡ 0)
     × (program .0 .engine .run .job ≡ job.Ready) × (program .0 .engine .held .records ≡ 1) × (stoppable (program .0) ≡ true)
 unfolding reached within in24 signed word placed added inSpeed rightCount rightZ2 rightDistances rightSpeeds counted behind letterOf afterAddress directOf codeOf storedOf digitsBehind digitsOf numberOf parted itemsOf numbersOf bytes4 numBytes encode wordAt wordsOf front isCode countRight axesRight loopRight rangesRight speedsRight faultOf hasRoom storeOf recordsFrom recordsOf holds share around crosses early overlaps holders outside strays letter checked checkOf verdictOf soundOf receiving first replyOf directSaid earOf returned gathering hearing gathered sound recordReply storedSaid
 computed = (refl, refl, refl, refl, refl, refl)
 
 pub program-begun : Begun ours program
 program-begun =
-    let es : List Event = eventsOf ours (fresh, noStore) lines in
+    let es : List Event = eventsOf ours (fresh, noMemory) lines in
     let l : Lent = lent (replicate 32 0) (almost .1) in
     subst (λ (b : Board). idles b ≡ true → (ours .hear 13 noPorts l b) .1 .refusal ≡ 0 → (ours .hear 13 noPorts l b) .1 .len ≡ 0 →
-    Begun ours ((ours .hear 13 noPorts l b) .0, (ours .hear 13 noPorts l b) .1 .after .store))
-    (sym (as-events ours (fresh, noStore) lines)) (ours-begins es noPorts l) (computed .0) (computed .1) (computed .2)
+    Begun ours ((ours .hear 13 noPorts l b) .0, (ours .hear 13 noPorts l b) .1 .after .memory))
+    (sym (as-events ours (fresh, noMemory) lines)) (ours-begins es noPorts l) (computed .0) (computed .1) (computed .2)
 
 -- and it is the program that runs, where a stop is allowed
 pub program-runs : (program .0 .engine .run .job ≡ job.Ready) × (program .0 .engine .held .records ≡ 1) × (stoppable (program .0) ≡ true)

@@ -1,28 +1,23 @@
 -- Where a run begins on our machine, and what a stop and `@0S` come to, from a fresh board on after any events (see the end of
 -- `Stop.antt`). Assumes nothing.
-use Prim.Native.Nat.{ℕ}
-use native.Mathlib.Omega.{arith}
 use mathlib.Core.Bool.{Bool, true, false, not, _&&_, _||_, true≢false}
-use mathlib.Core.List.{List}
 use mathlib.Core.Path.{_≡_, refl, sym, _∙_, ap, subst}
-use borrow.Author.Tests.{eqb-true, not-true}
-use lib.Dec.{eqb, ltb}
+use borrow.Author.Tests.{not-true}
 use lib.ListN.{length}
-use Rattle.count.specs.Pick.{pick}
 use Rattle.count.proofs.laws.Truth.{never, and-left, and-right}
 use Rattle.engine.specs.declared.Job.{Job}
 use Rattle.engine.specs.declared.Job.the-variants as job
 use Rattle.engine.specs.Tick.{runsBy, runsOf}
 use Rattle.board.specs.declared.Board.{Board}
 use Rattle.board.specs.State.{board, noLine, sound}
-use Rattle.board.specs.Receive.{hearing}
-use Rattle.board.specs.Calls.{Outcome, refused, answered, receiving, fresh}
+use Rattle.board.specs.Calls.{Outcome, fresh}
 use Rattle.board.proofs.laws.Hears.{sound-engine}
 use Rattle.board.proofs.laws.Laws.{hearing-sound, clocking-sound, store-length}
 use Rattle.course.specs.Run.{runsNow}
 use Rattle.promise.specs.Machine.{ours, byte, next, afterAll}
 use Rattle.promise.specs.Demands.{isIdle, idles, Silent, begun, onward, dropped, taken}
 use Rattle.promise.specs.Stop.{restsBy, inWait, rests, counts, delaysBy, stoppable, LineBegins, StopAndStart}
+use Rattle.promise.proofs.laws.KeepsCalls.{calm-memory}
 use Rattle.promise.proofs.laws.KeepsReturn.{out-so, keeps-silent-return}
 use Rattle.promise.proofs.laws.KeepsOn.{event-kept}
 use Rattle.promise.proofs.laws.StopHolds.{Stood, both}
@@ -53,18 +48,6 @@ under-way b h =
     let j = b .engine .run .job in
     (runs-on j (and-left (runsBy j) (not (b .standing)) h), not-true (b .standing) (and-right (runsBy j) (not (b .standing)) h))
 
--- a byte that is not refused is lent a store of 16,384 bytes
-lent-full : (v : ℕ) (ports : List ℕ) (b : Board) (reply store : List ℕ) → receiving v ports b reply store .result .refusal ≡ 0 → length store ≡ 16384
-unfolding receiving
-lent-full v ports b reply store h = by (ltb (length reply) 32) (eqb (length store) 16384) refl h
-  where
-    by : (x y : Bool) → eqb (length store) 16384 ≡ y →
-        pick x (refused 101 b reply store) (pick (not y) (refused 102 b reply store)
-        (pick (not (sound b)) (refused 103 b reply store) (answered (hearing v ports b store) reply))) .result .refusal ≡ 0 → length store ≡ 16384
-    by x true q h = eqb-true (length store) 16384 q
-    by true false q h = absurd (omega arith)
-    by false false q h = absurd (omega arith)
-
 pub ours-begins : LineBegins ours
 ours-begins es ports l i r n =
     let b : Board = afterAll ours es fresh in
@@ -76,9 +59,9 @@ ours-begins es ports l i r n =
       runs = g .0;
       standing = g .1;
       line = clear-line b′ (h .fit) (g .0) (g .1);
-      store =
-          ap (λ (o : Outcome). length (o .store)) (out-so 13 ports l b r) ∙ store-length 13 ports b (l .store) (always-sound es)
-          ∙ lent-full 13 ports b (l .reply) (l .store) r;
+      memory =
+          ap (λ (o : Outcome). length (o .after .memory .store)) (out-so 13 ports l b r) ∙ store-length 13 ports b (l .memory) (always-sound es)
+          ∙ calm-memory 13 ports b l r;
     }
 
 -- ---- StopAndStart
@@ -94,11 +77,11 @@ counts-facts b h = by (b .standing) (inWait b) (rests b) h
     by false false false h = (refl, refl)
 
 pub ours-stop-and-start : StopAndStart ours
-ours-stop-and-start es store ports reply n r h =
+ours-stop-and-start es mem ports reply n r h =
     let b : Board = afterAll ours es fresh in
     let c = counts-facts b (and-left (counts b) (not (delaysBy (b .engine .run .job))) h) in
     let k = all-runs es in
     let l : b .line ≡ noLine = clear-line b (k .fit) (c .1) (c .0) in
     let q : b ≡ board (b .engine) false noLine = λ i. board (b .engine) (c .0 i) (l i) in
-    subst (λ (d : Board). Stood d ports reply store) (sym q)
-    (both ports reply (b .engine) store r n (sound-engine b (always-sound es)) (subst (λ (d : Board). stoppable d ≡ true) q h) (k .axes (c .1)))
+    subst (λ (d : Board). Stood d ports reply mem) (sym q)
+    (both ports reply (b .engine) mem r n (sound-engine b (always-sound es)) (subst (λ (d : Board). stoppable d ≡ true) q h) (k .axes (c .1)))

@@ -3,13 +3,14 @@ use Prim.Native.Nat.{ℕ, _≤_}
 use mathlib.Core.Bool.{Bool, true, false, not, _&&_, _||_, true≢false}
 use mathlib.Core.List.{List, [], _∷_}
 use mathlib.Core.Path.{_≡_, refl, sym, _∙_, ap, subst}
-use borrow.Author.Tests.{le-ltb, lt-ltb, leb-false, ne-eqb}
-use lib.Dec.{leb, ltb, eqb}
+use borrow.Author.Tests.{le-ltb, lt-ltb, leb-false}
+use lib.Dec.{leb}
 use lib.ListN.{length}
 use Rattle.count.specs.Pick.{pick}
 use Rattle.count.specs.Paper.{Paper}
 use Rattle.count.proofs.laws.Truth.{and-true}
 use Rattle.motion.specs.Next.{pulseOf}
+use Rattle.record.specs.Memory.{Memory}
 use Rattle.record.specs.Places.{fetchOf}
 use Rattle.engine.specs.declared.Answer.the-variants as answer
 use Rattle.engine.specs.declared.Engine.{Engine}
@@ -21,12 +22,14 @@ use Rattle.engine.specs.Tick.{ticked, tickedBy}
 use Rattle.engine.specs.Sound.{soundOf}
 use Rattle.board.specs.declared.Line.{Line}
 use Rattle.board.specs.declared.Board.{Board}
+use Rattle.board.specs.declared.Ticked.{Ticked}
 use Rattle.board.specs.State.{board, noLine, sound, said}
 use Rattle.board.specs.Receive.{earBy, earOf, holdsBy, stopped, ordinary, hearing, gathering}
-use Rattle.board.specs.Calls.{Outcome, refused, answered, receiving, clocked, wentOn, clocking}
+use Rattle.board.specs.Calls.{lent, Outcome, refused, answered, receiving, clocked, wentOn, clocking}
 use Rattle.promise.specs.Machine.{ours}
 use Rattle.promise.specs.Demands.{isWaiting}
 use Rattle.promise.specs.Stop.{Step, receive, call, Lending, own, other, Elsewhere, rightly, restsBy, counts, takes, spoken, ahead, answerOf}
+use Rattle.promise.proofs.laws.KeepsCalls.{isRight, elsewhere-byte, elsewhere-call}
 use Rattle.promise.proofs.laws.StopBoard.{twinBoard, Clear, Fit, clear-of, left, held-byte}
 use Rattle.promise.proofs.laws.StopQuiet.{twin-of, quiet-byte}
 
@@ -37,7 +40,7 @@ pub data Act : Type 0 where
   tick : Act
 
 abbrev pub At : Type 0
-At = Board × List ℕ
+At = Board × Memory
 
 abbrev pub twin : At → At
 twin p = (twinBoard (p .0), p .1)
@@ -46,12 +49,12 @@ abbrev pub actOf : Step → Act
 actOf (receive v ports reply d) = byte v
 actOf (call d) = tick
 
--- a call is refused or not by the engine and the store alone, where no line is over 80 bytes
-abbrev pub right : Engine → List ℕ → Bool
-right e store = eqb (length store) 16384 && soundOf e
+-- a call is refused or not by the engine and the memory alone, where no line is over 80 bytes
+abbrev pub right : Engine → Memory → Bool
+right e mem = isRight mem && soundOf e
 
-abbrev pub toldOf : Board → List ℕ → Told
-toldOf b store = ticked pulseOf (fetchOf (b .engine .held) store) (b .engine)
+abbrev pub toldOf : Board → Memory → Told
+toldOf b mem = ticked pulseOf (fetchOf (b .engine .held) (mem .store)) (b .engine)
 
 abbrev pub ticks : At → At
 ticks p = (pick (p .0 .standing) (p .0) (board (toldOf (p .0) (p .1) .engine) (p .0 .standing) (p .0 .line)), p .1)
@@ -70,15 +73,15 @@ actAnswer p tick = pick (right (p .0 .engine) (p .1)) (tells p) []
 -- ---- our machine's steps in these words
 
 abbrev after : Outcome → At
-after o = (o .result .board, o .store)
+after o = (o .result .board, o .after .memory)
 
 pub our-byte : (v : ℕ) (ports reply : List ℕ) (p : At) → leb (p .0 .line .len) 80 ≡ true → 32 ≤ length reply →
     ahead ours p (receive v ports reply own) ≡ pick (right (p .0 .engine) (p .1)) (left (hearing v ports (p .0) (p .1))) p
 unfolding receiving sound
-our-byte v ports reply (b, store) h n = rw (le-ltb (length reply) 32 n, h) (by (eqb (length store) 16384) (soundOf (b .engine)))
+our-byte v ports reply (b, mem) h n = rw (le-ltb (length reply) 32 n, h) (by (isRight mem) (soundOf (b .engine)))
   where
-    by : (g s : Bool) → after (pick (not g) (refused 102 b reply store) (pick (not (s && true)) (refused 103 b reply store) (answered (hearing v ports b store) reply)))
-        ≡ pick (g && s) (left (hearing v ports b store)) (b, store)
+    by : (g s : Bool) → after (pick (not g) (refused 102 b (lent reply mem)) (pick (not (s && true)) (refused 103 b (lent reply mem)) (answered (hearing v ports b mem) reply)))
+        ≡ pick (g && s) (left (hearing v ports b mem)) (b, mem)
     by true true = refl
     by true false = refl
     by false s = refl
@@ -86,14 +89,14 @@ our-byte v ports reply (b, store) h n = rw (le-ltb (length reply) 32 n, h) (by (
 pub our-tick : (p : At) → leb (p .0 .line .len) 80 ≡ true →
     ahead ours p (call own) ≡ pick (right (p .0 .engine) (p .1)) (ticks p) p
 unfolding clocking sound
-our-tick (b, store) h = rw h (by (eqb (length store) 16384) (soundOf (b .engine)) (b .standing))
+our-tick (b, mem) h = rw h (by (isRight mem) (soundOf (b .engine)) (b .standing))
   where
     by : (g s t : Bool) → _≡_ {A = At} (
       pick (not g) (clocked 102 b answer.Nothing)
-          (pick (not (s && true)) (clocked 103 b answer.Nothing) (pick t (clocked 0 b answer.Nothing) (wentOn b (toldOf b store)))) .board,
-      store,
+          (pick (not (s && true)) (clocked 103 b answer.Nothing) (pick t (clocked 0 b answer.Nothing) (wentOn b (toldOf b mem)))) .board,
+      mem,
     )
-        (pick (g && s) (pick t b (board (toldOf b store .engine) (b .standing) (b .line)), store) (b, store))
+        (pick (g && s) (pick t b (board (toldOf b mem .engine) (b .standing) (b .line)), mem) (b, mem))
     by true true true = refl
     by true true false = refl
     by true false t = refl
@@ -102,11 +105,11 @@ our-tick (b, store) h = rw h (by (eqb (length store) 16384) (soundOf (b .engine)
 pub our-answer : (p : At) → leb (p .0 .line .len) 80 ≡ true →
     answerOf ours p (call own) ≡ pick (right (p .0 .engine) (p .1)) (tells p) []
 unfolding clocking sound
-our-answer (b, store) h = rw h (by (eqb (length store) 16384) (soundOf (b .engine)) (b .standing))
+our-answer (b, mem) h = rw h (by (isRight mem) (soundOf (b .engine)) (b .standing))
   where
     by : (g s t : Bool) → spoken (paper (pick (not g) (clocked 102 b answer.Nothing)
-        (pick (not (s && true)) (clocked 103 b answer.Nothing) (pick t (clocked 0 b answer.Nothing) (wentOn b (toldOf b store)))) .answer))
-        ≡ pick (g && s) (spoken (paper (pick t answer.Nothing (toldOf b store .answer)))) []
+        (pick (not (s && true)) (clocked 103 b answer.Nothing) (pick t (clocked 0 b answer.Nothing) (wentOn b (toldOf b mem)))) .answer))
+        ≡ pick (g && s) (spoken (paper (pick t answer.Nothing (toldOf b mem .answer)))) []
     by true true true = refl
     by true true false = refl
     by true false t = refl
@@ -117,26 +120,22 @@ our-answer (b, store) h = rw h (by (eqb (length store) 16384) (soundOf (b .engin
 -- with a reply buffer that is too short
 short-byte : (v : ℕ) (ports reply : List ℕ) (d : Lending) (p : At) → leb 32 (length reply) ≡ false → ahead ours p (receive v ports reply d) ≡ p
 unfolding receiving
-short-byte v ports reply own (b, store) h = rw (lt-ltb (length reply) 32 (leb-false 32 (length reply) h))
-short-byte v ports reply (other t) (b, store) h = rw (lt-ltb (length reply) 32 (leb-false 32 (length reply) h))
+short-byte v ports reply own (b, mem) h = rw (lt-ltb (length reply) 32 (leb-false 32 (length reply) h))
+short-byte v ports reply (other t) (b, mem) h = rw (lt-ltb (length reply) 32 (leb-false 32 (length reply) h))
 
--- with another slice than the one store
-other-byte : (v : ℕ) (ports reply t : List ℕ) (p : At) → Elsewhere (other t) → ahead ours p (receive v ports reply (other t)) ≡ p
-unfolding receiving
-other-byte v ports reply t (b, store) n = rw (ne-eqb (length t) 16384 n) (by (ltb (length reply) 32))
-  where
-    by : (g : Bool) → _≡_ {A = At} (pick g (refused 101 b reply t) (refused 102 b reply t) .result .board, store) (b, store)
-    by true = refl
-    by false = refl
+-- with another than the one memory
+other-byte : (v : ℕ) (ports reply : List ℕ) (t : Memory) (p : At) → Elsewhere (other t) → ahead ours p (receive v ports reply (other t)) ≡ p
+other-byte v ports reply t (b, mem) n = λ i. (elsewhere-byte v ports b (lent reply t) n i, mem)
 
 pub refused-byte : (v : ℕ) (ports reply : List ℕ) (d : Lending) (p : At) → Elsewhere d → rightly (receive v ports reply d) ≡ false →
     ahead ours p (receive v ports reply d) ≡ p
 refused-byte v ports reply own p n h = short-byte v ports reply own p (sym (and-true (leb 32 (length reply))) ∙ h)
 refused-byte v ports reply (other t) p n h = other-byte v ports reply t p n
 
-pub refused-tick : (t : List ℕ) (p : At) → Elsewhere (other t) → (ahead ours p (call (other t)) ≡ p) × (answerOf ours p (call (other t)) ≡ [])
-unfolding clocking
-refused-tick t (b, store) n = (rw (ne-eqb (length t) 16384 n), rw (ne-eqb (length t) 16384 n))
+pub refused-tick : (t : Memory) (p : At) → Elsewhere (other t) → (ahead ours p (call (other t)) ≡ p) × (answerOf ours p (call (other t)) ≡ [])
+refused-tick t (b, mem) n =
+    let k = elsewhere-call b t n in
+    (ap (λ (x : Ticked). (x .board, mem)) k, ap (λ (x : Ticked). spoken (paper (x .answer))) k)
 
 -- ---- one step: kept, the twin makes it too; left out, the twin stays
 
@@ -150,21 +149,21 @@ guarded true k p u q f s h = h
 guarded false true p u q f s h = (refl, f, s refl)
 guarded false false p u q f s h = (refl, f)
 
-module _ (e : Engine) (l : Line) (store : List ℕ) where
+module _ (e : Engine) (l : Line) (mem : Memory) where
   abbrev at : Bool → At
-  at s = (board e s l, store)
+  at s = (board e s l, mem)
 
   -- a stop
   stop-standing : (c : Bool) (u : At) → Fit (board e true l) →
-      Result false (at true) u (left (pick (c && false) (said (board e true l) (70 ∷ []) store) (said (board e true l) [] store)))
+      Result false (at true) u (left (pick (c && false) (said (board e true l) (70 ∷ []) mem) (said (board e true l) [] mem)))
   stop-standing true u f = (refl, f)
   stop-standing false u f = (refl, f)
 
-  holds : (u : At) → Fit (board e false l) → l ≡ noLine → Result false (at false) u (board e true l, store)
-  holds u f h = (ap (λ (k : Line). (board e false k, store)) h, record { short = f .short; clear = tt })
+  holds : (u : At) → Fit (board e false l) → l ≡ noLine → Result false (at false) u (board e true l, mem)
+  holds u f h = (ap (λ (k : Line). (board e false k, mem)) h, record { short = f .short; clear = tt })
 
   stop-running : (j : Job) (u : At) → Fit (board e false l) → Clear j l →
-      Result false (at false) u (left (pick (holdsBy j && true) (said (board e true l) (70 ∷ []) store) (said (board e false l) [] store)))
+      Result false (at false) u (left (pick (holdsBy j && true) (said (board e true l) (70 ∷ []) mem) (said (board e false l) [] mem)))
   stop-running job.Idle u f c = (refl, f)
   stop-running job.Storing u f c = (refl, f)
   stop-running (job.Direct m) u f c = holds u f c
@@ -173,7 +172,7 @@ module _ (e : Engine) (l : Line) (store : List ℕ) where
   stop-running (job.Delay q) u f c = (refl, f)
   stop-running (job.Wait v t) u f c = (refl, f)
 
-  pub one-stop : (s : Bool) (u : At) → Fit (board e s l) → Result false (at s) u (left (stopped (board e s l) store))
+  pub one-stop : (s : Bool) (u : At) → Fit (board e s l) → Result false (at s) u (left (stopped (board e s l) mem))
   unfolding stopped
   one-stop true u f = stop-standing (holdsBy (e .run .job)) u f
   one-stop false u f = stop-running (e .run .job) u f (f .clear)
@@ -181,14 +180,14 @@ module _ (e : Engine) (l : Line) (store : List ℕ) where
   -- an ordinary byte
   module _ (v : ℕ) (ports : List ℕ) where
     ordinary-quiet : Fit (board e false l) → ((k : Line) → Clear (e .run .job) k) →
-        Result true (at false) (left (gathering v [] (board e false l) store)) (left (gathering v ports (board e false l) store))
+        Result true (at false) (left (gathering v [] (board e false l) mem)) (left (gathering v ports (board e false l) mem))
     ordinary-quiet f free =
-        let h = quiet-byte ports e l store v (f .short) free in
-        (h .deaf ∙ (λ i. (sym (twin-of (gathering v ports (board e false l) store .board) (h .standing)) i, gathering v ports (board e false l) store .store)), h .fit, h .standing)
+        let h = quiet-byte ports e l mem v (f .short) free in
+        (h .deaf ∙ (λ i. (sym (twin-of (gathering v ports (board e false l) mem .board) (h .standing)) i, gathering v ports (board e false l) mem .memory)), h .fit, h .standing)
 
     ordinary-at : (j : Job) → e .run .job ≡ j → Fit (board e false l) → Clear j l →
-        Result (isWaiting j || restsBy j) (at false) (left (ordinary (earBy j) v [] (board e false l) store))
-        (left (ordinary (earBy j) v ports (board e false l) store))
+        Result (isWaiting j || restsBy j) (at false) (left (ordinary (earBy j) v [] (board e false l) mem))
+        (left (ordinary (earBy j) v ports (board e false l) mem))
     ordinary-at job.Idle q f c = ordinary-quiet f (λ k. subst (λ (i : Job). Clear i k) (sym q) tt)
     ordinary-at job.Storing q f c = ordinary-quiet f (λ k. subst (λ (i : Job). Clear i k) (sym q) tt)
     ordinary-at (job.Direct m) q f c = (refl, f)
@@ -198,26 +197,26 @@ module _ (e : Engine) (l : Line) (store : List ℕ) where
     ordinary-at (job.Wait w t) q f c = (refl, record { short = f .short; clear = clear-of (heard v e .run .job) c }, refl)
 
     pub one-ordinary : (s : Bool) → Fit (board e s l) →
-        Result (takes (board e s l)) (at s) (left (ordinary (earOf (twinBoard (board e s l))) v [] (twinBoard (board e s l)) store))
-        (left (ordinary (earOf (board e s l)) v ports (board e s l) store))
+        Result (takes (board e s l)) (at s) (left (ordinary (earOf (twinBoard (board e s l))) v [] (twinBoard (board e s l)) mem))
+        (left (ordinary (earOf (board e s l)) v ports (board e s l) mem))
     unfolding earOf
-    one-ordinary true f = let h = held-byte e store ports l v (f .short) in ((λ i. (sym (h .twin) i, sym (h .store) i)), h .fit)
+    one-ordinary true f = let h = held-byte e mem ports l v (f .short) in ((λ i. (sym (h .twin) i, sym (h .memory) i)), h .fit)
     one-ordinary false f = ordinary-at (e .run .job) refl f (f .clear)
 
   -- a clock call
-  goes : (t : Told) → Fit (board e false l) → l ≡ noLine → Result true (at false) (board (t .engine) false l, store) (board (t .engine) false l, store)
+  goes : (t : Told) → Fit (board e false l) → l ≡ noLine → Result true (at false) (board (t .engine) false l, mem) (board (t .engine) false l, mem)
   goes t f c = (refl, record { short = f .short; clear = clear-of (t .engine .run .job) c }, refl)
 
   tick-at : (j : Job) → Fit (board e false l) → Clear j l →
       Result (not (isWaiting j || restsBy j)) (at false)
-      (board (tickedBy pulseOf (fetchOf (e .held) store) j e .engine) false l, store)
-      (board (tickedBy pulseOf (fetchOf (e .held) store) j e .engine) false l, store)
+      (board (tickedBy pulseOf (fetchOf (e .held) (mem .store)) j e .engine) false l, mem)
+      (board (tickedBy pulseOf (fetchOf (e .held) (mem .store)) j e .engine) false l, mem)
   tick-at job.Idle f c = (refl, f)
   tick-at job.Storing f c = (refl, f)
-  tick-at (job.Direct m) f c = goes (tickedBy pulseOf (fetchOf (e .held) store) (job.Direct m) e) f c
-  tick-at job.Ready f c = goes (tickedBy pulseOf (fetchOf (e .held) store) job.Ready e) f c
-  tick-at (job.Moving m) f c = goes (tickedBy pulseOf (fetchOf (e .held) store) (job.Moving m) e) f c
-  tick-at (job.Delay q) f c = goes (tickedBy pulseOf (fetchOf (e .held) store) (job.Delay q) e) f c
+  tick-at (job.Direct m) f c = goes (tickedBy pulseOf (fetchOf (e .held) (mem .store)) (job.Direct m) e) f c
+  tick-at job.Ready f c = goes (tickedBy pulseOf (fetchOf (e .held) (mem .store)) job.Ready e) f c
+  tick-at (job.Moving m) f c = goes (tickedBy pulseOf (fetchOf (e .held) (mem .store)) (job.Moving m) e) f c
+  tick-at (job.Delay q) f c = goes (tickedBy pulseOf (fetchOf (e .held) (mem .store)) (job.Delay q) e) f c
   tick-at (job.Wait v t) f c = (refl, f)
 
   pub one-tick : (s : Bool) → Fit (board e s l) → Result (counts (board e s l)) (at s) (ticks (twin (at s))) (ticks (at s))
@@ -225,7 +224,7 @@ module _ (e : Engine) (l : Line) (store : List ℕ) where
   one-tick true f = (refl, f)
   one-tick false f = tick-at (e .run .job) f (f .clear)
 
-  quiet-answer : (j : Job) → not (isWaiting j || restsBy j) ≡ false → spoken (paper (tickedBy pulseOf (fetchOf (e .held) store) j e .answer)) ≡ []
+  quiet-answer : (j : Job) → not (isWaiting j || restsBy j) ≡ false → spoken (paper (tickedBy pulseOf (fetchOf (e .held) (mem .store)) j e .answer)) ≡ []
   quiet-answer job.Idle h = refl
   quiet-answer job.Storing h = refl
   quiet-answer (job.Direct m) h = absurd (true≢false h)

@@ -32,7 +32,7 @@ module _ (m : Machine) (p : Place m) (es fs : List Step) where
     origins = ap (λ (e : Engine). e .origin) (s .engine);
     outputs = ap (λ (e : Engine). e .output) (s .engine);
     held = ap (λ (e : Engine). e .held) (s .engine);
-    store = s .store;
+    memory = s .memory;
   }
 
   pub agrees : Begins m p es fs → Agrees m p es fs

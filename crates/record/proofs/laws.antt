@@ -2,6 +2,9 @@ pub mod Walk
 pub mod Below
 pub mod Right
 pub mod Stored
+pub mod Tables
+pub mod Entries
+pub mod Fills
 pub mod Faultless
 pub mod Rows
 pub mod Shapes

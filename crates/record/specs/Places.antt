@@ -1,11 +1,11 @@
 -- Places and the part in use (01, "Store"; "Running a program", sentence 1): records lie end to end and count from 0; the end place is
--- their count and is never read. A place is found by walking from the front, and every record passed is right; nothing is found by
--- searching for a mark.
+-- their count and is never read. A whole store is read, and the table made true, by walking from the front, where every record passed is
+-- right; nothing is found by searching for a mark. How a run finds its next record is said in `Table.antt`.
 use Prim.Native.Nat.{ℕ, zero, suc, _+_}
 use mathlib.Core.List.{List, [], _∷_, _++_}
 use mathlib.Core.Bool.{Bool, true, false}
 use lib.ListN.{take, drop}
-use lib.Dec.{ltb, leb}
+use lib.Dec.{ltb}
 use Rattle.count.specs.Chars.{ch}
 use Rattle.count.specs.Pick.{pick}
 use Rattle.count.specs.Paper.{Paper, says}
@@ -28,7 +28,7 @@ inUse h s = take (h .used) s
 unfoldable pub recordAt : Held → List ℕ → ℕ → Fetch
 recordAt h s at = front (h .axes) (drop at (inUse h s))
 
--- ---- the byte where a place starts
+-- ---- the walk from the front
 
 abbrev pub past : Fetch → (ℕ → Spot) → Spot
 past (Got r) f = f (lengthOf r)
@@ -40,20 +40,9 @@ unfoldable pub spotFrom : ℕ → ℕ → List ℕ → ℕ → Spot
 spotFrom axes zero s at = spot.At at
 spotFrom axes (suc k) s at = past (front axes (drop at s)) (λ n. spotFrom axes k s (at + n))
 
-unfoldable pub spotOf : Held → List ℕ → ℕ → Spot
-spotOf h s place =
-    pick (ltb (h .records) place) spot.Wrong
-    (pick (leb (h .records) place) spot.End (spotFrom (h .axes) place (inUse h s) 0))
-
--- ---- the record at a place
-
-abbrev pub recordFrom : Spot → Held → List ℕ → Fetch
-recordFrom (spot.At at) h s = recordAt h s at
-recordFrom spot.End h s = End
-recordFrom spot.Wrong h s = Wrong
-
-unfoldable pub fetchOf : Held → List ℕ → ℕ → Fetch
-fetchOf h s place = recordFrom (spotOf h s place) h s
+-- the byte where a place starts: past every record before it; the end place starts behind the last record
+unfoldable pub walkTo : Held → List ℕ → ℕ → Spot
+walkTo h s place = pick (ltb (h .records) place) spot.Wrong (spotFrom (h .axes) place (inUse h s) 0)
 
 -- as the code answers it: an enum beside the record and its bytes, both 0 unless it is right
 abbrev pub none : Found → Fetched
@@ -99,7 +88,7 @@ unfoldable pub encodeAll : List Record → List ℕ
 encodeAll [] = []
 encodeAll (r ∷ l) = encode r ++ encodeAll l
 
--- ---- on paper: what cannot be reached and read is G; the end place sends 0; a record or a byte is its own number
+-- ---- on paper: what cannot be found and read is G; the end place sends 0; a record or a byte is its own number
 
 abbrev pub foundPaper : Found → Paper
 foundPaper found.Right = says 4 []
@@ -108,5 +97,4 @@ foundPaper found.Wrong = says (ch "G") []
 
 abbrev pub spotPaper : Spot → Paper
 spotPaper (spot.At at) = says 4 (pos at ∷ [])
-spotPaper spot.End = says (ch "0") []
 spotPaper spot.Wrong = says (ch "G") []

@@ -1,8 +1,9 @@
-// Storing a record: its bytes written at the end of the part in use.
+// Storing a record: its bytes written at the end of the part in use, its start into the table.
 ghost use mathlib.Core.Path.{_≡_};
 ghost use mathlib.Core.List.{_++_};
 ghost use Prim.Native.Nat.{min, _+_, _*_, _≤_};
 ghost use lib.ListN.{length, take, drop};
+ghost use Rattle.record.specs.Memory.{memory};
 ghost use Rattle.record.specs.Bytes.{bytes4, numBytes};
 ghost use Rattle.record.specs.Keep.{storing, hasRoom, storeOf};
 ghost use Rattle.record.specs.work.Put.{headBytes};
@@ -64,21 +65,22 @@ pub(crate) fn few(count: u8) -> usize
     8
 }
 
-fn has_room(held: Held, n: usize, size: usize) -> bool
+fn has_room(held: Held, n: usize, size: usize, entries: usize) -> bool
     requires { ⌜ n ≤ 36 ⌝ }
-    ensures { λ r. ⌜ r ≡ hasRoom held n size ⌝ }
+    ensures { λ r. ⌜ r ≡ hasRoom held n size entries ⌝ }
 {
     let end = (held.used as usize) + n;
-    ((held.records as usize) + 1 <= 1000) & (end <= 16384) & (end <= size)
+    let records = (held.records as usize) + 1;
+    (records <= 1000) & (end <= 16384) & (end <= size) & (records <= entries)
 }
 
 // A record stored at the end of the part in use, where there is room for it.
-pub fn store_record(store: &mut [u8], held: Held, item: Record) -> Kept
-    ensures { λ r. ⌜ storing r (now (store .exit)) ≡ storeOf held item (now (store .entry)) ⌝ }
+pub fn store_record(store: &mut [u8], table: &mut [u16], held: Held, item: Record) -> Kept
+    ensures { λ r. ⌜ storing r (memory (now (store .exit)) (now (table .exit))) ≡ storeOf held item (memory (now (store .entry)) (now (table .entry))) ⌝ }
 {
     let n = few(item.count);
     let len = 4 + 4 * n;
-    if !has_room(held, len, store.len()) {
+    if !has_room(held, len, store.len(), table.len()) {
         return Kept {
             stored: false,
             held,
@@ -87,6 +89,7 @@ pub fn store_record(store: &mut [u8], held: Held, item: Record) -> Kept
     let at = held.used as usize;
     let words = item.words;
     put_record(store, at, item.code, n, words);
+    table[held.records as usize] = held.used;
     let longer = Held {
         used: (at + len) as u16,
         records: held.records + 1,

@@ -1,18 +1,20 @@
-// Records of the store: what is wrong with one, its bytes, its place, storing it, listing it.
+// Records of the store: what is wrong with one, its bytes, its place, the table of the places, storing it, listing it.
 
 mod bytes;
 mod fault;
 mod keep;
 mod listing;
 mod places;
+mod table;
 
 pub use bytes::record_at;
 pub use fault::record_fault;
 pub use keep::store_record;
 pub use listing::list;
-pub use places::fetch;
-pub use places::find;
 pub use places::readable;
+pub use table::fetch;
+pub use table::fill;
+pub use table::find;
 
 // The store's part in use: its bytes, its records and the axes that it was written under.
 pub struct Held {
@@ -41,10 +43,9 @@ pub struct Fetched {
     pub len: u16,
 }
 
-// The byte where a place starts.
+// The byte where a place starts, or that none is known.
 pub enum Spot {
     At(u16),
-    End,
     Wrong,
 }
 

@@ -7,13 +7,14 @@ use borrow.Author.Tests.{leb-true}
 use lib.Dec.{leb}
 use native.Mathlib.Numerals.{add-one}
 use native.Mathlib.Omega.{arith}
-use lib.ListN.{length, getD, take, drop, length-append, length-take}
+use lib.ListN.{length, getD, take, drop, set, length-append, length-take}
 use borrow.Rule.Slice.PartMut.{putMid}
 use lib.Seq.{length-take-le, take-suc, take-at, drop-at, drop-drop}
 use Rattle.count.proofs.laws.Lists.{rest, to-end}
 use Rattle.count.proofs.laws.Truth.{and-parts}
 use Rattle.record.specs.declared.Held.{Held}
 use Rattle.record.specs.declared.Record.{Record}
+use Rattle.record.specs.Memory.{Memory, memory}
 use Rattle.record.specs.Bytes.{bytes4, numBytes, numbersOf, encode}
 use Rattle.record.specs.Keep.{storing, longer, hasRoom, storeOf}
 use Rattle.record.proofs.laws.Work.{take-short}
@@ -59,12 +60,14 @@ record-put buf h n at code count v room eh b eb en =
 
 -- ---- storing, as the code goes
 
-pub room-so : (h : Held) (n size : ℕ) → hasRoom h n size ≡ true → (h .records + 1 ≤ 1000) × (h .used + n ≤ 16384) × (h .used + n ≤ size)
+pub room-so : (h : Held) (n size entries : ℕ) → hasRoom h n size entries ≡ true
+    → (h .records + 1 ≤ 1000) × (h .used + n ≤ 16384) × (h .used + n ≤ size) × (h .records + 1 ≤ entries)
 unfolding hasRoom
-room-so h n size e =
-    let p = and-parts (leb (h .records + 1) 1000 && leb (h .used + n) 16384) (leb (h .used + n) size) e in
+room-so h n size entries e =
+    let o = and-parts (leb (h .records + 1) 1000 && leb (h .used + n) 16384 && leb (h .used + n) size) (leb (h .records + 1) entries) e in
+    let p = and-parts (leb (h .records + 1) 1000 && leb (h .used + n) 16384) (leb (h .used + n) size) (o .0) in
     let q = and-parts (leb (h .records + 1) 1000) (leb (h .used + n) 16384) (p .0) in
-    (leb-true (h .records + 1) 1000 (q .0), leb-true (h .used + n) 16384 (q .1), leb-true (h .used + n) size (p .1))
+    (leb-true (h .records + 1) 1000 (q .0), leb-true (h .used + n) 16384 (q .1), leb-true (h .used + n) size (p .1), leb-true (h .records + 1) entries (o .1))
 
 module _ (r : Record) {n : ℕ} (long : length (r .words) ≡ 8) (e : n ≡ min (r .count) 8) where
   count-as : length (numbersOf r) ≡ n
@@ -83,13 +86,13 @@ module _ (r : Record) {n : ℕ} (long : length (r .words) ≡ 8) (e : n ≡ min 
       let l : length (numBytes (numbersOf r)) ≡ 4 * n = length-numBytes (numbersOf r) ∙ ap (λ (k : ℕ). 4 * k) count-as in
       omega arith
 
-  module _ (h : Held) (s : List ℕ) where
-    pub kept-not : hasRoom h (4 + 4 * n) (length s) ≡ false → storing (record { stored = false; held = h }) s ≡ storeOf h r s
+  module _ (h : Held) (m : Memory) where
+    pub kept-not : hasRoom h (4 + 4 * n) (length (m .store)) (length (m .table)) ≡ false → storing (record { stored = false; held = h }) m ≡ storeOf h r m
     unfolding storeOf
     kept-not p = rw (encode-long, p)
 
-    pub kept-so : hasRoom h (4 + 4 * n) (length s) ≡ true
-        → {t : List ℕ} → t ≡ take (h .used) s ++ (headBytes (r .code) n ++ numBytes (take n (r .words))) ++ drop (h .used + (4 + 4 * n)) s
-        → storing (record { stored = true; held = longer h (4 + 4 * n) }) t ≡ storeOf h r s
+    pub kept-so : hasRoom h (4 + 4 * n) (length (m .store)) (length (m .table)) ≡ true
+        → {t : List ℕ} → t ≡ take (h .used) (m .store) ++ (headBytes (r .code) n ++ numBytes (take n (r .words))) ++ drop (h .used + (4 + 4 * n)) (m .store)
+        → storing (record { stored = true; held = longer h (4 + 4 * n) }) (memory t (set (m .table) (h .records) (h .used))) ≡ storeOf h r m
     unfolding storeOf
     kept-so p q = rw (encode-long, p, encode-as, q)

@@ -5,7 +5,7 @@ use mathlib.Core.List.{List, [], _∷_}
 use mathlib.Core.Bool.{Bool, true, false, _&&_}
 use native.Mathlib.Numerals.{sub-one}
 use native.Mathlib.Omega.{arith}
-use borrow.Author.Tests.{le-ltb, lt-leb, leb-true, eqb-true, eq-eqb, ne-eqb}
+use borrow.Author.Tests.{leb-true, eqb-true, eq-eqb, ne-eqb}
 use lib.Dec.{ltb, leb, eqb}
 use lib.ListN.{length, getD, take, drop, length-drop}
 use lib.Seq.{drop-drop, length-take-le}
@@ -18,7 +18,7 @@ use Rattle.record.specs.declared.Fetched.{Fetched}
 use Rattle.record.specs.declared.Spot.{Spot}
 use Rattle.record.specs.declared.Spot.the-variants as spot
 use Rattle.record.specs.Bytes.{Fetch, Got, End, Wrong, wordsOf, made, lengthOf, isRight, front}
-use Rattle.record.specs.Places.{inUse, answered, past, spotFrom, spotOf, Records, are, none-are, onto, then, recordsFrom, recordsOf, isList, readableOf}
+use Rattle.record.specs.Places.{inUse, answered, past, spotFrom, Records, are, none-are, onto, then, recordsFrom, recordsOf, isList, readableOf}
 use Rattle.record.proofs.laws.Work.{length-words, part-within, part-all}
 
 -- ---- a record found
@@ -107,7 +107,6 @@ module _ (axes left : ℕ) (s : List ℕ) (at : ℕ) {f : Fetched} (e : f ≡ an
 
 abbrev pub endsAt : ℕ → Spot → Bool
 endsAt n (spot.At at) = eqb at n
-endsAt n spot.End = false
 endsAt n spot.Wrong = false
 
 none-left : (axes : ℕ) (l : List ℕ) (n at : ℕ) → length l ≡ n - at → at ≤ n → isList (recordsFrom axes 0 l) ≡ eqb at n
@@ -141,11 +140,6 @@ module _ (h : Held) (s : List ℕ) {e : ℕ} (p : e ≡ length (inUse h s)) wher
       let w = part-within (h .used) s p in
       let l : length (take e s) ≡ e = length-take-le e s (w .0) in
       (sym l, omega arith)
-
-  pub spot-here : (place : ℕ) {x : Spot} → place < h .records → x ≡ spotFrom (h .axes) place (take e s) 0 → x ≡ spotOf h s place
-  unfolding spotOf
-  spot-here place l q =
-      q ∙ rw (le-ltb (h .records) place (omega arith), lt-leb (h .records) place l) (ap (λ (t : List ℕ). spotFrom (h .axes) place t 0) (part-all (h .used) s p))
 
   pub readable-here : {x : Spot} → x ≡ spotFrom (h .axes) (h .records) (take e s) 0 → endsAt e x ≡ readableOf h s
   unfolding readableOf recordsOf

@@ -10,15 +10,15 @@ cast-end c = search needs
 add-end : tie.Need-add-end
 add-end c = search needs
 
-cast-result : tie.Need-cast-result
-cast-result c = search needs
+cast-records : tie.Need-cast-records
+cast-records c = search needs
 
-add-result : tie.Need-add-result
-add-result c = search needs
+add-records : tie.Need-add-records
+add-records c = search needs
 
 returns : tie.Need-returns
 unfolding hasRoom
 returns c = search needs
 
 pub has-room-spec : {M : Type 1} → statement M
-has-room-spec = tie.close (tie.spec cast-end add-end cast-result add-result returns)
+has-room-spec = tie.close (tie.spec cast-end add-end cast-records add-records returns)

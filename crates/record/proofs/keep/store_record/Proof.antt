@@ -3,6 +3,7 @@ use mathlib.Core.Path.{_≡_, sym, _∙_}
 use native.Mathlib.Omega.{arith}
 use borrow.Author.Tests.{not-true, not-false}
 use lib.ListN.{length}
+use Rattle.record.specs.Memory.{memory}
 use Rattle.record.proofs.laws.Put.{room-so, kept-not, kept-so}
 use borrow.Author.Needs.{needs}
 use Rattle.record.proofs.keep.store_record.Statement.{statement}
@@ -22,55 +23,53 @@ has-room-requires c κs = search needs
 
 returns : tie.Need-returns
 returns c =
-    let b2 = c .before .before in
-    let b4 = b2 .before .before in
-    let a = b4 .args in
+    let a = c .before .before .before .before .before .args in
     let long : length (a .item .words) ≡ 8 = search needs in
-    kept-not (a .item) long (b2 .few .ensures) (a .held) (a .store .now) (sym (c .before .has-room .ensures) ∙ not-true (c .before .has-room .result) (c .if1 .taken))
+    kept-not (a .item) long (c .before .before .few .ensures) (a .held) (memory (a .store .now) (a .table .now)) (sym (c .before .has-room .ensures) ∙ not-true (c .before .has-room .result) (c .if1 .taken))
 
 cast-at : tie.Need-cast-at
 cast-at c = search needs
 
 put-record-requires : tie.Need-put-record-requires
 put-record-requires c κs =
-    let b3 = c .before .before .before in
-    let b4 = b3 .before in
-    let b7 = b4 .before .before .before in
-    let r = room-so (b7 .args .held) _ _ (sym (b4 .has-room .ensures) ∙ not-false (b4 .has-room .result) (b3 .if1 .left)) in
+    let r = room-so (c .before .before .before .before .before .before .before .before .args .held) _ _ _ (sym (c .before .before .before .before .has-room .ensures) ∙ not-false (c .before .before .before .before .has-room .result) (c .before .before .before .if1 .left)) in
     (omega arith, r .2)
 
-add-t9 : tie.Need-add-t9
-add-t9 c = search needs
+cast-table : tie.Need-cast-table
+cast-table c = search needs
 
-cast-t15 : tie.Need-cast-t15
-cast-t15 c =
-    let b6 = c .before .before .before .before .before .before in
-    let b7 = b6 .before in
-    let b10 = b7 .before .before .before in
-    let r = room-so (b10 .args .held) _ _ (sym (b7 .has-room .ensures) ∙ not-false (b7 .has-room .result) (b6 .if1 .left)) in
-    omega arith
+mul-table : tie.Need-mul-table
+mul-table c = search needs
 
-add-t16 : tie.Need-add-t16
-add-t16 c =
-    let b7 = c .before .before .before .before .before .before .before in
-    let b8 = b7 .before in
-    let b11 = b8 .before .before .before in
-    let r = room-so (b11 .args .held) _ _ (sym (b8 .has-room .ensures) ∙ not-false (b8 .has-room .result) (b7 .if1 .left)) in
-    omega arith
+slice-write-table : tie.Need-slice-write-table
+slice-write-table c =
+    let r = room-so (c .before .before .before .before .before .before .before .before .before .before .before .before .args .held) _ _ _ (sym (c .before .before .before .before .before .before .before .before .has-room .ensures) ∙ not-false (c .before .before .before .before .before .before .before .before .has-room .result) (c .before .before .before .before .before .before .before .if1 .left)) in
+    omega (arith, r .3)
+
+add-t10 : tie.Need-add-t10
+add-t10 c = search needs
+
+cast-t18 : tie.Need-cast-t18
+cast-t18 c =
+    let r = room-so (c .before .before .before .before .before .before .before .before .before .before .before .before .args .held) _ _ _ (sym (c .before .before .before .before .before .before .before .before .has-room .ensures) ∙ not-false (c .before .before .before .before .before .before .before .before .has-room .result) (c .before .before .before .before .before .before .before .if1 .left)) in
+    omega (arith, r .1)
+
+add-t19 : tie.Need-add-t19
+add-t19 c =
+    let r = room-so (c .before .before .before .before .before .before .before .before .before .before .before .before .before .args .held) _ _ _ (sym (c .before .before .before .before .before .before .before .before .before .has-room .ensures) ∙ not-false (c .before .before .before .before .before .before .before .before .before .has-room .result) (c .before .before .before .before .before .before .before .before .if1 .left)) in
+    omega (arith, r .0)
 
 same-length : tie.Need-same-length
 same-length c = search needs
 
+same-length-2 : tie.Need-same-length-2
+same-length-2 c = search needs
+
 returns-2 : tie.Need-returns-2
 returns-2 c =
-    let long : length (c .before .before .before .before .before .before .before .before .before .before .before .args .item .words) ≡ 8 = search needs in
-    let b3 = c .before .before .before in
-    let b7 = b3 .before .before .before .before in
-    let b8 = b7 .before in
-    let b9 = b8 .before in
-    let b11 = b9 .before .before in
-    let a = b11 .args in
-    kept-so (a .item) long (b9 .few .ensures) (a .held) (a .store .now) (sym (b8 .has-room .ensures) ∙ not-false (b8 .has-room .result) (b7 .if1 .left)) (b3 .put-record .ensures)
+    let a = c .before .before .before .before .before .before .before .before .before .before .before .before .before .args in
+    let long : length (a .item .words) ≡ 8 = search needs in
+    kept-so (a .item) long (c .before .before .before .before .before .before .before .before .before .before .few .ensures) (a .held) (memory (a .store .now) (a .table .now)) (sym (c .before .before .before .before .before .before .before .before .before .has-room .ensures) ∙ not-false (c .before .before .before .before .before .before .before .before .before .has-room .result) (c .before .before .before .before .before .before .before .before .if1 .left)) (c .before .before .before .before .put-record .ensures)
 
 pub store-record-spec : {M : Type 1} → statement M
 store-record-spec =
@@ -83,8 +82,12 @@ store-record-spec =
     returns
     cast-at
     put-record-requires
-    add-t9
-    cast-t15
-    add-t16
+    cast-table
+    mul-table
+    slice-write-table
+    add-t10
+    cast-t18
+    add-t19
     same-length
+    same-length-2
     returns-2)

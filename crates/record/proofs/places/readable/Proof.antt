@@ -30,9 +30,6 @@ cast-result c = search needs
 enum-told : tie.Need-enum-told
 enum-told c = search needs
 
-enum-told-2 : tie.Need-enum-told-2
-enum-told-2 c = search needs
-
 returns : tie.Need-returns
 returns c =
     let b3 = c .before .before .before in
@@ -49,14 +46,6 @@ returns-2 c =
     let a = b6 .args in
     ap (endsAt _) (sym (c .enum-told .given .1)) ∙ readable-here (a .held) (a .store .now) (b4 .end-of .ensures) (b2 .walk .ensures)
 
-returns-3 : tie.Need-returns-3
-returns-3 c =
-    let b2 = c .before .before in
-    let b4 = b2 .before .before in
-    let b6 = b4 .before .before in
-    let a = b6 .args in
-    ap (endsAt _) (sym (c .enum-told2 .given .1)) ∙ readable-here (a .held) (a .store .now) (b4 .end-of .ensures) (b2 .walk .ensures)
-
 pub readable-spec : {M : Type 1} → statement M
 readable-spec =
     tie.close
@@ -67,7 +56,5 @@ readable-spec =
     enum-known-spot
     cast-result
     enum-told
-    enum-told-2
     returns
-    returns-2
-    returns-3)
+    returns-2)

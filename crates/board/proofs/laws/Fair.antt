@@ -1,5 +1,5 @@
--- What every byte leaves, whatever it is and whatever the store holds: a state that passes 103 again, at most 19 bytes of reply, and a
--- store whose bytes changed, if at all, by an accepted record line alone. Assumes nothing.
+-- What every byte leaves, whatever it is and whatever the memory holds: a state that passes 103 again, at most 19 bytes of reply, and
+-- a memory that changed, if at all, by an accepted record line alone. Assumes nothing.
 use Prim.Native.Nat.{ℕ, _+_, _%_, _≤_}
 use mathlib.Core.Path.{_≡_, refl}
 use mathlib.Core.Bool.{Bool, true, false, not, _&&_, _||_}
@@ -49,7 +49,7 @@ use Rattle.board.proofs.laws.Puts.{length-report, length-two, length-fo
 use Rattle.board.proofs.laws.Obeys.{no-fault, no-standing, axes-fit, obey-so}
 use Rattle.board.proofs.laws.Hears.{ear-so, sound-engine, sound-line}
 
--- ---- how the bytes of the store may change
+-- ---- how the memory may change
 
 pub data Change (byte : ℕ) (b : Board) (m : Memory) (s : Said) : Type 0 where
   same : s .memory ≡ m → Change byte b m s
@@ -253,7 +253,7 @@ module _ (byte : ℕ) (b : Board) (m : Memory) (h : sound b ≡ true) where
         (line-sound _ (b .standing) (b .line) (hear-keeps (b .engine) (sound-engine b h) byte) (sound-line b h)))
         (λ q. as-was)))
 
-    -- WHATEVER BYTE, PORTS AND STORE
+    -- WHATEVER BYTE, PORTS AND MEMORY
     pub hearing-fair : Fair byte b m (hearing byte ports b m)
     unfolding hearing stopped broken resetSaid
     hearing-fair =

@@ -107,7 +107,7 @@ module _ (byte : ℕ) (ports : List ℕ) (b : Board) (m : Memory) (h : sound b �
   pub store-length : length (hearing byte ports b m .memory .store) ≡ length (m .store)
   store-length = long-so (hearing byte ports b m) (hearing-fair byte b m h ports .change)
 
-  -- they change only at the carriage return of a line while storing that is answered 0, and then as the storing of a record does
+  -- the memory changes only at the carriage return of a line while storing that is answered 0, and then as the storing of a record does
   pub store-changes : Change byte b m (hearing byte ports b m)
   store-changes = hearing-fair byte b m h ports .change
 

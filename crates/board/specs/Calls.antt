@@ -1,4 +1,4 @@
--- The calls with their refusals (01, "Calls"): 101, 102, 103 in this order; a refused call returns the state given, with no reply or the
+-- The calls with their refusals (01, "Calls"; 02 §6): 101, 102, 103, 104 in this order; a refused call returns the state given, with no reply or the
 -- answer nothing, and writes to no buffer.
 use Prim.Native.Nat.{ℕ}
 use mathlib.Core.Bool.{Bool, true, false, not}
@@ -12,8 +12,8 @@ use Rattle.count.specs.Numbers.{full, value}
 use Rattle.motion.specs.declared.Counters.{Counters}
 use Rattle.motion.specs.Next.{pulseOf}
 use Rattle.record.specs.declared.Listed.{Listed}
-use Rattle.record.specs.Memory.{Memory}
-use Rattle.record.specs.Places.{fetchOf}
+use Rattle.record.specs.Memory.{Memory, storeFits, tableFits}
+use Rattle.record.specs.Table.{fetchOf}
 use Rattle.record.specs.Listing.{Telling, telling, listOf}
 use Rattle.engine.specs.declared.Answer.{Answer}
 use Rattle.engine.specs.declared.Answer.the-variants as answer
@@ -56,8 +56,9 @@ answered s reply =
 unfoldable pub receiving : ℕ → List ℕ → Board → Lent → Outcome
 receiving byte ports b l =
     pick (ltb (length (l .reply)) replyBytes) (refused 101 b l)
-    (pick (not (eqb (length (l .memory .store)) storeBytes)) (refused 102 b l)
-    (pick (not (sound b)) (refused 103 b l) (answered (hearing byte ports b (l .memory)) (l .reply))))
+    (pick (not (storeFits (l .memory))) (refused 102 b l)
+    (pick (not (sound b)) (refused 103 b l)
+    (pick (not (tableFits (l .memory))) (refused 104 b l) (answered (hearing byte ports b (l .memory)) (l .reply)))))
 
 -- ---- a clock call
 
@@ -67,12 +68,13 @@ clocked n b a = record { board = b; answer = a; refusal = n }
 abbrev pub wentOn : Board → Told → Ticked
 wentOn b t = clocked 0 (board (t .engine) (b .standing) (b .line)) (t .answer)
 
--- what stands stopped answers nothing and changes nothing; else the engine's call, by 01's formula, on the store's records
+-- what stands stopped answers nothing and changes nothing; else the engine's call, by 01's formula, on the records that the table finds
 unfoldable pub clocking : Board → Memory → Ticked
 clocking b m =
-    pick (not (eqb (length (m .store)) storeBytes)) (clocked 102 b answer.Nothing)
+    pick (not (storeFits m)) (clocked 102 b answer.Nothing)
     (pick (not (sound b)) (clocked 103 b answer.Nothing)
-    (pick (b .standing) (clocked 0 b answer.Nothing) (wentOn b (ticked pulseOf (fetchOf (b .engine .held) (m .store)) (b .engine)))))
+    (pick (not (tableFits m)) (clocked 104 b answer.Nothing)
+    (pick (b .standing) (clocked 0 b answer.Nothing) (wentOn b (ticked pulseOf (fetchOf (b .engine .held) m) (b .engine))))))
 
 -- ---- the lister: 102, 103, 106, then G
 

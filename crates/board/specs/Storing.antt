@@ -9,7 +9,7 @@ use Rattle.count.specs.Text.{fourDigits}
 use Rattle.record.specs.declared.Held.{Held}
 use Rattle.record.specs.declared.Record.{Record}
 use Rattle.record.specs.Fault.{countRight, axesRight, rangesRight, speedsRight, numbersReply}
-use Rattle.record.specs.Memory.{Memory, memory}
+use Rattle.record.specs.Memory.{Memory}
 use Rattle.record.specs.Keep.{storeOf}
 use Rattle.program.specs.declared.Verdict.{Verdict}
 use Rattle.program.specs.declared.Verdict.the-variants.{Sound, Fault, Unreadable}
@@ -29,13 +29,13 @@ unfoldable pub recordReply : Held → Record → Memory → ℕ
 recordReply h r m =
     numbersReply (countRight (h .axes) (r .code) (r .count)) (axesRight (h .axes) (r .code) (r .words))
     (rangesRight (h .axes) (r .code) (r .words)) (speedsRight (h .axes) (r .code) (r .words))
-    (pick (not (storeOf h r (m .store) .kept .stored)) (ch "6") (ch "0"))
+    (pick (not (storeOf h r m .kept .stored)) (ch "6") (ch "0"))
 
 -- a right record is written at the end of the part in use; a refused one isn't stored and storing goes on
 abbrev pub recordSaid : Record → Board → Memory → Said
 recordSaid r b m =
     pick (eqb (recordReply (b .engine .held) r m) (ch "0"))
-    (said (board (withHeld (b .engine) (storeOf (b .engine .held) r (m .store) .kept .held)) (b .standing) noLine) (ch "0" ∷ []) (memory (storeOf (b .engine .held) r (m .store) .bytes)))
+    (said (board (withHeld (b .engine) (storeOf (b .engine .held) r m .kept .held)) (b .standing) noLine) (ch "0" ∷ []) (storeOf (b .engine .held) r m .memory))
     (said (lineDone b) (recordReply (b .engine .held) r m ∷ []) m)
 
 -- behind the G of a failed check: the letter of the fault and the record's place as four digits; nothing if the store isn't readable

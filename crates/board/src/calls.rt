@@ -1,4 +1,4 @@
-// The calls, with their refusals 101, 102 and 103 in this order, and what a host reads of a board.
+// The calls, with their refusals 101, 102, 103 and 104 in this order, and what a host reads of a board.
 ghost use mathlib.Core.Path.{_≡_};
 ghost use Rattle.record.specs.Memory.{memory};
 ghost use Rattle.record.specs.Listing.{telling};
@@ -95,8 +95,15 @@ impl Board {
     }
 
     // A byte received, with the input ports; the reply stands at the front of its buffer.
-    pub fn receive(self, byte: u8, ports: [u8; 4], reply: &mut [u8], store: &mut [u8]) -> Received
-        ensures { λ r. ⌜ did r (lent (now (reply .exit)) (memory (now (store .exit)))) ≡ receiving byte ports self (lent (now (reply .entry)) (memory (now (store .entry)))) ⌝ }
+    pub fn receive(
+        self,
+        byte: u8,
+        ports: [u8; 4],
+        reply: &mut [u8],
+        store: &mut [u8],
+        table: &mut [u16],
+    ) -> Received
+        ensures { λ r. ⌜ did r (lent (now (reply .exit)) (memory (now (store .exit)) (now (table .exit)))) ≡ receiving byte ports self (lent (now (reply .entry)) (memory (now (store .entry)) (now (table .entry)))) ⌝ }
     {
         if reply.len() < 32 {
             return self.refuse(101);
@@ -107,11 +114,14 @@ impl Board {
         if !self.sound() {
             return self.refuse(103);
         }
+        if table.len() != 1000 {
+            return self.refuse(104);
+        }
         let ear = self.ear(byte);
         if let Ear::Gather = ear {
             return self.gather(byte).quiet();
         }
-        self.hear(ear, byte, ports, store).answer(reply)
+        self.hear(ear, byte, ports, store, table).answer(reply)
     }
 
     fn still(self, refusal: u16) -> Ticked
@@ -125,8 +135,8 @@ impl Board {
     }
 
     // A clock call; what stands stopped answers nothing.
-    pub fn clock(self, store: &[u8]) -> Ticked
-        ensures { λ r. ⌜ r ≡ clocking self (memory (now (store .entry))) ⌝ }
+    pub fn clock(self, store: &[u8], table: &[u16]) -> Ticked
+        ensures { λ r. ⌜ r ≡ clocking self (memory (now (store .entry)) (now (table .entry))) ⌝ }
     {
         if store.len() != 16384 {
             return self.still(102);
@@ -137,10 +147,13 @@ impl Board {
         if is_refused(act) | (80 < l.len) {
             return self.still(103);
         }
+        if table.len() != 1000 {
+            return self.still(104);
+        }
         if self.standing {
             return self.still(0);
         }
-        let told = e.act(act, store);
+        let told = e.act(act, store, table);
         let engine = told.engine;
         let answer = told.answer;
         let mut board = self;

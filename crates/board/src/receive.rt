@@ -204,9 +204,9 @@ impl Board {
     }
 
     // A carriage return ends the line.
-    fn end_line(self, ports: [u8; 4], store: &mut [u8]) -> Spoke
+    fn end_line(self, ports: [u8; 4], store: &mut [u8], table: &mut [u16]) -> Spoke
         requires { ⌜ self .line .len ≤ 80 ⌝ }
-        ensures { λ r. ⌜ spoke r (memory (now (store .exit))) ≡ returned ports self (memory (now (store .entry))) ⌝ }
+        ensures { λ r. ⌜ spoke r (memory (now (store .exit)) (now (table .exit))) ≡ returned ports self (memory (now (store .entry)) (now (table .entry))) ⌝ }
     {
         let l = self.line;
         let e = self.engine;
@@ -216,7 +216,7 @@ impl Board {
             return self.replies(e, b'5');
         }
         if is_storing(job) & !self.standing {
-            return self.store_line(store);
+            return self.store_line(store, table);
         }
         self.obey(l.as_direct(), ports)
     }
@@ -233,13 +233,20 @@ impl Board {
     }
 
     // What a byte comes to that is not gathered.
-    pub(crate) fn hear(self, ear: Ear, byte: u8, ports: [u8; 4], store: &mut [u8]) -> Spoke
+    pub(crate) fn hear(
+        self,
+        ear: Ear,
+        byte: u8,
+        ports: [u8; 4],
+        store: &mut [u8],
+        table: &mut [u16],
+    ) -> Spoke
         requires { ⌜ (self .line .len ≤ 80) × (isGather ear ≡ false) ⌝ }
-        ensures { λ r. ⌜ spoke r (memory (now (store .exit))) ≡ heardAs ear byte ports self (memory (now (store .entry))) ⌝ }
+        ensures { λ r. ⌜ spoke r (memory (now (store .exit)) (now (table .exit))) ≡ heardAs ear byte ports self (memory (now (store .entry)) (now (table .entry))) ⌝ }
     {
         match ear {
             Ear::Gather => self.says(Saying::Silent),
-            Ear::Return => self.end_line(ports, store),
+            Ear::Return => self.end_line(ports, store, table),
             Ear::Listen => self.listen(byte),
             Ear::Ignore => self.says(Saying::Silent),
             Ear::Stop => self.stop(),

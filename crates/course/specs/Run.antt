@@ -2,11 +2,9 @@
 use Prim.Native.Nat.{ℕ, zero, suc, _+_, _/_, min}
 use mathlib.Core.Bool.{Bool, true, false, not, _&&_}
 use mathlib.Core.List.{List, [], _++_}
-use lib.Dec.{eqb}
 use lib.ListN.{length, drop}
-use Rattle.count.specs.Sizes.{storeBytes}
 use Rattle.count.specs.Pick.{pick}
-use Rattle.record.specs.Memory.{Memory}
+use Rattle.record.specs.Memory.{Memory, storeFits, tableFits}
 use Rattle.engine.specs.Tick.{runsOf}
 use Rattle.board.specs.declared.Board.{Board}
 use Rattle.board.specs.declared.Ticked.{Ticked}
@@ -65,5 +63,6 @@ ran c out =
 
 unfoldable pub runOutcome : ℕ → Board → Memory → List ℕ → RunOutcome
 runOutcome limit b m out =
-    pick (not (eqb (length (m .store)) storeBytes)) (refusedRun 102 b out)
-    (pick (not (sound b)) (refusedRun 103 b out) (ran (course (allowed limit out) m b) out))
+    pick (not (storeFits m)) (refusedRun 102 b out)
+    (pick (not (sound b)) (refusedRun 103 b out)
+    (pick (not (tableFits m)) (refusedRun 104 b out) (ran (course (allowed limit out) m b) out)))

@@ -2,12 +2,12 @@
 use Prim.Native.Nat.{ℕ, _+_, _-_}
 use mathlib.Core.Bool.{Bool, true, false, not, _&&_}
 use mathlib.Core.List.{List, [], _∷_, _++_}
-use lib.Dec.{leb, eqb}
+use lib.Dec.{leb}
 use lib.ListN.{length, drop, replicate}
-use Rattle.count.specs.Sizes.{storeBytes}
+use Rattle.count.specs.Sizes.{storeBytes, mostRecords}
 use Rattle.count.specs.Pick.{pick}
 use Rattle.count.specs.Text.{Written, wrote}
-use Rattle.record.specs.Memory.{Memory, memory}
+use Rattle.record.specs.Memory.{Memory, memory, storeFits, tableFits}
 use Rattle.board.specs.declared.Board.{Board}
 use Rattle.board.specs.State.{Said, sound}
 use Rattle.board.specs.Receive.{hearing}
@@ -17,7 +17,7 @@ use Rattle.course.specs.declared.Portion.{Portion}
 use Rattle.course.specs.Text.{headText, replyText, limitText, endText}
 use Rattle.course.specs.Run.{runsNow, Course, course, allowed}
 
--- input ports are 0, and the store is empty at first
+-- input ports are 0, and the store is empty at first, its bytes and the entries of the table 0
 abbrev pub noPorts : List ℕ
 noPorts = 0 ∷ 0 ∷ 0 ∷ 0 ∷ []
 
@@ -25,7 +25,7 @@ abbrev pub noStore : List ℕ
 noStore = replicate storeBytes 0
 
 abbrev pub noMemory : Memory
-noMemory = memory noStore
+noMemory = memory noStore (replicate mostRecords 0)
 
 -- after each byte at most 100,000 clock calls
 abbrev pub most : ℕ
@@ -76,7 +76,7 @@ further c calls = walk (c .board) (calls + c .calls) (not (runsNow (c .board)))
 -- a portion is made if the buffer has at least 64 bytes and a call on this board and memory would not be refused; else nothing is taken,
 -- nothing is written and the walk is as given
 unfoldable pub ready : Walk → Memory → List ℕ → Bool
-ready w m out = leb 64 (length out) && eqb (length (m .store)) storeBytes && sound (w .board)
+ready w m out = leb 64 (length out) && storeFits m && sound (w .board) && tableFits m
 
 -- a byte is taken if the run before it is over: its reply, and as much of its run as the rest of the buffer holds
 unfoldable pub nextDone : ℕ → Walk → Memory → List ℕ → Done

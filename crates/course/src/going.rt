@@ -41,9 +41,9 @@ fn glide_on(e: Engine, limit: u32, out: &mut [u8]) -> Went
 }
 
 // At most so many clock calls, with twelve bytes of room for each.
-pub(crate) fn go(start: Engine, store: &[u8], limit: u32, out: &mut [u8]) -> Went
+pub(crate) fn go(start: Engine, store: &[u8], table: &[u16], limit: u32, out: &mut [u8]) -> Went
     requires { ⌜ 12 * limit ≤ length (now out) ⌝ }
-    ensures { λ r. ⌜ wentOf r (now (out .exit)) ≡ leftBy (goWay (memory (now (store .entry))) limit start) (now (out .entry)) ⌝ }
+    ensures { λ r. ⌜ wentOf r (now (out .exit)) ≡ leftBy (goWay (memory (now (store .entry)) (now (table .entry))) limit start) (now (out .entry)) ⌝ }
 {
     let mut e = start;
     let mut n: u32 = 0;
@@ -56,7 +56,7 @@ pub(crate) fn go(start: Engine, store: &[u8], limit: u32, out: &mut [u8]) -> Wen
                 len: at,
             };
         }
-        let t = e.tick(store);
+        let t = e.tick(store, table);
         let answer = t.answer;
         let next = t.engine;
         let k = put_answer(&mut out[at..], answer);

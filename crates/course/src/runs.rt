@@ -42,8 +42,8 @@ fn rest(board: Board, refusal: u16) -> Ran
 }
 
 // Clock calls until the board is idle, storing, stopped or waiting, at most so many, and what `walk` prints of them.
-pub fn run(board: Board, store: &[u8], limit: u32, out: &mut [u8]) -> Ran
-    ensures { λ r. ⌜ didRun r (now (out .exit)) ≡ runOutcome limit board (memory (now (store .entry))) (now (out .entry)) ⌝ }
+pub fn run(board: Board, store: &[u8], table: &[u16], limit: u32, out: &mut [u8]) -> Ran
+    ensures { λ r. ⌜ didRun r (now (out .exit)) ≡ runOutcome limit board (memory (now (store .entry)) (now (table .entry))) (now (out .entry)) ⌝ }
 {
     if store.len() != 16384 {
         return rest(board, 102);
@@ -51,12 +51,15 @@ pub fn run(board: Board, store: &[u8], limit: u32, out: &mut [u8]) -> Ran
     if !board.sound() {
         return rest(board, 103);
     }
+    if table.len() != 1000 {
+        return rest(board, 104);
+    }
     if board.standing {
         return rest(board, 0);
     }
     let most = allowed_by(limit, out.len());
     let engine = board.engine;
-    let w = go(engine, store, most, out);
+    let w = go(engine, store, table, most, out);
     let last = w.engine;
     let mut next = board;
     next.engine = last;

@@ -80,26 +80,26 @@ impl Walk {
         Portion { walk: self, len: 0 }
     }
 
-    // Whether a portion can be made with a store and a buffer of these lengths.
-    fn is_ready(self, store: usize, out: usize) -> bool
-        ensures { λ r. ⌜ r ≡ leb 64 out && eqb store 16384 && sound (self .board) ⌝ }
+    // Whether a portion can be made with a store, a table and a buffer of these lengths.
+    fn is_ready(self, store: usize, table: usize, out: usize) -> bool
+        ensures { λ r. ⌜ r ≡ leb 64 out && eqb store 16384 && sound (self .board) && eqb table 1000 ⌝ }
     {
         let board = self.board;
-        (64 <= out) & (store == 16384) & board.sound()
+        (64 <= out) & (store == 16384) & board.sound() & (table == 1000)
     }
 
     // A byte, if the run before it is over: its reply, and as much of its run as the rest of the buffer holds.
-    pub fn next(self, byte: u8, store: &mut [u8], out: &mut [u8]) -> Portion
-        ensures { λ r. ⌜ doneOf r (memory (now (store .exit))) (now (out .exit)) ≡ nextDone byte self (memory (now (store .entry))) (now (out .entry)) ⌝ }
+    pub fn next(self, byte: u8, store: &mut [u8], table: &mut [u16], out: &mut [u8]) -> Portion
+        ensures { λ r. ⌜ doneOf r (memory (now (store .exit)) (now (table .exit))) (now (out .exit)) ≡ nextDone byte self (memory (now (store .entry)) (now (table .entry))) (now (out .entry)) ⌝ }
     {
         if !self.over {
             return self.stay();
         }
-        if !self.is_ready(store.len(), out.len()) {
+        if !self.is_ready(store.len(), table.len(), out.len()) {
             return self.stay();
         }
         let board = self.board;
-        let heard = board.receive(byte, [0u8; 4], &mut out[2..], &mut *store);
+        let heard = board.receive(byte, [0u8; 4], &mut out[2..], &mut *store, &mut *table);
         let n = put_reply(&mut *out, heard.len);
         let next = heard.board;
         if !runs_now(next) {
@@ -113,7 +113,7 @@ impl Walk {
                 len: n,
             };
         }
-        let ran = run(next, &*store, MOST, &mut out[n..]);
+        let ran = run(next, &*store, &*table, MOST, &mut out[n..]);
         let last = ran.board;
         let walk = Walk {
             board: last,
@@ -149,18 +149,18 @@ impl Walk {
     }
 
     // A run that is not over goes on, up to its 100,000 calls.
-    pub fn go_on(self, store: &[u8], out: &mut [u8]) -> Portion
-        ensures { λ r. ⌜ doneOf r (memory (now (store .entry))) (now (out .exit)) ≡ onDone self (memory (now (store .entry))) (now (out .entry)) ⌝ }
+    pub fn go_on(self, store: &[u8], table: &[u16], out: &mut [u8]) -> Portion
+        ensures { λ r. ⌜ doneOf r (memory (now (store .entry)) (now (table .entry))) (now (out .exit)) ≡ onDone self (memory (now (store .entry)) (now (table .entry))) (now (out .entry)) ⌝ }
     {
         if self.over {
             return self.stay();
         }
-        if !self.is_ready(store.len(), out.len()) {
+        if !self.is_ready(store.len(), table.len(), out.len()) {
             return self.stay();
         }
         let board = self.board;
         let calls = self.calls;
-        let ran = run(board, store, left_of(calls), out);
+        let ran = run(board, store, table, left_of(calls), out);
         let last = ran.board;
         let walk = Walk {
             board: last,

@@ -100,7 +100,7 @@ performed rule r e =
     (pick (eqb (r .code) (ch "1")) (told (onTo job.Ready e) (answer.Send (getD (r .words) 0 0)))
     (let o = onwardOf r (e .run .place) (e .held .records) (e .run .loops) in leading o (o .going) (getD (r .words) 0 0) e)))))
 
--- the record at the place; at the end place one call sends 0; what cannot be reached and read ends with G
+-- the record at the place; at the end place one call sends 0; what cannot be found and read ends with G
 abbrev pub fetched : Rule → Fetch → Engine → Told
 fetched rule (Got r) e = performed rule r e
 fetched rule End e = finished (ch "0") e

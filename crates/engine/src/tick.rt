@@ -1,7 +1,8 @@
 // One clock call: the next pulse, one pause, or one record. It is decided first, on the job and the counters alone, and then done.
 ghost use mathlib.Core.Path.{_≡_};
 ghost use Rattle.motion.specs.work.Here.{nextOf};
-ghost use Rattle.record.specs.Places.{fetchOf};
+ghost use Rattle.record.specs.Memory.{memory};
+ghost use Rattle.record.specs.Table.{fetchOf};
 ghost use Rattle.engine.specs.State.{running};
 ghost use Rattle.engine.specs.Tick.{fetched, ticked, runsOf};
 ghost use Rattle.engine.specs.work.Acts.{underOf, restOf, actBy, lookBy, seenOf, markedJob, pulsed, actedBy};
@@ -116,12 +117,12 @@ impl Engine {
         self.pulse(run.with_job(job.at_mark(mark)), b)
     }
 
-    // The record at the place; the 0 at the end place; G where none can be reached and read.
-    fn ready(self, store: &[u8]) -> Told
-        ensures { λ r. ⌜ r ≡ fetched nextOf (fetchOf (self .held) (now (store .entry)) (self .run .place)) self ⌝ }
+    // The record at the place; the 0 at the end place; G where none can be found and read.
+    fn ready(self, store: &[u8], table: &[u16]) -> Told
+        ensures { λ r. ⌜ r ≡ fetched nextOf (fetchOf (self .held) (memory (now (store .entry)) (now (table .entry))) (self .run .place)) self ⌝ }
     {
         let run = self.run;
-        let f = record::fetch(store, self.held, run.place);
+        let f = record::fetch(store, table, self.held, run.place);
         let found = f.found;
         match found {
             Found::Right => {
@@ -147,8 +148,8 @@ impl Engine {
     }
 
     // It is done.
-    pub fn act(self, act: Act, store: &[u8]) -> Told
-        ensures { λ r. ⌜ r ≡ actedBy nextOf (fetchOf (self .held) (now (store .entry))) act self ⌝ }
+    pub fn act(self, act: Act, store: &[u8], table: &[u16]) -> Told
+        ensures { λ r. ⌜ r ≡ actedBy nextOf (fetchOf (self .held) (memory (now (store .entry)) (now (table .entry)))) act self ⌝ }
     {
         match act {
             Act::Wrong => self.tell(Answer::Nothing),
@@ -156,17 +157,17 @@ impl Engine {
             Act::Pulse(b) => self.step(b),
             Act::Pause(q) => self.with_job(after_pause(q)).tell(Answer::Pause),
             Act::Finish => self.finish(b'0'),
-            Act::Record => self.ready(store),
+            Act::Record => self.ready(store, table),
         }
     }
 
     // One clock call.
-    pub fn tick(self, store: &[u8]) -> Told
-        ensures { λ r. ⌜ r ≡ ticked nextOf (fetchOf (self .held) (now (store .entry))) self ⌝ }
+    pub fn tick(self, store: &[u8], table: &[u16]) -> Told
+        ensures { λ r. ⌜ r ≡ ticked nextOf (fetchOf (self .held) (memory (now (store .entry)) (now (table .entry)))) self ⌝ }
     {
         let run = self.run;
         let job = run.job;
-        self.act(act_of(job, self.at), store)
+        self.act(act_of(job, self.at), store, table)
     }
 
     // Whether a clock call has something to do.

@@ -1,5 +1,5 @@
--- A second program put behind a first (02, §4): its bytes behind the first's, nothing rewritten, since every offset counts from its own
--- place. Refused, in this order: 102, 3, G, 6; the destination then stays as found.
+-- A second program put behind a first (02, §4 and §6): its bytes behind the first's, nothing rewritten, since every offset counts from its
+-- own place, and every entry of the table written. Refused, in this order: 102, 104, 3, G, 6; the destination then stays as found.
 use Prim.Native.Nat.{ℕ, _+_}
 use mathlib.Core.Bool.{Bool, not, _&&_, _||_}
 use mathlib.Core.List.{List, _++_}
@@ -9,7 +9,9 @@ use Rattle.count.specs.Sizes.{storeBytes, mostRecords}
 use Rattle.count.specs.Chars.{ch}
 use Rattle.count.specs.Pick.{pick}
 use Rattle.record.specs.declared.Held.{Held}
+use Rattle.record.specs.Memory.{Memory, memory, tableFits}
 use Rattle.record.specs.Places.{inUse, recordsOf}
+use Rattle.record.specs.Table.{filled}
 use Rattle.program.specs.Program.{axesSet, accepted}
 use Rattle.program.specs.Edges.{leadsOut, startsFirst, ofThese}
 use Rattle.join.specs.declared.Joined.{Joined}
@@ -27,7 +29,7 @@ axesBeside h other = pick (isEmpty h && not (isEmpty other)) (other .axes) (h .a
 unfoldable pub counted : Held → Held → Held
 counted h other = record { used = h .used; records = h .records; axes = axesBeside h other }
 
--- ---- the refusals; `a` in the store s is the first program, `b` in the store t the second
+-- ---- the refusals; `a` in the store s is the first program, `b` in the store t the second. The destination m is s with its table.
 
 -- 102: both stores are lent with 16,384 bytes
 unfoldable pub storesRight : List ℕ → List ℕ → Bool
@@ -50,12 +52,13 @@ unfoldable pub roomRight : Held → Held → Bool
 roomRight a b = leb (a .records + b .records) mostRecords && leb (a .used + b .used) storeBytes
 
 -- the first that applies, or 0
-unfoldable pub refusalOf : Held → List ℕ → Held → List ℕ → ℕ
-refusalOf a s b t =
-    pick (not (storesRight s t)) 102
+unfoldable pub refusalOf : Held → Memory → Held → List ℕ → ℕ
+refusalOf a m b t =
+    pick (not (storesRight (m .store) t)) 102
+    (pick (not (tableFits m)) 104
     (pick (not (axesRight a b)) (ch "3")
-    (pick (not (bothAccepted a s b t) || entersRange a s b t) (ch "G")
-    (pick (not (roomRight a b)) (ch "6") 0)))
+    (pick (not (bothAccepted a (m .store) b t) || entersRange a (m .store) b t) (ch "G")
+    (pick (not (roomRight a b)) (ch "6") 0))))
 
 -- ---- the joined program
 
@@ -66,19 +69,23 @@ both a b = record { used = a .used + b .used; records = a .records + b .records;
 unfoldable pub endToEnd : Held → List ℕ → Held → List ℕ → List ℕ
 endToEnd a s b t = inUse a s ++ inUse b t ++ drop (a .used + b .used) s
 
+-- and the table with an entry for each of its records, the first's too; past them the entries stay
+unfoldable pub joinedMemory : Held → Memory → Held → List ℕ → Memory
+joinedMemory a m b t = memory (endToEnd a (m .store) b t) (filled (both a b) (memory (endToEnd a (m .store) b t) (m .table)))
+
 -- ---- what joining comes to, and the destination afterwards
 
 pub record Joining : Type 0 where
   pub joined : Joined
-  pub bytes : List ℕ
+  pub memory : Memory
 
-abbrev pub joining : Joined → List ℕ → Joining
-joining j s = record { joined = j; bytes = s }
+abbrev pub joining : Joined → Memory → Joining
+joining j m = record { joined = j; memory = m }
 
 -- a refusal gives the first program back
 abbrev pub answer : ℕ → Held → Joined
 answer refusal h = record { refusal = refusal; held = h }
 
-unfoldable pub joinOf : Held → List ℕ → Held → List ℕ → Joining
-joinOf a s b t =
-    pick (eqb (refusalOf a s b t) 0) (joining (answer 0 (both a b)) (endToEnd a s b t)) (joining (answer (refusalOf a s b t) a) s)
+unfoldable pub joinOf : Held → Memory → Held → List ℕ → Joining
+joinOf a m b t =
+    pick (eqb (refusalOf a m b t) 0) (joining (answer 0 (both a b)) (joinedMemory a m b t)) (joining (answer (refusalOf a m b t) a) m)

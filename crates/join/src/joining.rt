@@ -1,8 +1,9 @@
-// A second program put behind a first: everything is tested before anything is written.
+// A second program put behind a first, and the table filled: everything is tested before anything is written.
 ghost use mathlib.Core.Path.{_≡_};
 ghost use Prim.Native.Nat.{_+_, _≤_};
 ghost use lib.ListN.{length};
 ghost use lib.Seq.{paste};
+ghost use Rattle.record.specs.Memory.{memory};
 ghost use Rattle.join.specs.Join.{axesBeside, counted, axesRight, roomRight, refusalOf, joining, joinOf};
 use crate::Joined;
 use program::accepts;
@@ -47,11 +48,14 @@ fn room_right(first: Held, second: Held) -> bool
 }
 
 // The first refusal that applies, or 0. Each store is read once.
-fn refusal_of(first: Held, store: &[u8], second: Held, other: &[u8]) -> u16
-    ensures { λ r. ⌜ r ≡ refusalOf first (now (store .entry)) second (now (other .entry)) ⌝ }
+fn refusal_of(first: Held, store: &[u8], table: &[u16], second: Held, other: &[u8]) -> u16
+    ensures { λ r. ⌜ r ≡ refusalOf first (memory (now (store .entry)) (now (table .entry))) second (now (other .entry)) ⌝ }
 {
     if (store.len() != 16384) | (other.len() != 16384) {
         return 102;
+    }
+    if table.len() != 1000 {
+        return 104;
     }
     if !axes_right(first, second) {
         return 51; // 3
@@ -80,11 +84,11 @@ fn put_bytes(store: &mut [u8], at: usize, other: &[u8], n: usize)
     }
 }
 
-// The second program put behind the first, whose store is the destination.
-pub fn join(first: Held, store: &mut [u8], second: Held, other: &[u8]) -> Joined
-    ensures { λ r. ⌜ joining r (now (store .exit)) ≡ joinOf first (now (store .entry)) second (now (other .entry)) ⌝ }
+// The second program put behind the first, whose store and table are the destination.
+pub fn join(first: Held, store: &mut [u8], table: &mut [u16], second: Held, other: &[u8]) -> Joined
+    ensures { λ r. ⌜ joining r (memory (now (store .exit)) (now (table .exit))) ≡ joinOf first (memory (now (store .entry)) (now (table .entry))) second (now (other .entry)) ⌝ }
 {
-    let refusal = refusal_of(first, &store[..], second, other);
+    let refusal = refusal_of(first, &store[..], &table[..], second, other);
     if refusal != 0 {
         return Joined {
             refusal,
@@ -101,5 +105,6 @@ pub fn join(first: Held, store: &mut [u8], second: Held, other: &[u8]) -> Joined
         records,
         axes: axes_beside(first, second),
     };
-    Joined { refusal: 0, held }
+    let refusal = record::fill(&store[..], table, held);
+    Joined { refusal, held }
 }

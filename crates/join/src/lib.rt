@@ -1,4 +1,4 @@
-// Joining two programs: the second's bytes behind the first's, in the first's store.
+// Joining two programs: the second's bytes behind the first's, in the first's store, with its table filled.
 
 mod joining;
 

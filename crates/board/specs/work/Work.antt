@@ -1,6 +1,7 @@
 -- How the code goes: what a byte comes to before its reply is written, the first fault of a line in the code's order, and its effect.
 -- The laws that join these to the definitions of `Direct`, `Storing`, `Receive` and `Calls` stand in `Obeys`, `Stores`, `Hears` and `Puts`.
 use Prim.Native.Nat.{ℕ, _%_}
+use mathlib.Core.Path.{_≡_}
 use mathlib.Core.Bool.{Bool, true, false, not, _&&_, _||_}
 use mathlib.Core.List.{List, [], _∷_, _++_}
 use lib.Dec.{eqb}
@@ -29,6 +30,7 @@ use Rattle.board.specs.declared.Saying.the-variants as saying
 use Rattle.board.specs.declared.Spoke.{Spoke}
 use Rattle.board.specs.State.{board, noLine, lineDone, Said, said}
 use Rattle.board.specs.Direct.{isWrong, heardStanding, needsAxes}
+use Rattle.board.specs.Storing.{endSaid}
 use Rattle.board.specs.Receive.{holdsBy, endsBy}
 
 -- ---- a reply that is still to be written
@@ -134,9 +136,14 @@ obeyed d ports b =
 
 abbrev pub keptSaid : Record → Board → Memory → Said
 keptSaid r b m =
-    pick (storeOf (b .engine .held) r (m .store) .kept .stored)
-    (said (board (withHeld (b .engine) (storeOf (b .engine .held) r (m .store) .kept .held)) (b .standing) noLine) (48 ∷ []) (memory (storeOf (b .engine .held) r (m .store) .bytes)))
+    pick (storeOf (b .engine .held) r m .kept .stored)
+    (said (board (withHeld (b .engine) (storeOf (b .engine .held) r m .kept .held)) (b .standing) noLine) (48 ∷ []) (storeOf (b .engine .held) r m .memory))
     (said (lineDone b) (54 ∷ []) m)
+
+-- ---- the end of storing looks at the store alone, and leaves the table
+
+abbrev pub Ended : Spoke → Board → List ℕ → Type 0
+Ended s b store = (table : List ℕ) → spoke s (memory store table) ≡ endSaid b (memory store table)
 
 -- ---- the control codes, and whether an ordinary byte is gathered or a wait takes it
 

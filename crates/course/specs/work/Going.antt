@@ -3,7 +3,7 @@ use Prim.Native.Nat.{ℕ}
 use mathlib.Core.List.{List}
 use Rattle.motion.specs.work.Here.{nextOf}
 use Rattle.record.specs.Memory.{Memory}
-use Rattle.record.specs.Places.{fetchOf}
+use Rattle.record.specs.Table.{fetchOf}
 use Rattle.engine.specs.declared.Engine.{Engine}
 use Rattle.engine.specs.declared.Job.{Job}
 use Rattle.engine.specs.declared.Job.the-variants as job
@@ -15,10 +15,10 @@ use Rattle.course.specs.work.Machine.{Way, stays, way, Left}
 use Rattle.course.specs.work.Glide.{Gone, here, glides, glideOn, glideSaid}
 
 abbrev pub tickNext : Memory → Engine → Engine
-tickNext m e = ticked nextOf (fetchOf (e .held) (m .store)) e .engine
+tickNext m e = ticked nextOf (fetchOf (e .held) m) e .engine
 
 abbrev pub tickSaid : Memory → Engine → List ℕ
-tickSaid m e = answerText (ticked nextOf (fetchOf (e .held) (m .store)) e .answer)
+tickSaid m e = answerText (ticked nextOf (fetchOf (e .held) m) e .answer)
 
 -- clock calls while something runs
 abbrev pub goWay : Memory → ℕ → Engine → Way Engine

@@ -21,7 +21,8 @@ use Rattle.record.specs.declared.Spot.{Spot}
 use Rattle.record.specs.declared.Spot.the-variants as spot
 use Rattle.record.specs.Bytes.{Fetch}
 use Rattle.record.specs.Bytes.Fetch.{Got, End, Wrong}
-use Rattle.record.specs.Places.{recordAt, recordFrom, answered, foundPaper, spotPaper}
+use Rattle.record.specs.Places.{recordAt, answered, foundPaper, spotPaper}
+use Rattle.record.specs.Table.{recordFrom}
 use Rattle.program.specs.declared.Going.{Going}
 use Rattle.program.specs.declared.Going.the-variants as going
 use Rattle.program.specs.declared.Way.{Way}
@@ -100,7 +101,6 @@ module _ (e : Engine) where
   -- AND SO IS A PLACE: no byte of the part in use is its start
   pub spot-paper : (rule : Rule) (p : Spot) (h : Held) (s : List ℕ) → (spotPaper p .number ≡ 4 → ⊥) → paper (fetched rule (recordFrom p h s) e .answer) ≡ sent (spotPaper p)
   spot-paper rule (spot.At at) h s n = absurd (n refl)
-  spot-paper rule spot.End h s n = refl
   spot-paper rule spot.Wrong h s n = refl
 
 -- a place whose start is found is read at the byte on paper
@@ -109,5 +109,4 @@ spot-read (spot.At at′) h s at e =
     let f : pos at′ ∷ [] ≡ pos at ∷ [] = ap (λ (x : Paper). x .values) e in
     let q : at′ ≡ at = cc in
     ap (λ (i : ℕ). recordAt h s i) q
-spot-read spot.End h s at e = let q : _≡_ {A = ℕ} 48 4 = ap (λ (x : Paper). x .number) e in absurd (omega arith)
 spot-read spot.Wrong h s at e = let q : _≡_ {A = ℕ} 71 4 = ap (λ (x : Paper). x .number) e in absurd (omega arith)

@@ -14,7 +14,8 @@ use Rattle.motion.specs.declared.Next.the-variants as next
 use Rattle.record.specs.declared.Held.{Held}
 use Rattle.record.specs.declared.Record.{Record}
 use Rattle.record.specs.Bytes.{Fetch}
-use Rattle.record.specs.Places.{fetchOf}
+use Rattle.record.specs.Memory.{Memory}
+use Rattle.record.specs.Table.{fetchOf, TableTrue}
 use Rattle.program.specs.Program.{accepted}
 use Rattle.program.proofs.laws.Run.{Accepted}
 use Rattle.program.proofs.laws.Discipline.{Disciplined, begins}
@@ -136,10 +137,10 @@ module _ (l : List Record) (rule : Rule) (e : Engine) (p : e .run .place ≡ len
 
 -- ---- on the store
 
--- AN ACCEPTED PROGRAM NEVER ENDS WITH G: on its store, unaltered
-pub never-G-stored : (h : Held) (s : List ℕ) → accepted h s ≡ true → (rule : Rule) (xs : List Event) (e : Engine) → e .held ≡ h
-    → NeverG rule (fetchOf h s) xs (started e)
-never-G-stored h s p rule xs e q =
-    let x = accepted-holds h s p in
-    subst (λ (f : Fetching). NeverG rule f xs (started e)) (sym (same-fetch h s (x .items) (x .reads)))
+-- AN ACCEPTED PROGRAM NEVER ENDS WITH G: on its store with a true table, unaltered
+pub never-G-stored : (h : Held) (m : Memory) → accepted h (m .store) ≡ true → TableTrue h m → (rule : Rule) (xs : List Event) (e : Engine) → e .held ≡ h
+    → NeverG rule (fetchOf h m) xs (started e)
+never-G-stored h m p t rule xs e q =
+    let x = accepted-holds h (m .store) p in
+    subst (λ (f : Fetching). NeverG rule f xs (started e)) (sym (same-fetch h m (x .items) (x .reads) t))
     (never-G (h .axes) (x .items) (x .program) rule xs e (ap (λ (d : Held). d .records) q ∙ sym (x .count)))

@@ -2,13 +2,12 @@
 use Prim.Native.Nat.{ℕ, zero, suc, _+_, _-_, _<_, _≤_}
 use mathlib.Core.Path.{_≡_, refl, ap, sym, _∙_}
 use mathlib.Core.Bool.{Bool, true, false, _&&_}
-use mathlib.Core.List.{List}
 use mathlib.Core.Logic.{_⊎_, inl, inr}
 use native.Mathlib.Numerals.{sub-one}
 use native.Mathlib.Omega.{arith}
 use lib.Dec.{ltb, leb, eqb}
 use lib.ListN.{getD}
-use borrow.Author.Tests.{leb-false, leb-true, eqb-true}
+use borrow.Author.Tests.{ltb-true, leb-true, eqb-true}
 use Rattle.count.specs.Pick.{pick}
 use Rattle.count.specs.Numbers.{signed}
 use Rattle.count.specs.Ranges.{nth, inDelay, inCharacter, inOffset}
@@ -32,7 +31,9 @@ use Rattle.record.specs.declared.Spot.the-variants as spot
 use Rattle.record.specs.Fault.{rangesRight, isMovement, isAbsolute}
 use Rattle.record.specs.Bytes.{Fetch, isRight}
 use Rattle.record.specs.Bytes.Fetch.{Got, End, Wrong}
-use Rattle.record.specs.Places.{answered, spotFrom, spotOf, recordFrom, recordAt, fetchOf, inUse}
+use Rattle.record.specs.Memory.{Memory}
+use Rattle.record.specs.Places.{answered, recordAt}
+use Rattle.record.specs.Table.{spotOf, recordFrom, fetchOf}
 use Rattle.record.proofs.laws.Walk.{front-stands}
 use lib.IntN.{ℤ}
 use Rattle.program.specs.declared.Loops.{Loops}
@@ -98,25 +99,22 @@ pub record Stood (h : Held) (place : ℕ) (r : Record) : Type 0 where
   pub below : place < h .records
   pub right : isRight (h .axes) r ≡ true
 
-module _ (h : Held) (s : List ℕ) (place : ℕ) {r : Record} where
-  found-right : (x : Spot) → recordFrom x h s ≡ Got r → isRight (h .axes) r ≡ true
+module _ (h : Held) (m : Memory) (place : ℕ) {r : Record} where
+  found-right : (x : Spot) → recordFrom x h (m .store) ≡ Got r → isRight (h .axes) r ≡ true
   unfolding recordAt
   found-right (spot.At at) e = front-stands (h .axes) _ e .right
-  found-right spot.End e = let z : _≡_ {A = ℕ} 0 1 = cc in absurd (omega arith)
   found-right spot.Wrong e = let z : _≡_ {A = ℕ} 0 1 = cc in absurd (omega arith)
 
-  found-below : (a b : Bool) (x : Spot) → ltb (h .records) place ≡ a → leb (h .records) place ≡ b
-      → recordFrom (pick a spot.Wrong (pick b spot.End x)) h s ≡ Got r → place < h .records
-  found-below true b x p q e = let z : _≡_ {A = ℕ} 0 1 = cc in absurd (omega arith)
-  found-below false true x p q e = let z : _≡_ {A = ℕ} 0 1 = cc in absurd (omega arith)
-  found-below false false x p q e = omega (arith, leb-false (h .records) place q)
+  -- no place from the end place on is found
+  found-by : (a b : Bool) (x y : Spot) → ltb place (h .records) ≡ a → eqb place (h .records) ≡ b
+      → pick b End (recordFrom (pick a x (pick b y spot.Wrong)) h (m .store)) ≡ Got r → Stood h place r
+  found-by a true x y p q e = let z : _≡_ {A = ℕ} 0 1 = cc in absurd (omega arith)
+  found-by true false x y p q e = record { below = ltb-true place (h .records) p; right = found-right x e }
+  found-by false false x y p q e = let z : _≡_ {A = ℕ} 0 1 = cc in absurd (omega arith)
 
-  pub stood : fetchOf h s place ≡ Got r → Stood h place r
+  pub stood : fetchOf h m place ≡ Got r → Stood h place r
   unfolding fetchOf spotOf
-  stood e = record {
-    below = found-below (ltb (h .records) place) (leb (h .records) place) (spotFrom (h .axes) place (inUse h s) 0) refl refl e;
-    right = found-right (spotOf h s place) e;
-  }
+  stood e = found-by (ltb place (h .records)) (eqb place (h .records)) _ _ refl refl e
 
 -- ---- the first word of a right record
 
@@ -140,10 +138,10 @@ module _ (axes : ℕ) (r : Record) (h : isRight axes r ≡ true) where
     pauses = λ e. delay-small (getD (r .words) 0 0) (right-at 53 e);
   }
 
-pub ready-fits : (h : Held) (s : List ℕ) (place : ℕ) {f : Fetched} → f ≡ answered (fetchOf h s place) → f .found ≡ found.Right → h .records ≤ 65535
+pub ready-fits : (h : Held) (m : Memory) (place : ℕ) {f : Fetched} → f ≡ answered (fetchOf h m place) → f .found ≡ found.Right → h .records ≤ 65535
     → (place < 65535) × Fits (f .item)
-ready-fits h s place {f} e p l =
-    let g = stood h s place (got (fetchOf h s place) e p) in
+ready-fits h m place {f} e p l =
+    let g = stood h m place (got (fetchOf h m place) e p) in
     (omega (arith, g .below), fits (h .axes) (f .item) (g .right))
 
 -- ---- a movement is told by two codes

@@ -5,7 +5,7 @@ use mathlib.Core.List.{List, [], _∷_, _++_}
 use mathlib.Core.Bool.{Bool, true, false, _&&_}
 use native.Mathlib.Numerals.{sub-one, add-one}
 use native.Mathlib.Omega.{arith}
-use borrow.Author.Tests.{leb-true, eq-eqb, ne-eqb}
+use borrow.Author.Tests.{leb-true, le-leb, eq-eqb, ne-eqb}
 use lib.Dec.{leb, eqb}
 use lib.ListN.{length, getD, take, drop, set}
 use lib.Seq.{take-all, drop-drop, paste, paste-suc}
@@ -128,7 +128,7 @@ module _ (h : Held) (m : Memory) where
       unfolding fillOf
       is-G c = rw (eq-eqb (length (m .store)) 16384 p, eq-eqb (length (m .table)) 1000 q, c)
 
-      is-0 : canFill h (m .store) ≡ true → filling 0 (filled h m) ≡ fillOf h m
+      pub is-0 : canFill h (m .store) ≡ true → filling 0 (filled h m) ≡ fillOf h m
       unfolding fillOf
       is-0 c = rw (eq-eqb (length (m .store)) 16384 p, eq-eqb (length (m .table)) 1000 q, c)
 
@@ -138,6 +138,11 @@ can-parts h s e =
     let o = and-parts (leb (h .used) 16384 && leb (h .records) 1000) (readableOf h s) e in
     let p = and-parts (leb (h .used) 16384) (leb (h .records) 1000) (o .0) in
     (leb-true (h .used) 16384 (p .0), leb-true (h .records) 1000 (p .1), o .1)
+
+-- a program that a store can hold
+pub can-fill : (h : Held) (s : List ℕ) (l : List Record) → h .used ≤ 16384 → h .records ≤ 1000 → recordsOf h s ≡ are l → canFill h s ≡ true
+unfolding canFill readableOf
+can-fill h s l u n e = rw (le-leb (h .used) 16384 u, le-leb (h .records) 1000 n, e)
 
 module _ (h : Held) (m : Memory) (c : canFill h (m .store) ≡ true) {e : ℕ} (p : e ≡ length (inUse h (m .store))) where
   pub fill-ready : (isList (recordsFrom (h .axes) (h .records) (take e (m .store))) ≡ true) × (h .records ≤ 1000) × (length (take e (m .store)) ≤ 65535)

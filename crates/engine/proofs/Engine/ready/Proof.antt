@@ -1,5 +1,6 @@
 -- `engine::Engine::ready` meets its contract. Assumes nothing.
-use Rattle.record.specs.Places.{fetchOf}
+use Rattle.record.specs.Memory.{memory}
+use Rattle.record.specs.Table.{fetchOf}
 use Rattle.engine.proofs.laws.Work.{got, got-end, got-wrong}
 use native.Mathlib.Omega.{arith}
 use Rattle.engine.proofs.laws.Work.{ready-fits}
@@ -29,13 +30,13 @@ fail-requires : tie.Need-fail-requires
 fail-requires c κs = search needs
 
 returns : tie.Need-returns
-returns c = simp (got (fetchOf (c .before .before .before .before .before .before .before .args .self .held) (c .before .before .before .before .before .before .before .args .store .now) (c .before .before .before .before .before .before .before .args .self .run .place)) (c .before .before .before .before .fetch .ensures) (c .before .before .enum-told .given .1), c .perform .ensures)
+returns c = simp (got (fetchOf (c .before .before .before .before .before .before .before .before .args .self .held) (memory (c .before .before .before .before .before .before .before .before .args .store .now) (c .before .before .before .before .before .before .before .before .args .table .now)) (c .before .before .before .before .before .before .before .before .args .self .run .place)) (c .before .before .before .before .fetch .ensures) (c .before .before .enum-told .given .1), c .perform .ensures)
 
 returns-2 : tie.Need-returns-2
-returns-2 c = simp (got-end (fetchOf (c .before .before .before .before .before .before .args .self .held) (c .before .before .before .before .before .before .args .store .now) (c .before .before .before .before .before .before .args .self .run .place)) (c .before .before .before .fetch .ensures) (c .before .enum-told2 .given .1), c .finish .ensures)
+returns-2 c = simp (got-end (fetchOf (c .before .before .before .before .before .before .before .args .self .held) (memory (c .before .before .before .before .before .before .before .args .store .now) (c .before .before .before .before .before .before .before .args .table .now)) (c .before .before .before .before .before .before .before .args .self .run .place)) (c .before .before .before .fetch .ensures) (c .before .enum-told2 .given .1), c .finish .ensures)
 
 returns-3 : tie.Need-returns-3
-returns-3 c = simp (got-wrong (fetchOf (c .before .before .before .before .before .before .args .self .held) (c .before .before .before .before .before .before .args .store .now) (c .before .before .before .before .before .before .args .self .run .place)) (c .before .before .before .fetch .ensures) (c .before .enum-told3 .given .1), c .fail .ensures)
+returns-3 c = simp (got-wrong (fetchOf (c .before .before .before .before .before .before .before .args .self .held) (memory (c .before .before .before .before .before .before .before .args .store .now) (c .before .before .before .before .before .before .before .args .table .now)) (c .before .before .before .before .before .before .before .args .self .run .place)) (c .before .before .before .fetch .ensures) (c .before .enum-told3 .given .1), c .fail .ensures)
 
 pub ready-spec : {M : Type 1} → statement M
 ready-spec =

@@ -6,6 +6,7 @@ use crate::motion::{Move, Point, Pulse};
 use crate::number::all_in_24_bits;
 use crate::receive::{BREAK, RESET, RETURN, STOP};
 use crate::record::STORE;
+use crate::table::TABLE;
 
 impl Board {
     /// Behind a pulse that a clock call has made: makes those that are left of its phase, at most `most` and as
@@ -24,23 +25,23 @@ impl Board {
     /// A clock call that tests a movement and makes its next pulse from the same products. What it doesn't
     /// answer so, `clock` answers.
     #[inline]
-    pub fn stride(&mut self, store: &[u8]) -> Result<Answer, Refusal> {
+    pub fn stride(&mut self, store: &[u8], table: &[u16]) -> Result<Answer, Refusal> {
         let moves = !self.standing && matches!(self.job, Job::Direct(_) | Job::Moving(_));
-        if moves && store.len() == STORE && self.right(false) {
+        if moves && store.len() == STORE && table.len() == TABLE && self.right(false) {
             if let Job::Direct(movement) | Job::Moving(movement) = &mut self.job {
                 if let Some(pulse) = movement.tested_pulse(&mut self.position) {
                     return Ok(Answer::Pulse(pulse));
                 }
             }
         }
-        self.clock(store)
+        self.clock(store, table)
     }
 
     /// Takes the bytes at the front that only lengthen the line, if lines are gathered, and says how many.
     #[inline]
-    pub fn take(&mut self, bytes: &[u8], store: usize) -> usize {
+    pub fn take(&mut self, bytes: &[u8], store: usize, table: usize) -> usize {
         let gathers = self.standing || matches!(self.job, Job::Idle | Job::Storing);
-        if !gathers || self.callable(store).is_err() {
+        if !gathers || self.callable(store, table).is_err() {
             return 0;
         }
         let ends = |byte: &u8| matches!(*byte, RETURN | STOP | RESET | BREAK);

@@ -3,6 +3,7 @@
 use crate::motion::{Move, Point, Pulse};
 use crate::number::all_in_24_bits;
 use crate::record::{RECORDS, STORE};
+use crate::table::TABLE;
 
 #[derive(Clone, Copy, PartialEq, Eq, Debug)]
 pub enum Job {
@@ -60,11 +61,12 @@ pub enum Answer {
     Nothing,
 }
 
-/// A refused call: 101, 102, 103, 106, or 71 (the letter G) from the lister.
+/// A refused call: 101, 102, 103, 104, 106, or 71 (the letter G) from the lister and the filling of a table.
 pub type Refusal = u8;
 pub const REPLY_SHORT: Refusal = 101;
 pub const STORE_WRONG: Refusal = 102;
 pub const STATE_WRONG: Refusal = 103;
+pub const TABLE_WRONG: Refusal = 104;
 pub const TEXT_SHORT: Refusal = 106;
 pub const UNREADABLE: Refusal = b'G';
 
@@ -97,9 +99,22 @@ impl Board {
         !self.standing && !matches!(self.job, Job::Idle | Job::Storing | Job::Wait(..))
     }
 
-    /// The refusals 102 and 103, in this order.
+    /// The refusals 102, 103 and 104, in this order.
     #[inline]
-    pub(crate) fn callable(&self, store: usize) -> Result<(), Refusal> {
+    pub(crate) fn callable(&self, store: usize, table: usize) -> Result<(), Refusal> {
+        if cfg!(slip_table_first) && store == STORE && table != TABLE {
+            return Err(TABLE_WRONG);
+        }
+        self.callable_without_table(store)?;
+        if table != TABLE {
+            return Err(TABLE_WRONG);
+        }
+        Ok(())
+    }
+
+    /// The refusals 102 and 103, in this order: all that a call has which needs no table.
+    #[inline]
+    pub(crate) fn callable_without_table(&self, store: usize) -> Result<(), Refusal> {
         if store != STORE {
             return Err(STORE_WRONG);
         }

@@ -12,14 +12,15 @@ impl Board {
         ports: Ports,
         reply: &mut [u8],
         store: &mut [u8],
+        table: &mut [u16],
     ) -> (Board, Result<usize, Refusal>) {
-        let len = self.receive(byte, ports, reply, store);
+        let len = self.receive(byte, ports, reply, store, table);
         (self, len)
     }
 
     #[inline(never)]
-    pub fn clock_by_value(mut self, store: &[u8]) -> (Board, Result<Answer, Refusal>) {
-        let answer = self.clock(store);
+    pub fn clock_by_value(mut self, store: &[u8], table: &[u16]) -> (Board, Result<Answer, Refusal>) {
+        let answer = self.clock(store, table);
         (self, answer)
     }
 
@@ -31,22 +32,23 @@ impl Board {
         ports: Ports,
         reply: &mut [u8],
         store: &mut [u8],
+        table: &mut [u16],
     ) -> Result<usize, Refusal> {
         if !cfg!(by_value) {
-            return self.receive(byte, ports, reply, store);
+            return self.receive(byte, ports, reply, store, table);
         }
-        let (next, len) = self.receive_by_value(byte, ports, reply, store);
+        let (next, len) = self.receive_by_value(byte, ports, reply, store, table);
         *self = next;
         len
     }
 
     /// A clock call in the same way.
     #[inline]
-    pub fn tick(&mut self, store: &[u8]) -> Result<Answer, Refusal> {
+    pub fn tick(&mut self, store: &[u8], table: &[u16]) -> Result<Answer, Refusal> {
         if !cfg!(by_value) {
-            return self.clock(store);
+            return self.clock(store, table);
         }
-        let (next, answer) = self.clock_by_value(store);
+        let (next, answer) = self.clock_by_value(store, table);
         *self = next;
         answer
     }

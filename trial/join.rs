@@ -3,9 +3,10 @@
 //! Offsets count from their own records and so mean the same behind other ones: no byte is altered. The
 //! first one's end place is where the second one starts.
 
-use crate::board::{Refusal, STORE_WRONG};
+use crate::board::{Refusal, STORE_WRONG, TABLE_WRONG};
 use crate::check::{check, Verdict};
 use crate::record::{self, Record, RECORDS, STORE};
+use crate::table::{write_starts, TABLE};
 
 pub const AXES_WRONG: Refusal = b'3';
 pub const NOT_ACCEPTED: Refusal = b'G';
@@ -19,11 +20,20 @@ pub struct Part {
     pub axes: u8,
 }
 
-/// Changes the bytes behind the first one's to the second one's, and answers what is then in use. A refusal
-/// leaves the store as it was.
-pub fn join(store: &mut [u8], first: Part, other: &[u8], second: Part) -> Result<Part, Refusal> {
+/// Changes the bytes behind the first one's to the second one's, writes where every record of the two starts, and
+/// answers what is then in use. A refusal leaves the store and the table as they were.
+pub fn join(
+    store: &mut [u8],
+    table: &mut [u16],
+    first: Part,
+    other: &[u8],
+    second: Part,
+) -> Result<Part, Refusal> {
     if store.len() != STORE || other.len() != STORE {
         return Err(STORE_WRONG);
+    }
+    if table.len() != TABLE {
+        return Err(TABLE_WRONG);
     }
     let axes = axes(first, second).ok_or(AXES_WRONG)?;
     if cfg!(slip_join_room_first) && !room(first, second) {
@@ -36,13 +46,16 @@ pub fn join(store: &mut [u8], first: Part, other: &[u8], second: Part) -> Result
     if !room(first, second) {
         return Err(NO_ROOM);
     }
-    let (used, records) = (first.used + second.used, first.records + second.records);
-    let behind = &mut store[first.used as usize..used as usize];
+    let joined = Part { used: first.used + second.used, records: first.records + second.records, axes };
+    let behind = &mut store[first.used as usize..joined.used as usize];
     behind.copy_from_slice(&other[..second.used as usize]);
     if cfg!(slip_join_moved) {
         move_offsets(behind, second, first.records);
     }
-    Ok(Part { used, records, axes })
+    if !cfg!(slip_join_no_table) {
+        write_starts(store, joined, table);
+    }
+    Ok(joined)
 }
 
 /// The axes that both parts count as of, if these are the same and allowed. Those of an empty part are not

@@ -15,3 +15,4 @@ pub mod receive;
 pub mod record;
 pub mod run;
 pub mod sheet;
+pub mod table;

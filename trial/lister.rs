@@ -8,7 +8,7 @@ pub const TEXT: usize = 32_768;
 impl Board {
     /// Writes the listing and answers its length; a refused call writes nothing.
     pub fn list(&self, store: &[u8], text: &mut [u8]) -> Result<usize, Refusal> {
-        self.callable(store.len())?;
+        self.callable_without_table(store.len())?;
         if text.len() < TEXT {
             return Err(TEXT_SHORT);
         }

@@ -4,16 +4,18 @@
 //! follow it until one answers nothing.
 
 use std::io::{self, Read};
-use trial::board::{Answer, Board, Job};
+use trial::board::{Answer, Board, Job, Refusal};
 use trial::lister::TEXT;
 use trial::record::STORE;
 use trial::sheet::{self, Axis, Speed};
+use trial::table::TABLE;
 
 const LIMIT: u32 = 100_000;
 
 struct Pace {
     board: Board,
     store: Vec<u8>,
+    table: Vec<u16>,
     text: Vec<u8>,
     calls: u64,
     sum: u64,
@@ -39,15 +41,13 @@ impl Pace {
 
     fn receive(&mut self, byte: u8) {
         let mut reply = [0u8; 32];
-        let len = self.board.hear(byte, [0; 4], &mut reply, &mut self.store).unwrap_or(0);
+        let len = self.board.hear(byte, [0; 4], &mut reply, &mut self.store, &mut self.table).unwrap_or(0);
         self.count(1, len as u64);
     }
 
     fn run(&mut self) {
         for _ in 0..LIMIT {
-            let answer =
-                if cfg!(batched) { self.board.stride(&self.store) } else { self.board.tick(&self.store) };
-            let weight = match answer {
+            let weight = match self.tick() {
                 Ok(Answer::Pulse(pulse)) => 3 + pulse.speed as u64,
                 Ok(Answer::Pause) => 1,
                 Ok(Answer::Send(byte)) => 1 + byte as u64,
@@ -58,6 +58,14 @@ impl Pace {
             if weight == 0 {
                 return;
             }
+        }
+    }
+
+    fn tick(&mut self) -> Result<Answer, Refusal> {
+        if cfg!(batched) {
+            self.board.stride(&self.store, &self.table)
+        } else {
+            self.board.tick(&self.store, &self.table)
         }
     }
 
@@ -87,8 +95,8 @@ fn value(converted: Result<i32, u8>) -> u64 {
 }
 
 fn main() -> io::Result<()> {
-    let mut pace =
-        Pace { board: Board::fresh(), store: vec![0; STORE], text: vec![0; TEXT], calls: 0, sum: 0 };
+    let (store, table, text) = (vec![0; STORE], vec![0; TABLE], vec![0; TEXT]);
+    let mut pace = Pace { board: Board::fresh(), store, table, text, calls: 0, sum: 0 };
     let mut input = Vec::new();
     io::stdin().lock().take(65_536).read_to_end(&mut input)?;
     for &byte in &input {

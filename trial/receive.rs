@@ -15,6 +15,12 @@ pub(crate) const RETURN: u8 = 13;
 /// The levels of the four input ports.
 pub type Ports = [u8; 4];
 
+/// The buffers that a stored record is written to: its bytes, and where they start.
+struct Kept<'a> {
+    store: &'a mut [u8],
+    table: &'a mut [u16],
+}
+
 /// A line's outcome: the length of the reply that is written, or a character that refuses it.
 type Outcome = Result<usize, u8>;
 
@@ -39,16 +45,18 @@ impl Board {
         ports: Ports,
         reply: &mut [u8],
         store: &mut [u8],
+        table: &mut [u16],
     ) -> Result<usize, Refusal> {
         if reply.len() < 32 {
             return Err(REPLY_SHORT);
         }
-        self.callable(store.len())?;
+        self.callable(store.len(), table.len())?;
+        let kept = Kept { store, table };
         Ok(match byte {
             STOP => self.stop(reply),
             RESET => self.reset(),
             BREAK => self.break_off(reply),
-            _ => self.ordinary(byte, ports, reply, store),
+            _ => self.ordinary(byte, ports, reply, kept),
         })
     }
 
@@ -84,10 +92,10 @@ impl Board {
         say(reply, b'F')
     }
 
-    fn ordinary(&mut self, byte: u8, ports: Ports, reply: &mut [u8], store: &mut [u8]) -> usize {
+    fn ordinary(&mut self, byte: u8, ports: Ports, reply: &mut [u8], kept: Kept) -> usize {
         match self.job {
-            _ if self.standing => self.gather(byte, ports, reply, store),
-            Job::Idle | Job::Storing => self.gather(byte, ports, reply, store),
+            _ if self.standing => self.gather(byte, ports, reply, kept),
+            Job::Idle | Job::Storing => self.gather(byte, ports, reply, kept),
             Job::Wait(character, target) => {
                 if byte == character {
                     self.place = target;
@@ -99,9 +107,9 @@ impl Board {
         }
     }
 
-    fn gather(&mut self, byte: u8, ports: Ports, reply: &mut [u8], store: &mut [u8]) -> usize {
+    fn gather(&mut self, byte: u8, ports: Ports, reply: &mut [u8], kept: Kept) -> usize {
         if byte == RETURN {
-            return self.end_line(ports, reply, store);
+            return self.end_line(ports, reply, kept);
         }
         if (self.len as usize) < self.line.len() {
             self.line[self.len as usize] = byte;
@@ -112,23 +120,23 @@ impl Board {
         0
     }
 
-    fn end_line(&mut self, ports: Ports, reply: &mut [u8], store: &mut [u8]) -> usize {
+    fn end_line(&mut self, ports: Ports, reply: &mut [u8], kept: Kept) -> usize {
         let (text, len, over) = (self.line, self.len as usize, self.over);
         self.clear_line();
         let outcome = if over {
             Err(b'5')
         } else if self.job == Job::Storing && !self.standing {
-            self.storing_line(&text[..len], reply, store)
+            self.storing_line(&text[..len], reply, kept)
         } else {
             self.direct_line(&text[..len], ports, reply)
         };
         outcome.unwrap_or_else(|refused| say(reply, refused))
     }
 
-    fn storing_line(&mut self, text: &[u8], reply: &mut [u8], store: &mut [u8]) -> Outcome {
+    fn storing_line(&mut self, text: &[u8], reply: &mut [u8], kept: Kept) -> Outcome {
         let Line { letter: code, numbers } = line::storing(text).ok_or(b'5')?;
         if code == b'9' {
-            return self.end_storing(reply, store);
+            return self.end_storing(reply, kept.store);
         }
         let count = record::count_for(code, self.store_axes).ok_or(b'7')?;
         refuse_if(numbers.count != count, b'7')?;
@@ -136,9 +144,10 @@ impl Board {
         if let Some(refused) = record::refusal(code, self.store_axes, record.numbers()) {
             return Err(refused);
         }
-        let end = self.used as usize + record.length();
+        let (start, end) = (self.used as usize, self.used as usize + record.length());
         refuse_if(self.records >= RECORDS || end > STORE, b'6')?;
-        record.write(&mut store[self.used as usize..end]);
+        record.write(&mut kept.store[start..end]);
+        kept.table[self.records as usize] = if cfg!(slip_entry_after) { end } else { start } as u16;
         self.used = end as u32;
         self.records += 1;
         Ok(say(reply, b'0'))

@@ -1,4 +1,4 @@
-//! Records of the store: which are right, their bytes, and finding one from the front.
+//! Records of the store: which are right, their bytes, finding one by the table, and all of them from the front.
 
 use crate::number::in_24_bits;
 
@@ -100,7 +100,7 @@ pub fn read(store: &[u8], used: usize, axes: u8, at: usize) -> Option<Record> {
     refusal(code, axes, record.numbers()).is_none().then_some(record)
 }
 
-/// Where the next record starts.
+/// Where the next record starts, for the slips.
 fn next(store: &[u8], used: usize, at: usize, record: &Record) -> usize {
     if cfg!(slip_mark_search) {
         let part = store[..used].get(at + 2..).unwrap_or(&[]);
@@ -109,8 +109,17 @@ fn next(store: &[u8], used: usize, at: usize, record: &Record) -> usize {
     at + record.length()
 }
 
-/// The record at a place, if it and all before it are right.
-pub fn find(store: &[u8], used: usize, axes: u8, place: u32) -> Option<Record> {
+/// The record at a place below 1,000: the one at the byte that the table names, if it is right. Those before it
+/// are not looked at.
+pub fn find(store: &[u8], used: usize, axes: u8, table: &[u16], place: u32) -> Option<Record> {
+    if cfg!(any(slip_mark_search, slip_passed_read)) {
+        return find_from_the_front(store, used, axes, place);
+    }
+    read(store, used, axes, table[place as usize] as usize)
+}
+
+/// The slips: the record at a place, if it and all before it are right, whatever the table says.
+fn find_from_the_front(store: &[u8], used: usize, axes: u8, place: u32) -> Option<Record> {
     let mut at = 0;
     let mut record = read(store, used, axes, at)?;
     for _ in 0..place {

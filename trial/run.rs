@@ -13,10 +13,10 @@ enum End {
 }
 
 impl Board {
-    /// Answers what this tick of the clock does; the store is only read.
+    /// Answers what this tick of the clock does; the store and the table are only read.
     #[inline]
-    pub fn clock(&mut self, store: &[u8]) -> Result<Answer, Refusal> {
-        self.callable(store.len())?;
+    pub fn clock(&mut self, store: &[u8], table: &[u16]) -> Result<Answer, Refusal> {
+        self.callable(store.len(), table.len())?;
         if self.standing {
             return Ok(Answer::Nothing);
         }
@@ -28,9 +28,9 @@ impl Board {
             },
             Job::Moving(movement) => match movement.pulse(&mut self.position) {
                 Some(pulse) => Answer::Pulse(pulse),
-                None => self.next_record(store),
+                None => self.next_record(store, table),
             },
-            Job::Ready => self.next_record(store),
+            Job::Ready => self.next_record(store, table),
             Job::Delay(0) => {
                 self.job = Job::Ready;
                 Answer::Pause
@@ -42,8 +42,8 @@ impl Board {
         })
     }
 
-    fn next_record(&mut self, store: &[u8]) -> Answer {
-        match self.run_record(store) {
+    fn next_record(&mut self, store: &[u8], table: &[u16]) -> Answer {
+        match self.run_record(store, table) {
             Ok(answer) => answer,
             Err(end) => self.end(end),
         }
@@ -60,14 +60,15 @@ impl Board {
         }
     }
 
-    fn run_record(&mut self, store: &[u8]) -> Result<Answer, End> {
+    fn run_record(&mut self, store: &[u8], table: &[u16]) -> Result<Answer, End> {
         if self.place == self.records {
+            self.look_up_the_end(table)?;
             return Err(End::Sent(b'0'));
         }
         if self.place > self.records {
             return Err(End::Broken);
         }
-        let found = record::find(store, self.used as usize, self.store_axes, self.place);
+        let found = record::find(store, self.used as usize, self.store_axes, table, self.place);
         let record = found.ok_or(End::Broken)?;
         let first = record.values[0];
         match record.code {
@@ -93,6 +94,14 @@ impl Board {
         }
         self.go_on(Job::Ready);
         Ok(Answer::Done)
+    }
+
+    /// A planted slip: the end place is looked up too, where the table has an entry for it.
+    fn look_up_the_end(&self, table: &[u16]) -> Result<(), End> {
+        match table.get(self.place as usize) {
+            Some(&start) if cfg!(slip_end_looked_up) && u32::from(start) != self.used => Err(End::Broken),
+            _ => Ok(()),
+        }
     }
 
     /// Sets the job, with the next record to run after it.

@@ -3,22 +3,34 @@
 use crate::host;
 use std::io::{self, Write};
 use trial::board::{Answer, Board, Refusal};
+use trial::join::Part;
 use trial::lister::TEXT;
 use trial::number::{push_decimal, whole};
 use trial::receive::Ports;
 use trial::record::STORE;
+use trial::table::{fill, TABLE};
 
-/// The longest buffer that M and R lend.
+/// The longest buffer that M and R lend, and the longest table that U lends.
 const LENT: i64 = 65_536;
+const LENT_TABLE: i64 = 2_000;
 /// The longest line that can be right.
 const LINE: usize = 64;
+
+/// The buffers that a call is lent.
+struct Lent<'a> {
+    reply: &'a mut [u8],
+    store: &'a mut [u8],
+    table: &'a mut [u16],
+}
 
 pub struct Calls {
     board: Board,
     ports: Ports,
     store: Vec<u8>,
+    table: Vec<u16>,
     /// The lengths that the next call is lent.
     next_store: Option<usize>,
+    next_table: Option<usize>,
     next_reply: Option<usize>,
     /// Whether the last Q printed `Q more`.
     more: bool,
@@ -33,7 +45,9 @@ impl Calls {
             board: Board::fresh(),
             ports: [0; 4],
             store: vec![0; STORE],
+            table: vec![0; TABLE],
             next_store: None,
+            next_table: None,
             next_reply: None,
             more: false,
             ended: false,
@@ -75,13 +89,17 @@ impl Calls {
             ("C", &[n]) => (0..u32::try_from(n).ok()?).for_each(|_| self.clock()),
             ("Q", &[n]) => self.run_until_quiet(u32::try_from(n).ok()?),
             ("E", &[]) => self.ended = self.more,
-            ("N", &[v]) => self.mark(u32::try_from(v).ok()?),
+            ("N", &[v]) => self.show("N", i64::from(u32::try_from(v).ok()?)),
             ("W", &[at, v]) => *self.store.get_mut(usize::try_from(at).ok()?)? = byte(v)?,
             ("K", &[used, records, axes]) => self.set_store(used, records, axes)?,
-            ("M", &[n]) => self.next_store = Some(lent(n)?),
-            ("R", &[n]) => self.next_reply = Some(lent(n)?),
+            ("T", &[at, v]) => *self.table.get_mut(usize::try_from(at).ok()?)? = half(v)?,
+            ("V", &[at]) => self.show("V", i64::from(*self.table.get(usize::try_from(at).ok()?)?)),
+            ("M", &[n]) => self.next_store = Some(lent(n, LENT)?),
+            ("R", &[n]) => self.next_reply = Some(lent(n, LENT)?),
+            ("U", &[n]) => self.next_table = Some(lent(n, LENT_TABLE)?),
             ("S", &[]) => host::push_state(&mut self.out, &self.board),
             ("L", &[]) => self.list(),
+            ("F", &[]) => self.fill(),
             _ => return None,
         }
         Some(())
@@ -95,19 +113,25 @@ impl Calls {
         Some(())
     }
 
-    /// Makes a call with the store and reply lengths that M and R asked for.
-    fn lend<T>(&mut self, call: impl FnOnce(&mut Board, &mut [u8], &mut [u8]) -> T) -> T {
-        let mut reply = vec![0u8; self.next_reply.take().unwrap_or(32)];
-        match self.next_store.take() {
-            Some(n) if n != STORE => call(&mut self.board, &mut reply, &mut vec![0; n]),
-            _ => call(&mut self.board, &mut reply, &mut self.store),
-        }
+    /// Makes a call with the lengths of the store, the reply and the table that M, R and U asked for. A table of
+    /// another length has the entries of the table as far as it goes, and 0 behind them.
+    fn lend<T>(&mut self, call: impl FnOnce(&mut Board, Lent) -> T) -> T {
+        let reply = &mut vec![0u8; self.next_reply.take().unwrap_or(32)][..];
+        let mut other_store = self.next_store.take().filter(|&n| n != STORE).map(|n| vec![0; n]);
+        let mut other_table = self.next_table.take().filter(|&n| n != TABLE).map(|n| {
+            let mut entries = self.table.clone();
+            entries.resize(n, 0);
+            entries
+        });
+        let store = other_store.as_mut().unwrap_or(&mut self.store);
+        let table = other_table.as_mut().unwrap_or(&mut self.table);
+        call(&mut self.board, Lent { reply, store, table })
     }
 
     fn receive(&mut self, byte: u8) {
         let ports = self.ports;
-        let answer = self.lend(|board, reply, store| {
-            board.receive(byte, ports, reply, store).map(|len| reply[..len].to_vec())
+        let answer = self.lend(|board, Lent { reply, store, table }| {
+            board.receive(byte, ports, reply, store, table).map(|len| reply[..len].to_vec())
         });
         self.out.extend_from_slice(b"B ");
         match answer {
@@ -124,7 +148,7 @@ impl Calls {
     }
 
     fn clock_call(&mut self) -> Result<Answer, Refusal> {
-        self.lend(|board, _, store| board.clock(store))
+        self.lend(|board, lent| board.clock(lent.store, lent.table))
     }
 
     /// At most n clock calls, then one that is tried and taken back, until one is quiet.
@@ -149,8 +173,8 @@ impl Calls {
         quiet
     }
 
-    /// Whether one more clock call would be quiet. It may use up what M and R lent, and leaves no
-    /// other trace: a clock call only reads the store.
+    /// Whether one more clock call would be quiet. It may use up what M, R and U lent, and leaves no
+    /// other trace: a clock call only reads the store and the table.
     fn would_be_quiet(&mut self) -> bool {
         let before = self.board;
         let answer = self.clock_call();
@@ -158,15 +182,36 @@ impl Calls {
         quiet(&answer)
     }
 
-    fn mark(&mut self, v: u32) {
-        self.out.extend_from_slice(b"N ");
-        push_decimal(&mut self.out, v as i64);
+    /// A letter and a number.
+    fn show(&mut self, letter: &str, v: i64) {
+        self.out.extend_from_slice(letter.as_bytes());
+        self.out.push(b' ');
+        push_decimal(&mut self.out, v);
         self.out.push(b'\n');
+    }
+
+    fn fill(&mut self) {
+        let answer = self.lend(|board, Lent { store, table, .. }| {
+            let part = Part { used: board.used, records: board.records, axes: board.store_axes };
+            fill(store, part, table)
+        });
+        match answer {
+            Ok(()) => self.show("F", 0),
+            Err(refusal) => self.refuse("F", refusal),
+        }
+    }
+
+    /// A call's letter and its refusal: a number, or the letter G.
+    fn refuse(&mut self, letter: &str, refusal: Refusal) {
+        match refusal {
+            b'G' => self.out.extend_from_slice(format!("{letter} G\n").as_bytes()),
+            _ => self.show(letter, refusal.into()),
+        }
     }
 
     fn list(&mut self) {
         let mut text = vec![0u8; TEXT];
-        let answer = self.lend(|board, _, store| board.list(store, &mut text));
+        let answer = self.lend(|board, lent| board.list(lent.store, &mut text));
         match answer {
             Ok(len) => {
                 for line in text[..len].split_inclusive(|&b| b == 13) {
@@ -175,12 +220,7 @@ impl Calls {
                     self.out.push(b'\n');
                 }
             }
-            Err(b'G') => self.out.extend_from_slice(b"L G\n"),
-            Err(refusal) => {
-                self.out.extend_from_slice(b"L ");
-                push_decimal(&mut self.out, refusal as i64);
-                self.out.push(b'\n');
-            }
+            Err(refusal) => self.refuse("L", refusal),
         }
     }
 }
@@ -224,6 +264,6 @@ pub fn half(v: i64) -> Option<u16> {
     v.try_into().ok()
 }
 
-fn lent(n: i64) -> Option<usize> {
-    (0..=LENT).contains(&n).then_some(n as usize)
+fn lent(n: i64, most: i64) -> Option<usize> {
+    (0..=most).contains(&n).then_some(n as usize)
 }

@@ -9,6 +9,7 @@ use rng::Rng;
 use std::io::{self, Read, Write};
 use trial::board::{Board, Job};
 use trial::record::STORE;
+use trial::table::TABLE;
 
 /// Answers followed of a run; one without end is compared as far as this.
 const FOLLOWED: u64 = 400;
@@ -17,12 +18,13 @@ const FOLLOWED: u64 = 400;
 struct Guide {
     board: Board,
     store: Vec<u8>,
+    table: Vec<u16>,
     out: Vec<u8>,
 }
 
 impl Guide {
     fn byte(&mut self, v: u8) {
-        let _ = self.board.receive(v, [0; 4], &mut [0; 32], &mut self.store);
+        let _ = self.board.receive(v, [0; 4], &mut [0; 32], &mut self.store, &mut self.table);
         let _ = writeln!(self.out, "B {v}");
     }
 
@@ -35,7 +37,7 @@ impl Guide {
 
     fn clocks(&mut self, n: u32) {
         for _ in 0..n {
-            let _ = self.board.clock(&self.store);
+            let _ = self.board.clock(&self.store, &self.table);
         }
         let _ = writeln!(self.out, "C {n}");
     }
@@ -138,7 +140,8 @@ fn stand(guide: &mut Guide, rng: &mut Rng) {
 
 fn emit(seed: u64, count: u64) -> io::Result<()> {
     let mut rng = Rng::new(seed);
-    let mut guide = Guide { board: Board::fresh(), store: vec![0; STORE], out: Vec::new() };
+    let (store, table) = (vec![0; STORE], vec![0; TABLE]);
+    let mut guide = Guide { board: Board::fresh(), store, table, out: Vec::new() };
     for _ in 0..count {
         let case = case(&mut rng);
         run(&mut guide, &case, &mut rng, 0);

@@ -57,8 +57,9 @@ fn a_stride_is_a_clock_call() {
         }
         let (mut one, mut other) = (b.board, b.board);
         let store = &b.store[rng.once_in(50) as usize..];
-        let answer = one.clock(store);
-        assert_eq!(other.stride(store), answer, "{:?}", b.board);
+        let table = &b.table[rng.once_in(50) as usize..];
+        let answer = one.clock(store, table);
+        assert_eq!(other.stride(store, table), answer, "{:?}", b.board);
         assert_eq!(one, other);
         seen[match answer {
             Ok(Answer::Pulse(_)) => 0,
@@ -107,9 +108,11 @@ fn bytes_taken_are_bytes_received() {
             (0..rng.below(100)).map(|_| rng.pick(&[0, 10, 12, 14, b'@', b'0', 252])).collect();
         let ends: Vec<u8> = (0..rng.below(2)).map(|_| rng.pick(&[13, 253, 254, 255])).collect();
         let mut other = b.board;
-        let taken = other.take(&[&bytes[..], &ends, b"9"].concat(), b.store.len());
+        let table = b.table.len() - rng.once_in(20) as usize;
+        let taken = other.take(&[&bytes[..], &ends, b"9"].concat(), b.store.len(), table);
         let gathers = b.board.standing || matches!(b.board.job, Job::Idle | Job::Storing);
-        let expected = if !gathers || b.board.len > 80 { 0 } else { bytes.len() + ends.is_empty() as usize };
+        let heard = gathers && b.board.len <= 80 && table == b.table.len();
+        let expected = if heard { bytes.len() + ends.is_empty() as usize } else { 0 };
         assert_eq!(taken, expected);
         for &byte in bytes.iter().chain(b"9").take(taken) {
             b.byte(byte);

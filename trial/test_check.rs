@@ -179,7 +179,7 @@ fn the_reply_alone_is_written() {
     }
     b.byte(b'9');
     let mut reply = [7; 40];
-    assert_eq!(b.board.receive(13, [0; 4], &mut reply, &mut b.store), Ok(6));
+    assert_eq!(b.receive(13, &mut reply), Ok(6));
     assert_eq!(reply[..6], *b"Ga0000");
     assert_eq!(reply[6..], [7; 34]);
 }

@@ -5,7 +5,7 @@ use trial::board::{Board, Job, Loop};
 use trial::motion::Move;
 
 fn clock(b: &mut Bench) -> Result<String, u8> {
-    b.board.clock(&b.store).map(short)
+    b.board.clock(&b.store, &b.table).map(short)
 }
 
 #[test]
@@ -31,7 +31,7 @@ fn wrong_plain_fields() {
         change(&mut b.board);
         let before = b.board;
         assert_eq!(clock(&mut b), Err(103));
-        assert_eq!(b.board.receive(254, [0; 4], &mut [0; 32], &mut b.store), Err(103));
+        assert_eq!(b.receive(254, &mut [0; 32]), Err(103));
         assert_eq!(b.listing(), Err(103));
         assert_eq!(b.board, before);
     }
@@ -98,20 +98,23 @@ fn buffers() {
     let mut b = Bench::with_axes(7);
     b.board.axes = 5;
     let mut reply = [7u8; 31];
-    assert_eq!(b.board.receive(255, [0; 4], &mut reply, &mut [0; 3]), Err(101));
+    assert_eq!(b.board.receive(255, [0; 4], &mut reply, &mut [0; 3], &mut [0; 3]), Err(101));
     let mut reply = [7u8; 32];
-    assert_eq!(b.board.receive(255, [0; 4], &mut reply, &mut [0; 16_385]), Err(102));
-    assert_eq!(b.board.receive(255, [0; 4], &mut reply, &mut b.store), Err(103));
-    assert_eq!(b.board.clock(&[0; 16_383]), Err(102));
+    assert_eq!(b.board.receive(255, [0; 4], &mut reply, &mut [0; 16_385], &mut [0; 999]), Err(102));
+    assert_eq!(b.board.receive(255, [0; 4], &mut reply, &mut b.store, &mut [0; 999]), Err(103));
+    assert_eq!(b.board.clock(&[0; 16_383], &[0; 999]), Err(102));
+    assert_eq!(b.board.clock(&b.store, &[0; 1_001]), Err(103));
     assert_eq!(b.board.list(&[0; 16_383], &mut [0; 3]), Err(102));
     assert_eq!(b.board.list(&b.store, &mut [0; 3]), Err(103));
     b.board.axes = 7;
+    assert_eq!(b.board.receive(255, [0; 4], &mut reply, &mut b.store, &mut [0; 1_001]), Err(104));
+    assert_eq!(b.board.clock(&b.store, &[0; 999]), Err(104));
     assert_eq!(b.board.list(&b.store, &mut [0; 32_767]), Err(106));
     b.board.used = 4;
     let mut text = vec![7; 32_768];
     assert_eq!(b.board.list(&b.store, &mut text), Err(b'G'));
     assert!(reply.iter().all(|&v| v == 7) && text.iter().all(|&v| v == 7));
-    assert_eq!(b.board.receive(255, [0; 4], &mut reply, &mut b.store), Ok(0));
+    assert_eq!(b.receive(255, &mut reply), Ok(0));
 }
 
 #[test]
@@ -119,10 +122,10 @@ fn bytes_past_a_reply_stay() {
     let mut b = Bench::with_axes(7);
     let mut reply = [7u8; 40];
     for byte in *b"@0P" {
-        b.board.receive(byte, [0; 4], &mut reply, &mut b.store).unwrap();
+        b.receive(byte, &mut reply).unwrap();
     }
     assert_eq!(reply, [7; 40]);
-    assert_eq!(b.board.receive(13, [0; 4], &mut reply, &mut b.store), Ok(19));
+    assert_eq!(b.receive(13, &mut reply), Ok(19));
     assert!(reply[..19].iter().all(|&v| v == b'0') && reply[19..].iter().all(|&v| v == 7));
 }
 
@@ -146,11 +149,12 @@ fn hurt(change: impl Fn(&mut Bench)) -> String {
 #[test]
 fn stores_altered_while_running() {
     assert_eq!(hurt(|_| {}), "!\" d !\" d !\" d !# !0");
-    assert_eq!(hurt(|b| b.store[0] = 0), "!G"); // a record passed is wrong
-    assert_eq!(hurt(|b| b.store[2] = b'9'), "!G");
-    assert_eq!(hurt(|b| b.store[3] = 2), "!G");
-    assert_eq!(hurt(|b| b.store[4] = 32), "!G"); // its number is
-    assert_eq!(hurt(|b| b.store[4] = 40), "!\" d !\" d !\" d !# !0");
+    for (at, value) in [(0, 0), (2, b'9'), (3, 2), (4, 32), (4, 40)] {
+        assert_eq!(hurt(|b| b.store[at] = value), "!\" d !\" d !\" d !# !0"); // a record passed is not looked at
+    }
+    for (at, value) in [(8, 0), (9, 215), (10, b'9'), (11, 2), (12, 32)] {
+        assert_eq!(hurt(|b| b.store[at] = value), "!G"); // the next one is
+    }
     assert_eq!(hurt(|b| b.store[30] = 0), "!\" d !\" d !\" d !G"); // mark of the last record
     assert_eq!(hurt(|b| b.board.used = 35), "!\" d !\" d !\" d !G"); // the part in use passed
     assert_eq!(hurt(|b| b.board.used = 0), "!G");
@@ -211,7 +215,7 @@ fn standing_with_any_job() {
         let mut b = Bench::with_axes(1);
         (b.board.job, b.board.standing) = (job, true);
         assert_eq!((b.answers().as_str(), b.byte(253).as_str(), b.line("@0k").as_str()), ("", "", "W"));
-        let mut broken = Bench { board: b.board, store: b.store.clone(), ports: [0; 4] };
+        let mut broken = b.clone();
         assert_eq!(
             (broken.byte(255).as_str(), broken.board.job, broken.board.standing),
             ("F", Job::Idle, false)

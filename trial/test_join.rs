@@ -1,13 +1,15 @@
-//! Joins of two programs: the bytes, every refusal and their order.
+//! Joins of two programs: the bytes, the table, every refusal and their order.
 
 use crate::Bench;
 use trial::join::{join, Part};
 use trial::record::STORE;
+use trial::table::TABLE;
 
-/// A program with its store.
+/// A program with its store and its table.
 #[derive(Clone, PartialEq, Debug)]
 pub struct Given {
     pub store: Vec<u8>,
+    pub table: Vec<u16>,
     pub part: Part,
 }
 
@@ -26,33 +28,43 @@ impl Given {
     }
 }
 
-/// These lines as they are stored, whether the end line would accept them or not, with other bytes behind.
+/// These lines as they are stored, whether the end line would accept them or not, with other bytes and entries
+/// behind.
 pub fn stored<T: AsRef<str>>(axes: u8, lines: &[T]) -> Given {
     let mut b = Bench::with_axes(axes);
     b.store.fill(axes + 40);
+    b.table.fill(50_000);
     b.line("@0i");
     lines.iter().for_each(|line| assert_eq!(b.line(line.as_ref()), "0", "{}", line.as_ref()));
     let part = Part { used: b.board.used, records: b.board.records, axes: b.board.store_axes };
-    Given { store: b.store, part }
+    Given { store: b.store, table: b.table, part }
 }
 
 fn empty(axes: u8) -> Given {
     stored::<&str>(7, &[]).under(axes)
 }
 
-/// The bytes of the two, then those that were there: all as they were if it is refused.
+/// Where so many records start, by their counts of numbers alone.
+fn starts(store: &[u8], records: u32) -> Vec<u16> {
+    let next = |&at: &u16| Some(at + 4 + 4 * u16::from(store[at as usize + 3]));
+    std::iter::successors(Some(0), next).take(records as usize).collect()
+}
+
+/// The bytes of the two, then those that were there, and the starts of all their records, then the entries that
+/// were there: all as they were if it is refused.
 pub fn joined(first: &Given, second: &Given) -> Result<Given, u8> {
-    let mut store = first.store.clone();
-    let answer = join(&mut store, first.part, &second.store, second.part);
-    let mut expected = first.store.clone();
+    let (mut store, mut table) = (first.store.clone(), first.table.clone());
+    let answer = join(&mut store, &mut table, first.part, &second.store, second.part);
+    let (mut expected, mut entries) = (first.store.clone(), first.table.clone());
     if let Ok(part) = answer {
         let both = [first.bytes(), second.bytes()].concat();
         expected[..both.len()].copy_from_slice(&both);
         let records = first.part.records + second.part.records;
         assert_eq!((part.used as usize, part.records), (both.len(), records));
+        entries[..records as usize].copy_from_slice(&starts(&both, records));
     }
-    assert!(store == expected, "{answer:?}");
-    answer.map(|part| Given { store, part })
+    assert!(store == expected && table == entries, "{answer:?}");
+    answer.map(|part| Given { store, table, part })
 }
 
 /// The joined program's bytes and records, written under these axes, are those of these lines.
@@ -60,7 +72,8 @@ fn same(first: &[&str], second: &[&str]) {
     for axes in [1, 3, 7] {
         let both = joined(&stored(axes, first), &stored(axes, second)).unwrap();
         let whole = stored(axes, &[first, second].concat());
-        assert_eq!((both.part, both.bytes()), (whole.part, whole.bytes()), "{first:?} {second:?}");
+        let (made, wanted) = ((both.part, both.bytes()), (whole.part, whole.bytes()));
+        assert_eq!((made, &both.table), (wanted, &whole.table), "{first:?} {second:?}");
     }
 }
 
@@ -102,7 +115,7 @@ fn to_the_end() {
     same(&["233,0"], &["133", "3 1,-1"]);
     let (mut b, _) = Bench::with_program(1, &["3 0,2", "133"]);
     let both = joined(&stored(1, &["3 0,2", "133"]), &stored(1, &["134"])).unwrap();
-    b.store = both.store;
+    (b.store, b.table) = (both.store, both.table);
     (b.board.used, b.board.records) = (both.part.used, both.part.records);
     b.line("@0S");
     assert_eq!(b.answers(), "d !\" !0");
@@ -259,16 +272,21 @@ fn room_for_bytes() {
     assert_eq!(joined(&most, &more), Err(b'6'));
 }
 
+/// 102 comes before 104, and both before the rest.
 #[test]
-fn stores_of_another_length() {
+fn buffers_of_another_length() {
     let (part, right) = (stored(3, &["133"]), vec![0; STORE]);
-    for length in [0, 8, 16_383, 16_385, 32_768] {
+    for (length, entries) in [(0, 1_000), (8, 999), (16_383, 1_001), (16_385, 0), (32_768, 1_000)] {
         for (first, second) in [(part.part, part.part), (Part { axes: 2, ..part.part }, empty(0).part)] {
-            let (mut other, mut store) = (vec![9; length], part.store.clone());
-            assert_eq!(join(&mut other, first, &right, second), Err(102));
-            assert_eq!(join(&mut other, first, &vec![9; length], second), Err(102));
-            assert_eq!(join(&mut store, first, &other, second), Err(102));
-            assert_eq!((other, store), (vec![9; length], part.store.clone()));
+            let (mut other, mut store, mut table) = (vec![9; length], part.store.clone(), vec![7; entries]);
+            assert_eq!(join(&mut other, &mut table, first, &right, second), Err(102));
+            assert_eq!(join(&mut other, &mut table, first, &vec![9; length], second), Err(102));
+            assert_eq!(join(&mut store, &mut table, first, &other, second), Err(102));
+            if entries != TABLE {
+                assert_eq!(join(&mut store, &mut table, first, &right, second), Err(104));
+            }
+            assert_eq!((other, table), (vec![9; length], vec![7; entries]));
+            assert_eq!(store, part.store);
         }
     }
 }

@@ -9,13 +9,14 @@ use trial::board::{Board, Job};
 use trial::check::{check, Verdict};
 use trial::join::Part;
 use trial::record::{self, Record, STORE};
+use trial::table::TABLE;
 
 /// A generated part with its whole store.
 fn given(part: &gen_part::Part) -> Given {
     let mut store = part.bytes.clone();
     store.resize(STORE, 0);
     let (used, records) = (part.used as u32, part.records as u32);
-    Given { store, part: Part { used, records, axes: part.axes as u8 } }
+    Given { store, table: vec![0; TABLE], part: Part { used, records, axes: part.axes as u8 } }
 }
 
 fn verdict(given: &Given) -> Verdict {
@@ -93,6 +94,7 @@ fn at(both: &Given, place: usize) -> Bench {
     let Part { used, records, axes } = both.part;
     b.board = Board { used, records, store_axes: axes, place: place as u32, job: Job::Ready, ..b.board };
     b.store.clone_from(&both.store);
+    b.table.clone_from(&both.table);
     b
 }
 
@@ -132,7 +134,7 @@ enum Outcome {
 }
 
 fn outcome(first: &Given, second: &Given) -> Outcome {
-    let none = |axes| Given { store: vec![0; STORE], part: Part { used: 0, records: 0, axes } };
+    let none = |axes| given(&gen_part::Part::of(axes, &[]));
     let alone = |part: &Given, beside: &Given| {
         let axes = if part.part.records == 0 { beside.part.axes } else { part.part.axes };
         joined(&Given { part: Part { axes, ..part.part }, ..part.clone() }, &none(axes)).is_ok()

@@ -33,7 +33,7 @@ fn a_listing_stores_the_same_bytes() {
             assert!(!line.contains(' '), "{line}");
             assert_eq!(again.line(line), "0", "{line}");
         }
-        assert_eq!((again.board, again.store), (b.board, b.store));
+        assert_eq!((again.board, again.store, again.table), (b.board, b.store, b.table));
     }
 }
 
@@ -44,7 +44,7 @@ fn runs_of_accepted_programs() {
     let mut rng = Rng::new(3);
     for _ in 0..2_000 {
         let (mut b, _) = random_program(&mut rng);
-        let (store, used) = (b.store.clone(), b.board.used);
+        let (store, table, used) = (b.store.clone(), b.table.clone(), b.board.used);
         let mut sum = [0; 3];
         b.line("@0S");
         for _ in 0..3_000 {
@@ -57,6 +57,6 @@ fn runs_of_accepted_programs() {
             assert!(b.board.place < b.board.records || b.board.depth == 0);
             assert_eq!((b.board.position, b.board.used), (sum, used));
         }
-        assert_eq!(b.store, store);
+        assert_eq!((b.store, b.table), (store, table));
     }
 }

@@ -259,7 +259,7 @@ fn the_same_reply_board_and_store() {
     let mut met = BTreeSet::new();
     for _ in 0..20_000 {
         let mut one = any_board(&mut rng);
-        let mut other = Bench { board: one.board, store: one.store.clone(), ports: one.ports };
+        let mut other = one.clone();
         let mut line = any_line(&mut rng, &one.board);
         if rng.once_in(5) {
             line = damage::hurt(&mut rng, &line);

@@ -33,20 +33,24 @@ mod test_sheet;
 mod test_shrink;
 mod test_spaces;
 mod test_stop;
+mod test_table;
 
-use trial::board::{Answer, Board};
+use trial::board::{Answer, Board, Refusal};
 use trial::record::STORE;
+use trial::table::TABLE;
 
-/// A board with its store, driven by text.
+/// A board with its store and table, driven by text.
+#[derive(Clone)]
 pub struct Bench {
     pub board: Board,
     pub store: Vec<u8>,
+    pub table: Vec<u16>,
     pub ports: [u8; 4],
 }
 
 impl Bench {
     pub fn fresh() -> Bench {
-        Bench { board: Board::fresh(), store: vec![0; STORE], ports: [0; 4] }
+        Bench { board: Board::fresh(), store: vec![0; STORE], table: vec![0; TABLE], ports: [0; 4] }
     }
 
     pub fn with_axes(axes: u8) -> Bench {
@@ -68,8 +72,12 @@ impl Bench {
 
     pub fn byte(&mut self, byte: u8) -> String {
         let mut reply = [0; 32];
-        let len = self.board.receive(byte, self.ports, &mut reply, &mut self.store).unwrap();
+        let len = self.receive(byte, &mut reply).unwrap();
         reply[..len].iter().map(|&b| b as char).collect()
+    }
+
+    pub fn receive(&mut self, byte: u8, reply: &mut [u8]) -> Result<usize, Refusal> {
+        self.board.receive(byte, self.ports, reply, &mut self.store, &mut self.table)
     }
 
     /// Sends a line with its return; all replies of its bytes together.
@@ -78,7 +86,7 @@ impl Bench {
     }
 
     pub fn clock(&mut self) -> Answer {
-        self.board.clock(&self.store).unwrap()
+        self.board.clock(&self.store, &self.table).unwrap()
     }
 
     pub fn clocks(&mut self, n: usize) {

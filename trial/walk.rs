@@ -5,6 +5,7 @@ use trial::board::{Answer, Board};
 use trial::motion::Pulse;
 use trial::number::push_decimal;
 use trial::record::STORE;
+use trial::table::TABLE;
 
 const LIMIT: u32 = 100_000;
 const PORTION: usize = 1 << 16;
@@ -12,6 +13,7 @@ const PORTION: usize = 1 << 16;
 struct Walk {
     board: Board,
     store: Vec<u8>,
+    table: Vec<u16>,
     out: Vec<u8>,
 }
 
@@ -19,7 +21,7 @@ impl Walk {
     /// Takes one byte and lets the clock run. False: the run isn't over at the limit.
     fn byte(&mut self, byte: u8) -> io::Result<bool> {
         let mut reply = [0u8; 32];
-        let received = self.board.hear(byte, [0; 4], &mut reply, &mut self.store);
+        let received = self.board.hear(byte, [0; 4], &mut reply, &mut self.store, &mut self.table);
         self.reply(&reply[..received.unwrap_or(0)]);
         let calls = self.run()?;
         if calls == LIMIT && self.board.running() {
@@ -34,7 +36,7 @@ impl Walk {
     fn run(&mut self) -> io::Result<u32> {
         let mut calls = 0;
         while calls < LIMIT && self.board.running() {
-            let Ok(answer) = self.board.tick(&self.store) else { break };
+            let Ok(answer) = self.board.tick(&self.store, &self.table) else { break };
             calls += 1;
             match answer {
                 Answer::Pulse(pulse) => push_pulse(&mut self.out, pulse),
@@ -103,8 +105,8 @@ fn push_pulse(out: &mut Vec<u8>, pulse: Pulse) {
 }
 
 fn main() -> io::Result<()> {
-    let mut walk =
-        Walk { board: Board::fresh(), store: vec![0; STORE], out: Vec::with_capacity(PORTION + 64) };
+    let (store, table) = (vec![0; STORE], vec![0; TABLE]);
+    let mut walk = Walk { board: Board::fresh(), store, table, out: Vec::with_capacity(PORTION + 64) };
     walk.out.extend_from_slice(b"walk\n");
     let mut portion = vec![0u8; PORTION];
     'all: loop {
@@ -118,7 +120,7 @@ fn main() -> io::Result<()> {
                 break 'all;
             }
             if cfg!(batched) {
-                let taken = walk.board.take(left.as_slice(), walk.store.len());
+                let taken = walk.board.take(left.as_slice(), walk.store.len(), walk.table.len());
                 left = left.as_slice()[taken..].iter();
             }
         }

@@ -111,6 +111,20 @@ def listed(*printed):
     return [("L", ["L " + p for p in printed])]
 
 
+def entries(first, *values):
+    """The table's entries from this one on."""
+    return [("V %d" % (first + i), ["V %d" % v]) for i, v in enumerate(values)]
+
+
+def filled(answer="0"):
+    return [("F", ["F " + answer])]
+
+
+def refused(number, call="B 64"):
+    """A call that is answered with the number of its refusal alone."""
+    return [(call, [call[0] + " %d" % number])]
+
+
 def state(axes=0, position=(0, 0, 0), origin=(0, 0, 0), three=0, output=0, held=(0, 0, 0), job="Idle", standing=0, loops=0):
     """`held` are the bytes and records in use and the store's axes."""
     said = "S axes %d position %d %d %d" % ((axes,) + position)

@@ -1,13 +1,14 @@
-"""A store or a state that a host altered: the run ends with G where the next record can't be reached and read, and goes on elsewhere."""
-from case import case, BREAK, byte, clock, host, line, lines, listed, no_stop, nothing, report, sends, state, stop, store, text, where, x
+"""A store or a state that a host altered: the run ends with G where the next record can't be read, and goes on elsewhere."""
+from case import case, BREAK, byte, clock, entries, host, line, lines, listed, no_stop, nothing, report, sends, state, stop, store, text, where, x
 
 ZERO = sends("0")
 G = "Send 71"
 emptied = line("@0S", "8") + listed("9")
 THREE = line("@01", "0") + store("133", "134", "135") + line("@0S")  # records of 8 bytes: "!", '"' and "#"
 
-case("damage_passed", "a record already passed is read again from the front: its wrong mark ends the run with G and empties the store",
-     THREE, clock(sends("!")), host("W 0 0"), clock(G), nothing(), state(axes=1), emptied)
+case("damage_passed", "a record already passed is not looked at again: its wrong mark is met by the listing, and by the next run",
+     THREE, clock(sends("!")), host("W 0 0"), clock(sends('"'), sends("#"), ZERO), nothing(), state(axes=1, held=(24, 3, 1)), listed("G"), line("@0S"), clock(G), nothing(),
+     state(axes=1), emptied)
 
 case("damage_ahead", "a wrong mark ahead is met when its record's turn comes", THREE, host("W 17 44"), clock(sends("!"), sends('"'), G), emptied)
 
@@ -17,13 +18,15 @@ for name, at, v in [("code", 2, 57), ("count", 3, 2), ("number", 4, 32), ("numbe
 case("damage_still_right", "a number altered but in its range is run as it stands", THREE, host("W 4 126", "W 12 33"), clock("Send 126", sends("!"), sends("#"), ZERO), listed("1126", "133", "135", "9"))
 
 case("damage_standing", "damage while it stands is met when it goes on; mended before that, nothing happened",
-     THREE, clock(sends("!")), stop, host("W 0 0"), nothing(), host("W 0 215"), line("@0S"), clock(sends('"')), stop, host("W 8 0"), nothing(2), listed("G"),
+     THREE, clock(sends("!")), stop, host("W 8 0"), nothing(), host("W 8 215"), line("@0S"), clock(sends('"')), stop, host("W 16 0"), nothing(2), listed("G"),
      state(axes=1, held=(24, 3, 1), job="Ready", standing=1), line("@0S"), clock(G), emptied)
 
 case("damage_in_a_movement", "the pulses of a movement do not read the store: G comes in place of the next record",
      line("@01", "0"), store("0 3,600", "133"), line("@0S"), clock(*x(1)), host("W 12 0"), stop, line("@0S"), clock(*x(2), G), where(3, 0, 0), emptied)
 
-case("damage_in_a_delay", "nor do the pauses of a delay", line("@01", "0"), store("5 3", "133"), line("@0S"), clock("Pause"), host("W 0 0"), clock("Pause", "Pause", G), emptied)
+case("damage_in_a_delay", "nor do the pauses of a delay; nor is its own record read when they are over, but the next one",
+     line("@01", "0"), store("5 3", "133"), line("@0S"), clock("Pause"), host("W 0 0"), clock("Pause", "Pause", sends("!"), ZERO), host("W 0 215"), line("@0S"), clock("Pause"), host("W 8 0"),
+     clock("Pause", "Pause", G), emptied)
 
 case("damage_in_a_wait", "nor does a wait; its character and target are kept", line("@01", "0"), store("233,2", "134", "135"), line("@0S"), clock("Done"), host("W 4 34", "W 8 1"),
      nothing(), byte(33), clock(sends("#"), ZERO))
@@ -32,7 +35,8 @@ case("used_less", "the part in use passed: G at the first record that does not l
 case("used_none", "nothing in use and records to run: G", THREE, host("K 0 3 1"), clock(G), emptied)
 case("used_more", "the end place is never read: bytes in use behind the last record are met by the listing alone", THREE, host("K 30 3 1"), listed("G"), clock(sends("!"), sends('"'), sends("#"), ZERO))
 case("records_less", "fewer records: the end place comes sooner", THREE, host("K 24 2 1"), clock(sends("!"), sends('"'), ZERO), state(axes=1, held=(24, 2, 1)))
-case("records_more", "one record more than there are: G in its place", THREE, host("K 24 4 1"), clock(sends("!"), sends('"'), sends("#"), G), emptied)
+case("records_more", "one record more than there are: in its place runs the one that its entry names, here the first, since no record has written it",
+     THREE, host("K 24 4 1"), entries(3, 0), clock(sends("!"), sends('"'), sends("#"), sends("!"), ZERO), listed("G"), host("T 3 24"), line("@0S"), clock(sends("!"), sends('"'), sends("#"), G), emptied)
 case("records_below_the_place", "fewer records than the place reached: G", THREE, clock(sends("!"), sends('"')), host("K 24 1 1"), clock(G), emptied)
 case("store_axes_altered", "the run goes by the store's axes: characters are right under any, a movement of one axis is not under 3",
      line("@01", "0"), store("133", "0 1,600"), line("@0S"), host("K 20 2 3"), clock(sends("!"), G), emptied)
@@ -77,7 +81,7 @@ case("no_room", "6 for a record beyond 16,384 bytes or 1,000 records; what fits 
 case("axes_of_the_store_while_storing", "records are tested by the store's axes", line("@01", "0"), line("@0i", "0"), line("0 1,600,1,600", "7"), line("n2", "3"), host("K 0 0 3"),
      lines("0", "0 1,600,1,600", "n2"), line("0 1,600", "7"), line("9", "0"), listed("01,600,1,600", "n2", "9"))
 
-case("marks_in_numbers", "numbers that hold a mark's bytes: records are found by their lengths from the front",
+case("marks_in_numbers", "numbers that hold a mark's bytes: records are found where they were stored, and listed by their lengths",
      line("@01", "0"), store("3 0,2", "0 11223,600", "133"), line("@0S"), stop, line("@0S"), clock("Done"), stop, line("@0S"), clock(sends("!"), ZERO), listed("30,2", "011223,600", "133", "9"))
 
 case("movement_altered", "a movement altered so that its position is still the one its pulse number gives goes on to the new end",

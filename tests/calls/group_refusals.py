@@ -1,12 +1,7 @@
 """101, 102 and 103 in this order; a refused call changes nothing, lends nothing on, and answers its number alone."""
-from case import case, byte, clock, host, line, listed, nothing, report, sends, state, stop, store, text, where, wrong, x
+from case import case, byte, clock, host, line, listed, nothing, refused, report, sends, state, stop, store, text, where, wrong, x
 
 ZERO = sends("0")
-
-
-def refused(number, call="B 64"):
-    return [(call, [call[0] + " %d" % number])]
-
 
 case("reply_short", "a reply buffer of 31 bytes or none is 101; 32 and more are right; each lent buffer is for one call",
      host("R 31"), refused(101), host("R 0"), refused(101), host("R 1"), refused(101, "B 253"), host("R 32"), byte(64), host("R 33"), byte(48),

@@ -12,6 +12,9 @@ import group_reports
 import group_runs
 import group_standing
 import group_stops
+import group_table
+import group_table_filled
+import group_table_refused
 from case import CASES
 
 here = os.path.dirname(os.path.abspath(__file__))

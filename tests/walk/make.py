@@ -4,6 +4,7 @@ import os
 
 import group_check
 import group_lines
+import group_long
 import group_movement
 import group_programs
 from case import CASES

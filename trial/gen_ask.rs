@@ -1,7 +1,8 @@
-//! Lines for `ask`: COUNT questions, chains and joins, some of which cannot be read.
+//! Lines for `ask`: COUNT questions, chains and joins, also with buffers of other lengths, some of which cannot be read.
 
 use crate::gen_chain;
 use crate::gen_join;
+use crate::gen_lend;
 use crate::gen_unread;
 use crate::gen_unread_join;
 use crate::rng::Rng;
@@ -13,6 +14,7 @@ pub fn lines(rng: &mut Rng, count: u64, out: &mut Vec<u8>) {
     for _ in 0..count {
         let (fields, unread): (_, Unread) = match rng.below(2) {
             0 => (chain(rng), gen_unread::line),
+            _ if rng.once_in(5) => (gen_lend::lend(rng), gen_lend::unread),
             _ => (join(rng), gen_unread_join::line),
         };
         out.extend(if rng.once_in(6) { unread(rng, fields) } else { fields.join(" ").into_bytes() });
@@ -47,7 +49,7 @@ fn output(rng: &mut Rng, distances: i64) -> i64 {
     }
 }
 
-fn join(rng: &mut Rng) -> Vec<String> {
+pub fn join(rng: &mut Rng) -> Vec<String> {
     let digits = digits(rng);
     let mut fields = vec!["join".to_string()];
     for part in gen_join::join(rng) {
@@ -59,7 +61,7 @@ fn join(rng: &mut Rng) -> Vec<String> {
 }
 
 /// How many digits a line's numbers have at least.
-fn digits(rng: &mut Rng) -> usize {
+pub fn digits(rng: &mut Rng) -> usize {
     if rng.once_in(15) {
         rng.between(2, 19) as usize
     } else {
@@ -68,7 +70,7 @@ fn digits(rng: &mut Rng) -> usize {
 }
 
 /// With zeros in front up to so many digits; a zero may have a minus.
-fn written(rng: &mut Rng, v: i64, digits: usize) -> String {
+pub fn written(rng: &mut Rng, v: i64, digits: usize) -> String {
     let minus = if v < 0 || v == 0 && rng.once_in(30) { "-" } else { "" };
     format!("{minus}{:0digits$}", v.unsigned_abs())
 }

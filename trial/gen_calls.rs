@@ -18,6 +18,7 @@ pub fn script(rng: &mut Rng, count: u64, out: &mut Vec<u8>) {
         tame: false,
         late: false,
         stored: (0, 0, 0),
+        starts: Vec::new(),
         endless: false,
     };
     for scene in 0..count {
@@ -44,6 +45,8 @@ pub struct Script<'a> {
     pub late: bool,
     /// Used bytes, records and axes of the program sent last, if all of it was accepted.
     pub stored: (usize, usize, u8),
+    /// Where its records start.
+    pub starts: Vec<usize>,
     /// Whether that program may run without end, if it was accepted.
     endless: bool,
 }
@@ -90,6 +93,9 @@ impl Script<'_> {
             self.move_directly(axes);
         } else {
             self.store(axes);
+            if self.rng.once_in(8) && !self.tame {
+                self.table();
+            }
             self.line("@0S");
         }
         if self.tame {
@@ -100,6 +106,9 @@ impl Script<'_> {
         self.say("S".to_string());
         if self.rng.once_in(3) {
             self.say("L".to_string());
+        }
+        if self.rng.once_in(3) {
+            self.show_entries();
         }
     }
 
@@ -123,19 +132,28 @@ impl Script<'_> {
         }
         let lines = self.program(axes);
         let length = |line: &String| 8 + 4 * line.bytes().filter(|&b| b == b',').count();
-        self.stored = (lines.iter().map(length).sum(), lines.len(), axes);
+        self.stored = (0, lines.len(), axes);
+        self.starts.clear();
+        for line in &lines {
+            self.starts.push(self.stored.0);
+            self.stored.0 += length(line);
+        }
         self.endless = gen_fault::may_not_end(&lines);
         self.line("@0i");
         let hurt = self.rng.once_in(10) && !self.tame && lines.len() < 50;
         for text in &lines {
             self.line(text);
             if hurt && self.rng.once_in(3) {
-                self.hurt();
+                if self.rng.once_in(4) {
+                    self.table();
+                } else {
+                    self.hurt();
+                }
             }
         }
         if self.rng.once_in(6) && !self.tame {
             let at = self.rng.below(lines.len() as u64) as usize;
-            self.spoil(lines[..at].iter().map(length).sum());
+            self.spoil(self.starts[at]);
         }
         self.line("9");
     }
@@ -169,7 +187,7 @@ impl Script<'_> {
         for _ in 0..self.rng.between(1, 14) {
             let calls = if self.rng.once_in(15) { 40 } else { self.rng.below(6) };
             self.clocks(calls);
-            match self.rng.below(14) {
+            match self.rng.below(16) {
                 0..=2 => self.stop(axes),
                 3..=6 => {
                     let answer = self.rng.between(33, 41) as u8;
@@ -181,6 +199,7 @@ impl Script<'_> {
                 10 => self.control(axes),
                 11 => self.say("S".to_string()),
                 12 => self.line("@0S"),
+                13..=14 if !calm => self.table(),
                 _ => {}
             }
         }

@@ -1,4 +1,4 @@
-//! What a host does in a script: stores and states altered, short buffers, wrong lines.
+//! What a host does in a script: stores and states altered, short buffers, wrong lines. The table is in `gen_table`.
 
 use crate::gen_calls::Script;
 
@@ -79,7 +79,7 @@ impl Script<'_> {
     }
 
     /// The fields of the program sent last, or nearly those: an emptied store's bytes are still there.
-    fn bring_back(&mut self) {
+    pub fn bring_back(&mut self) {
         let (used, records, axes) = self.stored;
         let used = used as i64 + self.rng.pick(&[0, 0, 0, 1, -1, 4, -8]);
         let records = records as i64 + self.rng.pick(&[0, 0, 0, 1, -1]);
@@ -151,6 +151,25 @@ impl Script<'_> {
             "N 0000000012",
             "N -0",
             "N 1 2",
+            "T 1000 0",
+            "T 0 65536",
+            "T 999 65535",
+            "T -1 0",
+            "T 0 -1",
+            "T 1",
+            "T 1 1 1",
+            "U 2001",
+            "U 2000",
+            "U -1",
+            "U",
+            "V 1000",
+            "V 999",
+            "V -1",
+            "V",
+            "V 1 1",
+            "F 1",
+            "F ",
+            "f",
         ]);
         match self.rng.below(12) {
             0 => self.long_line(),
@@ -218,17 +237,24 @@ impl Script<'_> {
         }
     }
 
-    /// A short or long buffer for the next call.
+    /// Short or long buffers for the next call, now and then with a state that is refused too.
     pub fn lend(&mut self) {
-        let text =
-            self.rng.pick(&["M 0", "M 16383", "M 16384", "M 16385", "R 0", "R 31", "R 32", "R 33", "R 1"]);
-        self.say(text.to_string());
-        match self.rng.below(5) {
+        let refused = self.rng.once_in(6);
+        if refused {
+            self.altered = true;
+            self.say("H axes 2".to_string());
+        }
+        self.lend_any();
+        match self.rng.below(6) {
             0 => self.clocks(2),
             1 => self.clocks(0),
             2 => self.say("L".to_string()),
             3 => self.byte(253),
+            4 => self.say("F".to_string()),
             _ => self.line("@0P"),
+        }
+        if refused {
+            self.mend("axes");
         }
     }
 }

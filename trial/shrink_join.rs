@@ -1,4 +1,5 @@
-//! The records and bytes of a join that may be left out, with numbers that are as much smaller.
+//! The records and bytes of a join that may be left out, with numbers that are as much smaller. The lengths of its
+//! buffers stay.
 
 /// A record or a byte of one of the stores, in hexadecimal digits, and how much of what is in use it is.
 #[derive(Clone, Copy)]
@@ -17,6 +18,8 @@ struct Side {
 }
 
 pub struct Join<'a> {
+    /// What stands before the parts.
+    head: &'a str,
     sides: [Side; 2],
     /// The line's end.
     end: &'a str,
@@ -29,12 +32,18 @@ pub fn parts(lines: &[u8]) -> Option<(Join<'_>, Vec<Piece<'_>>)> {
     if line.contains('\n') {
         return None;
     }
-    let fields: Vec<&str> = line.split(' ').collect();
-    let ["join", used, records, axes, hex, ref second @ ..] = fields[..] else { return None };
-    let (first, mut pieces) = side(0, [used, records, axes, hex])?;
+    let lengths = match line.split(' ').next()? {
+        "join" => 0,
+        "lend" => 3,
+        _ => return None,
+    };
+    let (at, _) = line.match_indices(' ').nth(lengths)?;
+    let fields: Vec<&str> = line[at + 1..].split(' ').collect();
+    let (first, second) = fields.split_at_checked(4)?;
+    let (first, mut pieces) = side(0, first.try_into().ok()?)?;
     let (second, more) = side(1, second.try_into().ok()?)?;
     pieces.extend(more);
-    Some((Join { sides: [first, second], end: &text[line.len()..] }, pieces))
+    Some((Join { head: &line[..at], sides: [first, second], end: &text[line.len()..] }, pieces))
 }
 
 fn side(side: usize, [used, records, axes, hex]: [&str; 4]) -> Option<(Side, Vec<Piece<'_>>)> {
@@ -62,7 +71,7 @@ fn record(digits: &str) -> Option<usize> {
 impl Join<'_> {
     pub fn with(&self, pieces: &[Piece]) -> Vec<u8> {
         let parts = [0, 1].map(|side| self.part(side, pieces));
-        format!("join {} {}{}", parts[0], parts[1], self.end).into_bytes()
+        format!("{} {} {}{}", self.head, parts[0], parts[1], self.end).into_bytes()
     }
 
     fn part(&self, side: usize, pieces: &[Piece]) -> String {

@@ -42,6 +42,20 @@ impl Guide {
         let _ = writeln!(self.out, "C {n}");
     }
 
+    /// A call that is lent a buffer of another length: it is refused and changes nothing.
+    fn refused(&mut self, rng: &mut Rng) {
+        let lent = rng.pick(&["U 0", "U 999", "U 1001", "U 2000", "M 16383", "M 16385"]);
+        let call = rng.pick(&["C 1", "C 1", "B 13", "B 33", "B 64", "B 253", "B 254", "B 255"]);
+        let _ = writeln!(self.out, "{lent}\n{call}");
+    }
+
+    /// The entries of the stored program's records, and the last of the table.
+    fn show_table(&mut self) {
+        for at in (0..self.board.records).chain([TABLE as u32 - 1]) {
+            let _ = writeln!(self.out, "V {at}");
+        }
+    }
+
     fn clock_to_end(&mut self) {
         while self.board.running() {
             self.clocks(1);
@@ -100,6 +114,9 @@ fn run(guide: &mut Guide, case: &Case, rng: &mut Rng, stops: u64) {
         if stops > 0 && rng.once_in(stops) {
             stand(guide, rng);
         }
+        if stops > 0 && rng.once_in(4 * stops) {
+            guide.refused(rng);
+        }
         if let Job::Wait(..) = guide.board.job {
             guide.byte(case.answers[waits % case.answers.len()]);
             waits += 1;
@@ -107,19 +124,22 @@ fn run(guide: &mut Guide, case: &Case, rng: &mut Rng, stops: u64) {
         guide.clocks(1);
         followed += 1;
     }
-    let _ = guide.out.write_all(b"L\nS\n");
+    let _ = guide.out.write_all(b"L\n");
+    guide.show_table();
+    let _ = guide.out.write_all(b"S\n");
     guide.byte(255);
     let _ = guide.out.write_all(b"S\n");
 }
 
-/// A stop; if it holds: anything but break and reset, then a start that is accepted.
+/// A stop; if it holds: anything but break and reset, these too where the call is refused, then a start that is
+/// accepted.
 fn stand(guide: &mut Guide, rng: &mut Rng) {
     guide.byte(253);
     if !guide.board.standing {
         return;
     }
     for _ in 0..rng.below(4) {
-        match rng.below(8) {
+        match rng.below(9) {
             0 => guide.byte(253),
             1 => guide.clocks(1),
             2 => guide.byte(rng.below(253) as u8),
@@ -127,6 +147,7 @@ fn stand(guide: &mut Guide, rng: &mut Rng) {
             4 => guide.line(rng.pick(&["@0P", "@0b0", "@0S1", "@0b9", "5", "", "@0S1, 1", "@0P ,1"])),
             5 => guide.line(rng.pick(&["@07", "@0k", "@0i", "@0N1", "@0n1", "@0z1", "@0z0", "@0B0, 9"])),
             6 => guide.line(rng.pick(&["@0A5, 600", "@0M1,600,2, 700", "@0A1,30,1,30,1,30,1,30", "9"])),
+            7 => guide.refused(rng),
             _ => guide.clocks(3),
         }
     }
@@ -153,7 +174,7 @@ fn emit(seed: u64, count: u64) -> io::Result<()> {
     Ok(())
 }
 
-/// Pulses and sent characters of one run, its listing, and its state at the end, also after break.
+/// Pulses and sent characters of one run, its listing, its table, and its state at the end, also after break.
 /// All of COUNT runs must be there.
 fn check(count: usize) -> io::Result<()> {
     let mut text = String::new();
@@ -161,7 +182,8 @@ fn check(count: usize) -> io::Result<()> {
     let mut runs: Vec<Vec<&str>> = vec![Vec::new()];
     let mut states = 0;
     for line in text.lines() {
-        let kept = line.starts_with("C Pulse") || line.starts_with("C Send") || line.starts_with(['L', 'S']);
+        let kept =
+            line.starts_with("C Pulse") || line.starts_with("C Send") || line.starts_with(['L', 'S', 'V']);
         if kept {
             runs.last_mut().unwrap().push(line);
         }

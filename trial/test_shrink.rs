@@ -49,7 +49,23 @@ fn zeros_that_are_not_given() {
 }
 
 #[test]
+fn lengths_stay() {
+    let line = format!("lend 16385 99 1000 20 2 3 {SENT}{JUMP} 8 1 7 {SENT}\n");
+    assert_eq!(without(&line, &[]), line);
+    assert_eq!(without(&line, &[0, 2]), format!("lend 16385 99 1000 12 1 3 {JUMP} 0 0 7 -\n"));
+}
+
+#[test]
 fn other_lines_are_not_taken() {
+    for line in [
+        "lend",
+        "lend 1 1 1",
+        "lend 0 0 1 - 0 0 1 -",
+        "lend 1 1 1 0 0 1 - 0 0 x -",
+        "lends 1 1 1 0 0 1 - 0 0 1 -",
+    ] {
+        assert!(parts(line.as_bytes()).is_none(), "{line}");
+    }
     for line in ["", "chain 1", "join", "join 1 2 3", "join 0 0 1 - 0 0 x -", "join 0 0 1 - 0 0 1 - 0"] {
         assert!(parts(line.as_bytes()).is_none(), "{line}");
     }

@@ -2,11 +2,16 @@
 #![cfg(test)]
 
 mod damage;
+mod gen_calls;
 mod gen_fault;
+mod gen_host;
 mod gen_join;
 mod gen_part;
+mod gen_quiet;
 mod gen_room;
 mod gen_spoil;
+mod gen_table;
+mod gen_walk;
 mod host;
 mod program;
 mod questions;
@@ -34,6 +39,7 @@ mod test_shrink;
 mod test_spaces;
 mod test_stop;
 mod test_table;
+mod test_table_random;
 
 use trial::board::{Answer, Board, Refusal};
 use trial::record::STORE;

@@ -81,9 +81,9 @@ def chain(fields):
     return [0] + ways
 
 
-# ---- join USED RECORDS AXES HEX USED RECORDS AXES HEX
+# ---- join USED RECORDS AXES HEX USED RECORDS AXES HEX, and lend FIRST SECOND TABLE before these
 
-STORE, MOST = 16384, 1000
+STORE, MOST, TABLE = 16384, 1000, 1000
 
 
 def up_to(most, field):
@@ -92,15 +92,15 @@ def up_to(most, field):
     return integer(field)
 
 
-def store(field):
-    if not re.fullmatch(rb"-|([0-9a-f]{2}){1,%d}" % STORE, field):
+def store(field, length):
+    if not re.fullmatch(rb"-|([0-9a-f]{2})+", field) or len(field) // 2 > length:
         raise Unreadable
-    return bytes.fromhex(field.decode().replace("-", "")).ljust(STORE, b"\0")
+    return bytes.fromhex(field.decode().replace("-", "")).ljust(length, b"\0")
 
 
-def part(fields):
+def part(fields, length):
     used, records, axes, hexadecimal = fields
-    return up_to(65535, used), up_to(65535, records), up_to(255, axes), store(hexadecimal)
+    return up_to(65535, used), up_to(65535, records), up_to(255, axes), store(hexadecimal, length)
 
 
 def kinds(axes):
@@ -149,10 +149,32 @@ def accepted(records):
             and all(target in around and around[own] == around[target] for own, target in ways(records)))
 
 
+def starts(data):
+    """Where each record of readable bytes starts: behind the bytes of all before it."""
+    lengths = []
+    while data:
+        lengths.append(4 + 4 * data[3])
+        data = data[lengths[-1]:]
+    return [sum(lengths[:place]) for place in range(len(lengths))]
+
+
 def join(fields):
-    if len(fields) != 8:
+    return lend([b"%d" % STORE, b"%d" % STORE, b"%d" % TABLE] + fields)
+
+
+def lend(fields):
+    if len(fields) != 11:
         raise Unreadable
-    parts = [part(fields[:4]), part(fields[4:])]
+    lengths = [up_to(right + 1, field) for right, field in zip([STORE, STORE, TABLE], fields)]
+    parts = [part(fields[3:7], lengths[0]), part(fields[7:], lengths[1])]
+    if lengths[:2] != [STORE, STORE]:
+        return [102]
+    if lengths[2] != TABLE:
+        return [104]
+    return joined(parts)
+
+
+def joined(parts):
     axes = {own for _, records, own, _ in parts if records} or {own for _, _, own, _ in parts}
     if len(axes) != 1 or not axes <= {1, 3, 7}:
         return ["3"]
@@ -167,13 +189,14 @@ def join(fields):
     assert enters != accepted(first + second), "the rule is not what the check needs"
     if enters:
         return ["G"]
-    joined = b"".join(data[:used] for used, _, _, data in parts)
-    if len(first + second) > MOST or len(joined) > STORE:
+    both = b"".join(data[:used] for used, _, _, data in parts)
+    if len(first + second) > MOST or len(both) > STORE:
         return ["6"]
-    return [0, len(joined), len(first + second), axes, joined.hex() or "-"]
+    table = ",".join(map(str, starts(both)))
+    return [0, len(both), len(first + second), axes, both.hex() or "-", table or "-"]
 
 
-QUESTIONS = {b"chain": chain, b"join": join}
+QUESTIONS = {b"chain": chain, b"join": join, b"lend": lend}
 
 
 def answer(line):

@@ -71,10 +71,7 @@ impl Script<'_> {
     pub fn scene(&mut self) {
         let axes = self.rng.pick(&[1, 3, 7, 7]);
         self.tame = self.rng.once_in(4);
-        if self.rng.once_in(4) {
-            let mark = self.rng.pick(&[0, 1, 7, 12, 1_000, 2_147_483_648, 4_294_967_295u64]);
-            self.say(format!("N {mark}"));
-        }
+        self.mark_once_in(4);
         if self.altered {
             self.repair();
         }
@@ -109,6 +106,13 @@ impl Script<'_> {
         }
         if self.rng.once_in(3) {
             self.show_entries();
+        }
+    }
+
+    fn mark_once_in(&mut self, times: u64) {
+        if self.rng.once_in(times) {
+            let mark = self.rng.pick(&[0, 1, 7, 12, 1_000, 2_147_483_648, 4_294_967_295u64]);
+            self.say(format!("N {mark}"));
         }
     }
 

@@ -8,7 +8,7 @@ use crate::Bench;
 use trial::join::Part;
 use trial::table::fill;
 
-/// A script of one scene, now and then of two.
+/// A script of one scene, in half of them with one more.
 fn script(seed: u64) -> String {
     let mut out = Vec::new();
     gen_calls::script(&mut Rng::new(seed), 1, &mut out);

@@ -15,7 +15,7 @@ use Rattle.motion.specs.declared.Counters.{Counters}
 use Rattle.line.specs.declared.Direct.{Direct}
 use Rattle.line.specs.Lines.{letterPaper, directOf}
 use Rattle.record.specs.declared.Held.{Held}
-use Rattle.record.specs.Memory.{Memory}
+use Rattle.record.specs.Memory.{Memory, RightMemory}
 use Rattle.record.specs.Places.{inUse}
 use Rattle.record.specs.Bytes.{Below}
 use Rattle.program.specs.Program.{verdictOf, accepted}
@@ -29,7 +29,7 @@ use Rattle.board.specs.Storing.{namedFault}
 use Rattle.board.specs.Calls.{Lent, lent}
 use Rattle.board.specs.Receive.{isStoring, resetCode}
 use Rattle.course.specs.Run.{runsNow}
-use Rattle.promise.specs.Machine.{Machine, RightMemory, Heard, Event, byte, clock, next, afterAll}
+use Rattle.promise.specs.Machine.{Machine, Heard, Event, byte, clock, next, afterAll}
 
 -- ---- what a host reads
 

@@ -2,30 +2,27 @@
 -- shut out. Each is ours but for the one thing that it does wrong; the files Fakes.. of proofs/laws show which demand it fails.
 use Prim.Native.Nat.{ℕ, zero, suc, _+_}
 use mathlib.Core.Bool.{Bool, false, not, _&&_, _||_}
-use mathlib.Core.List.{List, [], _∷_, _++_, map}
+use mathlib.Core.List.{List, [], _∷_, _++_}
 use lib.Dec.{eqb, ltb}
-use lib.IntN.{ℤ, pos, _+ℤ_}
-use lib.ListN.{length, take, drop, getD, set, replicate}
-use Rattle.count.specs.Sizes.{storeBytes, replyBytes}
+use lib.IntN.{ℤ, pos}
+use lib.ListN.{length, take, drop, getD, replicate}
+use Rattle.count.specs.Sizes.{replyBytes}
 use Rattle.count.specs.Chars.{ch}
 use Rattle.count.specs.Pick.{pick}
 use Rattle.count.specs.Paper.{Paper, says}
-use Rattle.count.specs.Numbers.{word}
-use Rattle.count.specs.Ranges.{nth}
 use Rattle.sheet.specs.declared.Converted.{Converted}
 use Rattle.sheet.specs.Chain.{results, chained, chainOf}
 use Rattle.motion.specs.declared.Counters.{Counters}
 use Rattle.motion.specs.Next.{pulseOf}
 use Rattle.record.specs.declared.Record.{Record}
-use Rattle.record.specs.Memory.{Memory}
-use Rattle.record.specs.Places.{inUse, Records, recordsOf, fetchOf, encodeAll}
+use Rattle.record.specs.Memory.{Memory, storeFits, tableFits}
+use Rattle.record.specs.Places.{Records, recordsOf}
 use Rattle.record.specs.Places.Records.{are, none-are}
+use Rattle.record.specs.Table.{fetchOf}
 use Rattle.program.specs.declared.Verdict.{Verdict}
 use Rattle.program.specs.declared.Verdict.the-variants.{Sound, Fault, Unreadable}
 use Rattle.program.specs.Check.{letter, faultFrom}
 use Rattle.program.specs.Program.{loopAt, turnAt, targetAt}
-use Rattle.program.specs.Edges.{leadsOut, ofThese}
-use Rattle.join.specs.Join.{counted, refusalOf, both, endToEnd, joining, answer, joinOf}
 use Rattle.line.specs.Spaces.{unspaced}
 use Rattle.engine.specs.declared.Answer.the-variants as answer
 use Rattle.engine.specs.declared.Job.{Job}
@@ -44,7 +41,6 @@ use Rattle.promise.specs.Demands.{idles, stores}
 use Rattle.promise.specs.Named.{faulty}
 use Rattle.promise.specs.Stop.{stoppable}
 use Rattle.promise.specs.Chain.{Chaining}
-use Rattle.promise.specs.Join.{Joiner}
 use Rattle.promise.specs.Route.{comes}
 
 -- ---- ours but for what it hears, for its clock calls, or for what its runs say
@@ -153,12 +149,14 @@ losesPulse = hearsSo (λ v ports l b. ours .hear v ports l (pick (eqb v stopCode
 abbrev pub unseen : ℕ → List ℕ → Board → Lent → Outcome
 unseen v ports b l =
     pick (ltb (length (l .reply)) replyBytes) (refused 101 b l)
-    (pick (not (eqb (length (l .memory .store)) storeBytes)) (refused 102 b l) (answered (hearing v ports b (l .memory)) (l .reply)))
+    (pick (not (storeFits (l .memory))) (refused 102 b l)
+    (pick (not (tableFits (l .memory))) (refused 104 b l) (answered (hearing v ports b (l .memory)) (l .reply))))
 
 abbrev pub unseenTick : Board → Memory → Ticked
 unseenTick b mem =
-    pick (not (eqb (length (mem .store)) storeBytes)) (clocked 102 b answer.Nothing)
-    (pick (b .standing) (clocked 0 b answer.Nothing) (wentOn b (ticked pulseOf (fetchOf (b .engine .held) (mem .store)) (b .engine))))
+    pick (not (storeFits mem)) (clocked 102 b answer.Nothing)
+    (pick (not (tableFits mem)) (clocked 104 b answer.Nothing)
+    (pick (b .standing) (clocked 0 b answer.Nothing) (wentOn b (ticked pulseOf (fetchOf (b .engine .held) mem) (b .engine)))))
 
 abbrev pub blind : Machine
 blind = record {
@@ -174,7 +172,7 @@ blind = record {
 -- a clock call that is refused 102 is answered so, and yet makes the call on an empty store
 abbrev pub stirs : Machine
 stirs = ticksSo (λ mem b.
-    pick (eqb (length (mem .store)) storeBytes) (ours .tick mem b) ((ours .tick noMemory b) .0, record { answer = says 5 []; refusal = 102 }))
+    pick (storeFits mem) (ours .tick mem b) ((ours .tick noMemory b) .0, record { answer = says 5 []; refusal = 102 }))
 
 -- ---- where a program goes
 
@@ -266,30 +264,3 @@ oneByOne a l output = chained 0 (values (results a l))
 -- a refusal sets the output to zeros
 abbrev pub clears : Chaining
 clears a l output = pick (eqb (chainOf a l output .refusal) 0) (chainOf a l output) (chained (chainOf a l output .refusal) (replicate (length output) (pos 0)))
-
--- ---- joining two programs (02 §4)
-
--- G for every jump or wait to the first's end place, whatever stands behind it
-abbrev pub anyEnd : Joiner
-anyEnd a s b t =
-    pick (eqb (refusalOf a s b t) 0 && ofThese leadsOut (recordsOf (counted a b) s)) (joining (answer (ch "G") a) s) (joinOf a s b t)
-
--- the second's bytes are written before anything is tested
-abbrev pub writesFirst : Joiner
-writesFirst a s b t = joining (joinOf a s b t .joined) (endToEnd a s b t)
-
--- the offsets of the second's loops, jumps and waits are moved by the first's count of records
-abbrev pub moved : ℕ → Record → Record
-moved n r =
-    pick (eqb (r .code) (ch "3") || eqb (r .code) (ch "2"))
-    (record { code = r .code; count = r .count; words = set (r .words) 1 (word (nth (r .words) 1 +ℤ pos n)) }) r
-
-abbrev pub movedBytes : ℕ → Records → List ℕ
-movedBytes n (are l) = encodeAll (map (moved n) l)
-movedBytes n none-are = []
-
-abbrev pub movesOffsets : Joiner
-movesOffsets a s b t =
-    pick (eqb (refusalOf a s b t) 0)
-    (joining (answer 0 (both a b)) (inUse a s ++ movedBytes (a .records) (recordsOf (counted b a) t) ++ drop (a .used + b .used) s))
-    (joinOf a s b t)

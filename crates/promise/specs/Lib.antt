@@ -9,6 +9,8 @@ pub mod Join
 pub mod Stop
 pub mod Three
 pub mod Route
+pub mod Table
 pub mod Demanded
 pub mod Twelve
 pub mod Fakes
+pub mod FakesStore

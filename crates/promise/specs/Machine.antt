@@ -1,10 +1,7 @@
 -- A machine: anything that hears bytes and clock calls and that a host can read as a board. The demands speak of any machine; ours is
 -- the one that the definitions of the board and of its runs make.
 use Prim.Native.Nat.{ℕ, _+_}
-use mathlib.Core.Path.{_≡_}
 use mathlib.Core.List.{List, [], _∷_}
-use lib.ListN.{length}
-use Rattle.count.specs.Sizes.{storeBytes}
 use Rattle.count.specs.Paper.{Paper}
 use Rattle.engine.specs.State.{paper}
 use Rattle.record.specs.Memory.{Memory}
@@ -14,10 +11,6 @@ use Rattle.board.specs.declared.Received.{Received}
 use Rattle.board.specs.declared.Ticked.{Ticked}
 use Rattle.board.specs.Calls.{Lent, Outcome, receiving, clocking, listing, fresh}
 use Rattle.course.specs.Run.{Course, course}
-
--- a memory as every call asks for it: a store of 16,384 bytes
-abbrev pub RightMemory : Memory → Type 0
-RightMemory mem = length (mem .store) ≡ storeBytes
 
 -- what hearing a byte comes to beside the next state: the length of the reply, the refusal's number or 0, and what was lent afterwards
 pub record Heard : Type 0 where

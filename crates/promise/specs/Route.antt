@@ -1,5 +1,5 @@
 -- Where a started program goes, in clock calls (00, the loop that went back one record short; 01, "Running a program", paragraphs 1 and
--- 2): an accepted program in the store, that nobody alters, stopped or not.
+-- 2): an accepted program in the store with a true table, that nobody alters, stopped or not.
 use Prim.Native.Nat.{ℕ, suc, _-_, _<_, _≤_}
 use mathlib.Core.Bool.{Bool, true, false, not, _&&_}
 use mathlib.Core.List.{List, [], _∷_, _++_}
@@ -12,8 +12,10 @@ use Rattle.count.specs.Pick.{pick}
 use Rattle.count.specs.Ranges.{nth}
 use Rattle.record.specs.declared.Held.{Held}
 use Rattle.record.specs.declared.Record.{Record}
+use Rattle.record.specs.Memory.{RightMemory}
 use Rattle.record.specs.Places.{recordsOf}
 use Rattle.record.specs.Places.Records.{are}
+use Rattle.record.specs.Table.{TableTrue}
 use Rattle.program.specs.Onward.{noLoops}
 use Rattle.program.specs.Program.{recordIn, targetAt, accepted}
 use Rattle.program.specs.Rounds.{Rounds}
@@ -24,7 +26,7 @@ use Rattle.engine.specs.State.{running, noPulse}
 use Rattle.board.specs.declared.Board.{Board}
 use Rattle.board.specs.State.{textOf, sound}
 use Rattle.board.specs.Calls.{Lent}
-use Rattle.promise.specs.Machine.{Machine, RightMemory, Event, afterAll}
+use Rattle.promise.specs.Machine.{Machine, Event, afterAll}
 use Rattle.promise.specs.Demands.{idles}
 use Rattle.promise.specs.Steps.{Each}
 use Rattle.promise.specs.Stop.{Step, Lending, receive, call, Elsewhere, isOwn, rests, Place, boardAt, ahead}
@@ -113,7 +115,7 @@ module _ (m : Machine) where
   abbrev pub Routes : Type 0
   Routes =
       (h : Held) (l : List Record) (p : Place m) (es : List Step) → Started h p → accepted h (p .1 .store) ≡ true → recordsOf h (p .1 .store) ≡ are l →
-      Each Alone es → Route l (visits m p es)
+      TableTrue h (p .1) → Each Alone es → Route l (visits m p es)
 
   -- from the first state on, after any events, whatever was lent: S on an idle board, in a call that is not refused and without a reply,
   -- has started the program

@@ -11,7 +11,7 @@ use Rattle.count.specs.Sizes.{replyBytes}
 use Rattle.count.specs.Chars.{ch}
 use Rattle.count.specs.Pick.{pick}
 use Rattle.count.specs.Paper.{Paper, says}
-use Rattle.record.specs.Memory.{Memory}
+use Rattle.record.specs.Memory.{Memory, RightMemory}
 use Rattle.engine.specs.declared.Engine.{Engine}
 use Rattle.engine.specs.declared.Job.{Job}
 use Rattle.engine.specs.Kinds.{kind, rowOf}
@@ -21,7 +21,7 @@ use Rattle.board.specs.State.{board, noLine, textOf, sound}
 use Rattle.board.specs.Direct.{replyOf}
 use Rattle.board.specs.Receive.{stopCode, resetCode}
 use Rattle.board.specs.Calls.{Lent, lent}
-use Rattle.promise.specs.Machine.{Machine, RightMemory, Heard, Event, afterAll}
+use Rattle.promise.specs.Machine.{Machine, Heard, Event, afterAll}
 use Rattle.promise.specs.Demands.{isWaiting, idles}
 use Rattle.promise.specs.Steps.{Each, reached, shown, Along, keptOf}
 
@@ -36,7 +36,8 @@ pub data Step : Type 0 where
   receive : ℕ → List ℕ → List ℕ → Lending → Step
   call : Lending → Step
 
--- the one memory is altered by nobody else: whatever else is lent has a store of another length, and every call with it is refused 102
+-- the one memory is altered by nobody else: whatever else is lent has a store or a table of another length, and every call with it is
+-- refused, 102, 103 or 104
 abbrev pub Elsewhere : Lending → Type 0
 Elsewhere own = Unit
 Elsewhere (other t) = RightMemory t → ⊥
@@ -45,7 +46,7 @@ abbrev pub isOwn : Lending → Bool
 isOwn own = true
 isOwn (other t) = false
 
--- neither 101 nor 102: a reply buffer of at least 32 bytes and the one memory
+-- not refused for what is lent: a reply buffer of at least 32 bytes and the one memory
 abbrev pub rightly : Step → Bool
 rightly (receive v ports reply d) = leb replyBytes (length reply) && isOwn d
 rightly (call d) = isOwn d

@@ -1,4 +1,4 @@
-"""The rule of joins (02, §4) and what of 01 it rests on, worked out apart from the code, for tests/vectors/joins.py.
+"""The rule of joins (02, §4 and §6) and what of 01 it rests on, worked out apart from the code, for tests/vectors/joins.py.
 
 A program is a list of records, each a list of its code and its numbers. What a loop repeats is a set of places, and by these sets a
 program is accepted or not. Each clause of the request is a method of `Join`.
@@ -80,7 +80,7 @@ def is_accepted(records):
             and all(to in around and around[to] == around[place] for place, to in targets(records).items()))
 
 
-# ---- 02, §4
+# ---- 02, §4 and §6
 
 class Join:
     def empty(self, part):
@@ -134,9 +134,26 @@ class Join:
     def result(self, first, second):
         return Part(first.used + second.used, first.records + second.records, self.axes(first, second), self.put(first, second))
 
+    def starts(self, first, second):
+        """The table's entries: where each record of both starts, by the numbers that each has."""
+        joined, starts = self.result(first, second), [0]
+        for _ in range(joined.records):
+            count = joined.store[starts[-1] + 3 : starts[-1] + 4]
+            starts.append(starts[-1] + 4 + 4 * sum(count))
+        return starts[:-1]
+
     def answer(self, first, second):
         refusals = [refusal for refusal in (rule(self, first, second) for rule in self.order) if refusal]
-        return refusals[0] if refusals else "0 " + fields(self.result(first, second))
+        return refusals[0] if refusals else f"0 {fields(self.result(first, second))} {entries(self.starts(first, second))}"
+
+    def lent(self, lengths, first, second):
+        """The answer where the two stores and the table have these lengths."""
+        *stores, table = lengths
+        return "102" if stores != [ROOM, ROOM] else "104" if table != MANY else self.answer(first, second)
+
+
+def entries(starts):
+    return ",".join(map(str, starts)) or "-"
 
 
 def fields(part):

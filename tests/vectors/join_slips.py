@@ -1,4 +1,4 @@
-"""Wrong readings of the request (02, §4), each with one clause of the rule changed, and whether joins tell them from it: for
+"""Wrong readings of the requests (02, §4 and §6), each with one clause of the rule changed, and whether joins tell them from it: for
 tests/vectors/joins.py.
 """
 from join_rule import MANY, NUMBERS, ROOM, Join, is_accepted, repeated, targets
@@ -134,6 +134,22 @@ class RoomBeforePrograms(Join):
 
 class RoomBeforeAxes(Join):
     order = (Join.room_wrong, Join.axes_wrong, Join.programs_wrong)
+
+
+class StartsOfTheNext(Join):
+    def starts(self, first, second):
+        return super().starts(first, second)[1:] + [first.used + second.used]
+
+
+class StartsOfTheSecondAlone(Join):
+    def starts(self, first, second):
+        return super().starts(first, second)[first.records :]
+
+
+class SecondFromItsOwnFront(Join):
+    def starts(self, first, second):
+        starts = super().starts(first, second)
+        return starts[: first.records] + [start - first.used for start in starts[first.records :]]
 
 
 def tell_apart(rows):

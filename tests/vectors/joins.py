@@ -1,15 +1,16 @@
-"""Vectors of joins (02, §4), worked out apart from the code: a part of tests/vectors/ask.py, which writes them.
+"""Vectors of joins (02, §4 and §6), worked out apart from the code: a part of tests/vectors/ask.py, which writes them.
 
 A line is `join` and two programs, each its bytes in use, its records, its axes and the bytes of its store as hexadecimal digits,
-`-` for none. Its answer is 0 and the joined program in the same form, or the refusal alone: 3, G or 6. A line that cannot be read
-is answered `?`.
+`-` for none. Its answer is 0, the joined program in the same form and the entries of its table, or the refusal alone: 3, G or 6. A line
+`lend` has the lengths of both stores and of the table in front; its answer may be 102 or 104 too. A line that cannot be read is
+answered `?`.
 
 The answers are those of `Join` in tests/vectors/join_rule.py. The script stops if the result of a join is not accepted itself, or if
 too few of the lines tell a wrong reading of tests/vectors/join_slips.py from the rule.
 """
 import itertools
 
-from join_rule import NUMBERS, ROOM, Join, Part, fields, is_accepted, read, stored
+from join_rule import MANY, NUMBERS, ROOM, Join, Part, fields, is_accepted, read, stored
 from join_slips import tell_apart
 from sheet import Draw
 
@@ -304,6 +305,30 @@ def drawn(draw):
             yield parts
 
 
+# ---- other lengths
+
+RIGHT = (ROOM, ROOM, MANY)
+LENGTHS = [RIGHT, (ROOM - 1, ROOM, MANY), (ROOM, ROOM - 1, MANY), (ROOM + 1, ROOM, MANY), (ROOM, ROOM + 1, MANY), (0, 0, 0), (40, 60, MANY),
+           (ROOM, ROOM, MANY - 1), (ROOM, ROOM, MANY + 1), (ROOM, ROOM, 0), (ROOM, ROOM, 1), (ROOM - 1, ROOM, 0), (ROOM, ROOM + 1, MANY - 1)]
+
+
+def lent(lengths, first, second):
+    return "lend " + " ".join(map(str, lengths)) + f" {fields(first)} {fields(second)}"
+
+
+def lendings():
+    """102 and 104 before the others, and beside a join that is right: lengths and programs."""
+    wrong_axes, spoiled = (SHORT._replace(axes=3), OTHER), (part_of(SEND, used=7), OTHER)
+    entering, crowded = (part_of(*CLAMP), part_of(*ROW)), (part_of(*[FLAT] * 501), part_of(*[SOON] * 500))
+    small = NONE, NONE
+    for lengths in LENGTHS:
+        for pair in (small,) if min(lengths[:2]) < 40 else (wrong_axes, spoiled, entering, (SHORT, OTHER), small):
+            yield lengths, pair
+        if min(lengths[:2]) > ROOM - 2:
+            yield lengths, crowded
+    yield (16, 32, MANY), (part_of(SEND, FLAT), part_of(SOON, ASK, FLAT))
+
+
 def vectors():
     for kind in (worked_examples, axes_of_two, axes_of_empty, faults, unreadable_programs, odd_fields, rule_of_the_two, full, orders):
         yield from kind()
@@ -333,6 +358,7 @@ def part():
     for words, said in forms():
         rows.append((f"join {words} {fields(OTHER)}", expected(said, OTHER)))
         rows.append((f"join {fields(OTHER)} {words}", expected(OTHER, said)))
+    rows += [(lent(lengths, *pair), Join().lent(lengths, *pair)) for lengths, pair in lendings()]
     return rows
 
 
@@ -368,3 +394,17 @@ def unreadable():
         yield QUESTION + " " + more
     yield f"join 8 1 0 {words[4]} 8 1 5 d72b"[:-1]  # 3, if it could be read
     yield QUESTION.replace(" ", ",")
+    yield from unlent()
+
+
+def unlent():
+    """The same of lines that say the lengths."""
+    words = lent(RIGHT, SHORT, OTHER).split(" ")
+    for count in (1, 2, 3, 4, 5, 8, 11):
+        yield " ".join(words[:count])
+    for at, word in ((0, "lent"), (1, "16386"), (2, "16386"), (3, "1002"), (1, "-1"), (2, "-1"), (3, "-1"), (1, "65536"), (3, "x"), (2, ""), (3, "1e3")):
+        yield " ".join(words[:at] + [word] + words[at + 1 :])
+    yield " ".join(words) + " 0"
+    for lengths in ((15, ROOM, MANY), (ROOM, 23, MANY), (0, 24, MANY)):  # more bytes than the store has
+        yield lent(lengths, SHORT, OTHER)
+    yield lent((ROOM, ROOM, MANY), SHORT._replace(store=bytes(ROOM + 1)), OTHER)

@@ -86,8 +86,8 @@ def pulses(axes, three, absolute, at, origin, numbers):
 # ---- the engine
 
 class Engine:
-    def __init__(self, axes, store):
-        self.store = store
+    def __init__(self, axes, store, table):
+        self.store, self.table = store, table
         self.axes, self.at, self.origin, self.three = axes, [0, 0, 0], [0, 0, 0], False
         self.used, self.records, self.held = 0, 0, 0
         self.stop()
@@ -102,20 +102,16 @@ class Engine:
         return self.used <= 16384 and self.records <= 1000 and len(self.loops) <= 7 and self.axes in (0, 1, 3, 7) and self.held in (0, 1, 3, 7)
 
     def fetch(self):
-        """The record at the place, from the front, every record passed right; None where it can't be reached and read."""
-        part, at = self.store[:min(self.used, len(self.store))], 0
-        for i in range(self.place + 1):
-            head = part[at:at + 4]
-            if len(head) < 4 or head[:2] != [0xD7, 0x2B] or head[3] > 8 or at + 4 + 4 * head[3] > len(part):
-                return None
-            numbers = []
-            for j in range(head[3]):
-                n = int.from_bytes(bytes(part[at + 4 + 4 * j:at + 8 + 4 * j]), "little")
-                numbers.append(n - (1 << 32) if n >> 31 else n)
-            if not right(self.held, head[2], numbers):
-                return None
-            at += 4 + 4 * head[3]
-        return CODES[head[2]], numbers
+        """The record at the byte that the table has for the place; None where none can be read, or not the whole of it is in use."""
+        part, at = self.store[:min(self.used, len(self.store))], self.table[self.place] if self.place < len(self.table) else 65535
+        head = part[at:at + 4]
+        if len(head) < 4 or head[:2] != [0xD7, 0x2B] or head[3] > 8 or at + 4 + 4 * head[3] > len(part):
+            return None
+        numbers = []
+        for j in range(head[3]):
+            n = int.from_bytes(bytes(part[at + 4 + 4 * j:at + 8 + 4 * j]), "little")
+            numbers.append(n - (1 << 32) if n >> 31 else n)
+        return (CODES[head[2]], numbers) if right(self.held, head[2], numbers) else None
 
     def ends(self, byte):
         self.stop()
@@ -212,14 +208,14 @@ class Engine:
 
 class Script:
     def __init__(self):
-        self.store, self.lines, self.out = [0] * 16384, [], []
+        self.store, self.table, self.lines, self.out = [0] * 16384, [0] * 1000, [], []
         self.fresh(0)
 
     def step(self, kind, *numbers):
         self.lines.append(" ".join(str(n) for n in (kind, *numbers, *[0] * (10 - len(numbers)))))
 
     def fresh(self, axes):
-        self.e = Engine(axes, self.store)
+        self.e = Engine(axes, self.store, self.table)
         self.step(0, axes)
 
     def keep(self, code, *numbers):
@@ -228,7 +224,7 @@ class Script:
         b = encoded(c, numbers)
         fits = e.records + 1 <= 1000 and e.used + len(b) <= 16384
         if fits:
-            self.store[e.used:e.used + len(b)] = b
+            self.store[e.used:e.used + len(b)], self.table[e.records] = b, e.used
             e.used, e.records = e.used + len(b), e.records + 1
         self.step(2, c, len(numbers), *numbers)
         self.out.append(f"K {int(fits)}")
@@ -264,6 +260,10 @@ class Script:
     def poke(self, at, byte):
         self.step(8, at, byte)
         self.store[at] = byte
+
+    def enter(self, place, at):
+        self.step(18, place, at)
+        self.table[place] = at
 
     def hold(self, used, records, axes):
         self.step(9, used, records, axes)
@@ -419,7 +419,7 @@ def programs(s):
 
 
 def altered(s):
-    """What a host altered: mark, code, count, number, the part in use, place, targets, an eighth loop."""
+    """What a host altered: mark, code, count, number, the part in use, place, entries of the table, targets, an eighth loop."""
     good = (("1", 33), ("0", 1, 600), ("1", 34))
     for at, byte in ((0, 0xD6), (1, 0x2A), (8, 0xD6), (9, 0), (10, 51), (11, 3), (11, 9), (12, 1), (15, 1), (16, 29), (20, 0), (23, 9), (24, 127)):
         s.fresh(1)
@@ -443,6 +443,13 @@ def altered(s):
         s.stand(place, depth)
         s.show()
         s.calls(3)
+        s.show()
+    for place, at in ((0, 8), (1, 0), (1, 20), (1, 24), (2, 8), (2, 0), (1, 9), (1, 12), (2, 28), (2, 27), (1, 65535), (3, 0), (999, 0)):
+        s.fresh(1)
+        s.program(*good)
+        s.enter(place, at)
+        s.start()
+        s.calls(6)
         s.show()
     for r in (("3", 0, 3), ("3", 0, 2), ("3", 0, -1), ("3", 0, -2), ("3", 1, -2), ("3", 2, -1), ("2", 65, 3), ("2", 65, -2), ("2", 65, 1), ("3", 32767, -32768), ("3", 1, 0), ("2", 32, 0)):
         s.fresh(1)

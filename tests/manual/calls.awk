@@ -17,7 +17,12 @@ part == "answers" { print }
     else if (sent ~ /^ports /) command("I" substr(sent, 6), 0)
     else if (sent ~ /^lend reply [0-9]+$/) command("R " field[3], 0)
     else if (sent ~ /^lend store [0-9]+$/) command("M " field[3], 0)
+    else if (sent ~ /^lend table [0-9]+$/) command("U " field[3], 0)
     else if (sent ~ /^host store /) command("W" substr(sent, 11), 0)
+    else if (sent ~ /^host held /) command("K" substr(sent, 10), 0)
+    else if (sent ~ /^host table /) command("T" substr(sent, 11), 0)
+    else if (sent ~ /^table [0-9]+$/) command("V " field[2], 1)
+    else if (sent == "fill") command("F", 1)
     else if (sent ~ /^host /) command("H" substr(sent, 5), 0)
     else if (sent == "list") listing()
     else {
@@ -57,6 +62,8 @@ function answer(line, word) {
     split(line, word, " ")
     if (line == "B -") return
     if (line ~ /^[BC] 10[1-6]$/) print "refused " word[2]
+    else if (word[1] == "F") print (word[2] == "0" ? "filled" : "refused " word[2])
+    else if (word[1] == "V") print "entry " word[2]
     else if (word[1] == "B") print "reply " word[2]
     else if (word[2] == "Pulse") print "pulse " word[3] " " word[4]
     else if (word[2] == "Send") print "send " sprintf("%c", word[3] + 0)

@@ -62,9 +62,10 @@ pub fn refusal(code: u8, axes: u8, v: &[i32]) -> Option<u8> {
     (!right).then_some(b'1')
 }
 
-/// Axes named by n and N: 1 to 7 and none beyond those set.
+/// Some of the axes set: with 0, 1, 3 or 7 set, those are the numbers from 1 to theirs. So it is read of other axes
+/// too, which a host may have kept and a filling of the table meets (D197).
 pub fn mask_right(mask: i32, axes: u8) -> bool {
-    (1..=7).contains(&mask) && mask & !(axes as i32) == 0
+    (1..=7).contains(&mask) && mask <= axes as i32
 }
 
 fn offset_right(v: i32) -> bool {

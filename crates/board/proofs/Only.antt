@@ -33,11 +33,20 @@ receive-reply s = s .1 .1 .1 .0
 abbrev receive-store : {X A B C D E : Type 0} → A × (B × (C × (D × (X × E)))) → X
 receive-store s = s .1 .1 .1 .1 .0
 
+-- the sixth parameter, `table: &mut [u16]`, as it is left
+abbrev receive-table : {X A B C D E F : Type 0} → A × (B × (C × (D × (E × (X × F))))) → X
+receive-table s = s .1 .1 .1 .1 .1 .0
+
 pub receive-one : (κs : _) (a : _) (r r′ : _) (s s′ : _) → receive.Post κs a r s → receive.Post κs a r′ s′
     → (r ≡ r′) × (now (receive-reply s) ≡ now (receive-reply s′)) × (now (receive-store s) ≡ now (receive-store s′))
+    × (now (receive-table s) ≡ now (receive-table s′))
 receive-one κs a r r′ s s′ p q =
-    let e = p ∙ sym q in
-    (ap (λ (o : Outcome). o .result) e, ap (λ (o : Outcome). o .after .reply) e, ap (λ (o : Outcome). o .after .memory .store) e)
+    let e = p ∙ sym q in (
+      ap (λ (o : Outcome). o .result) e,
+      ap (λ (o : Outcome). o .after .reply) e,
+      ap (λ (o : Outcome). o .after .memory .store) e,
+      ap (λ (o : Outcome). o .after .memory .table) e,
+    )
 
 pub take-one : (κs : _) (a : _) (r r′ : _) (s s′ : _) → take.Post κs a r s → take.Post κs a r′ s′ → r ≡ r′
 take-one κs a r r′ s s′ p q = p ∙ sym q

@@ -13,7 +13,7 @@ use Rattle.count.proofs.laws.Truth.{never}
 use Rattle.motion.specs.declared.Counters.{Counters}
 use Rattle.record.specs.declared.Held.{Held}
 use Rattle.record.specs.declared.Record.{Record}
-use Rattle.record.specs.Memory.{Memory, memory}
+use Rattle.record.specs.Memory.{Memory}
 use Rattle.record.specs.Bytes.{encode}
 use Rattle.record.specs.Keep.{storing, longer, hasRoom, storeOf}
 use Rattle.record.proofs.laws.Put.{room-so}
@@ -54,7 +54,7 @@ use Rattle.board.proofs.laws.Hears.{ear-so, sound-engine, sound-line}
 pub data Change (byte : ℕ) (b : Board) (m : Memory) (s : Said) : Type 0 where
   same : s .memory ≡ m → Change byte b m s
   stored : (r : Record) → byte ≡ 13 → isStoring (b .engine .run .job) && not (b .standing) ≡ true → s .reply ≡ 48 ∷ []
-      → s .memory ≡ memory (storeOf (b .engine .held) r (m .store) .bytes) → Change byte b m s
+      → s .memory ≡ storeOf (b .engine .held) r m .memory → Change byte b m s
 
 pub record Fair (byte : ℕ) (b : Board) (m : Memory) (s : Said) : Type 0 where
   pub kept : sound (s .board) ≡ true
@@ -149,7 +149,7 @@ module _ (b : Board) (h : sound b ≡ true) (still : b .standing ≡ false → S
 
 -- ---- the part in use after a record
 
-held-by : (t : Bool) (d : Held) (n : ℕ) (x y : List ℕ) (e : Engine) → soundOf e ≡ true → d ≡ e .held
+held-by : (t : Bool) (d : Held) (n : ℕ) (x y : Memory) (e : Engine) → soundOf e ≡ true → d ≡ e .held
     → (t ≡ true → (d .records + 1 ≤ 1000) × (d .used + n ≤ 16384))
     → soundOf (withHeld e (pick t (storing (record { stored = true; held = longer d n }) x) (storing (record { stored = false; held = d }) y) .kept .held)) ≡ true
 held-by true d n x y e h q f =
@@ -159,11 +159,11 @@ held-by true d n x y e h q f =
     held-keeps e h (longer d n) a (r .1) (r .0)
 held-by false d n x y e h q f = rw q h
 
-pub stored-sound : (r : Record) (m : Memory) (e : Engine) → soundOf e ≡ true → soundOf (withHeld e (storeOf (e .held) r (m .store) .kept .held)) ≡ true
+pub stored-sound : (r : Record) (m : Memory) (e : Engine) → soundOf e ≡ true → soundOf (withHeld e (storeOf (e .held) r m .kept .held)) ≡ true
 unfolding storeOf
 stored-sound r m e h =
-    held-by (hasRoom (e .held) (length (encode r)) (length (m .store))) (e .held) (length (encode r)) _ _ e h refl
-    (λ p. let z = room-so (e .held) (length (encode r)) (length (m .store)) p in (z .0, z .1))
+    held-by (hasRoom (e .held) (length (encode r)) (length (m .store)) (length (m .table))) (e .held) (length (encode r)) _ _ e h refl
+    (λ p. let z = room-so (e .held) (length (encode r)) (length (m .store)) (length (m .table)) p in (z .0, z .1))
 
 -- ---- every byte
 

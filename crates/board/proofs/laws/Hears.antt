@@ -11,8 +11,8 @@ use Rattle.count.specs.Pick.{pick}
 use Rattle.count.proofs.laws.Truth.{and-left, and-right}
 use Rattle.motion.specs.work.Here.{nextOf}
 use Rattle.motion.specs.Next.{pulseOf}
-use Rattle.record.specs.Memory.{Memory}
-use Rattle.record.specs.Places.{fetchOf}
+use Rattle.record.specs.Memory.{Memory, RightMemory}
+use Rattle.record.specs.Table.{fetchOf}
 use Rattle.record.specs.Listing.{Telling, listOf}
 use Rattle.line.specs.declared.Direct.{Direct}
 use Rattle.line.specs.Lines.{directOf, storedOf}
@@ -110,13 +110,13 @@ pub sound-line : (b : Board) → sound b ≡ true → b .line .len ≤ 80
 unfolding sound
 sound-line b h = leb-true (b .line .len) 80 (and-right (soundOf (b .engine)) (leb (b .line .len) 80) h)
 
-pub received-so : (byte : ℕ) (ports : List ℕ) (b : Board) (reply : List ℕ) (m : Memory) → 32 ≤ length reply → length (m .store) ≡ 16384 → sound b ≡ true
+pub received-so : (byte : ℕ) (ports : List ℕ) (b : Board) (reply : List ℕ) (m : Memory) → 32 ≤ length reply → RightMemory m → sound b ≡ true
     → (s : Spoke) {reply′ : List ℕ} {m′ : Memory} {r : Received} → spoke s m′ ≡ hearing byte ports b m → r ≡ receivedOf s
     → reply′ ≡ work.textOf s ++ drop (length (work.textOf s)) reply → did r (lent reply′ m′) ≡ receiving byte ports b (lent reply m)
 unfolding receiving
 received-so byte ports b reply m l k h s {reply′} {m′} {r} e p q =
     let z : did r (lent reply′ m′) ≡ answered (spoke s m′) reply = rw (p, q) in
-    z ∙ ap (λ (x : Said). answered x reply) e ∙ rw (le-ltb (length reply) 32 l, eq-eqb (length (m .store)) 16384 k, h)
+    z ∙ ap (λ (x : Said). answered x reply) e ∙ rw (le-ltb (length reply) 32 l, eq-eqb (length (m .store)) 16384 (k .0), h, eq-eqb (length (m .table)) 1000 (k .1))
 
 -- the code's test of 103, on what a clock call would do and on the line
 long-by : (n : ℕ) → ltb 80 n ≡ not (leb n 80)
@@ -139,16 +139,16 @@ refused-so b e p =
 
 -- and what it then does
 pub acted-so : (b : Board) (m : Memory) → sound b ≡ true → {a : Act} {t : Told} → a ≡ seenOf (b .engine)
-    → t ≡ actedBy nextOf (fetchOf (b .engine .held) (m .store)) a (b .engine) → t ≡ ticked nextOf (fetchOf (b .engine .held) (m .store)) (b .engine)
+    → t ≡ actedBy nextOf (fetchOf (b .engine .held) m) a (b .engine) → t ≡ ticked nextOf (fetchOf (b .engine .held) m) (b .engine)
 acted-so b m h e p =
-    rw (p, e, seen-act (b .engine) (sound-engine b h)) (acted-is-ticked (fetchOf (b .engine .held) (m .store)) (b .engine))
+    rw (p, e, seen-act (b .engine) (sound-engine b h)) (acted-is-ticked (fetchOf (b .engine .held) m) (b .engine))
 
-pub clocked-so : (b : Board) (m : Memory) → length (m .store) ≡ 16384 → sound b ≡ true → b .standing ≡ false
-    → {t : Told} → t ≡ ticked nextOf (fetchOf (b .engine .held) (m .store)) (b .engine) → wentOn b t ≡ clocking b m
+pub clocked-so : (b : Board) (m : Memory) → RightMemory m → sound b ≡ true → b .standing ≡ false
+    → {t : Told} → t ≡ ticked nextOf (fetchOf (b .engine .held) m) (b .engine) → wentOn b t ≡ clocking b m
 unfolding clocking
 clocked-so b m l h s {t} e =
-    let p : t ≡ ticked pulseOf (fetchOf (b .engine .held) (m .store)) (b .engine) = e ∙ rules-agree (fetchOf (b .engine .held) (m .store)) (b .engine) (sound-engine b h) in
-    ap (λ (x : Told). wentOn b x) p ∙ rw (eq-eqb (length (m .store)) 16384 l, h, s)
+    let p : t ≡ ticked pulseOf (fetchOf (b .engine .held) m) (b .engine) = e ∙ rules-agree (fetchOf (b .engine .held) m) (b .engine) (sound-engine b h) in
+    ap (λ (x : Told). wentOn b x) p ∙ rw (eq-eqb (length (m .store)) 16384 (l .0), h, eq-eqb (length (m .table)) 1000 (l .1), s)
 
 pub listed-so : (b : Board) (store text : List ℕ) → length store ≡ 16384 → sound b ≡ true → {x : Telling} → x ≡ listOf (b .engine .held) store text
     → x ≡ listing b store text

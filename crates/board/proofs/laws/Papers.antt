@@ -8,7 +8,7 @@ use lib.ListN.{getD}
 use borrow.Author.Tests.{eq-eqb}
 use Rattle.count.specs.Pick.{pick}
 use Rattle.count.specs.Text.{fourDigits}
-use Rattle.record.specs.Memory.{Memory, memory}
+use Rattle.record.specs.Memory.{Memory}
 use Rattle.record.specs.Keep.{storeOf}
 use Rattle.program.specs.declared.Verdict.{Verdict}
 use Rattle.program.specs.declared.Verdict.the-variants as verdict
@@ -51,6 +51,6 @@ module _ (d : Stored) (b : Board) (m : Memory) where
   -- A RECORD'S LINE that no row refuses replies its number, and the record that is written has the code on paper
   pub record-paper : (c : ℕ) → recordReply (b .engine .held) (recordOf c d) m ≡ 48
       → (storedBy (code.Record c) d b m .reply ≡ codePaper (code.Record c) .number ∷ [])
-      × (storedBy (code.Record c) d b m .memory ≡ memory (storeOf (b .engine .held) (recordOf c d) (m .store) .bytes))
+      × (storedBy (code.Record c) d b m .memory ≡ storeOf (b .engine .held) (recordOf c d) m .memory)
       × (pos (recordOf c d .code) ∷ [] ≡ codePaper (code.Record c) .values)
   record-paper c e = let t = eq-eqb (recordReply (b .engine .held) (recordOf c d) m) 48 e in (rw t, rw t, refl)

@@ -44,7 +44,7 @@ module _ (r : Record) (b : Board) (m : Memory) (k : isCode (r .code) ≡ true) w
   fault = faultOf (b .engine .held .axes) (r .code) (r .count) (r .words)
 
   abbrev fits : Bool
-  fits = storeOf (b .engine .held) r (m .store) .kept .stored
+  fits = storeOf (b .engine .held) r m .kept .stored
 
   reply-so : recordReply (b .engine .held) r m ≡ pick (eqb fault 48) (pick (not fits) 54 48) fault
   unfolding recordReply faultOf
@@ -70,16 +70,16 @@ module _ (r : Record) (b : Board) (m : Memory) (k : isCode (r .code) ≡ true) w
     pub record-kept : f ≡ 48 → {x : Said} → x ≡ keptSaid r b m → x ≡ recordSaid r b m
     record-kept h p = p ∙ sym (record-so ∙ rw (← e, eq-eqb f 48 h))
 
--- a record that isn't stored leaves the store as it was
-kept-by : (t : Bool) (h : Held) (r : Record) (s l : List ℕ) {k : Kept} {x : List ℕ}
-    → storing k x ≡ pick t (storing (record { stored = true; held = longer h (length (encode r)) }) l) (storing (record { stored = false; held = h }) s)
-    → k .stored ≡ false → x ≡ s
-kept-by true h r s l e p = let q = ap (λ (y : Storing). y .kept .stored) e in let z : _≡_ {A = ℕ} 0 1 = cc in absurd (omega arith)
-kept-by false h r s l e p = ap (λ (y : Storing). y .bytes) e
+-- a record that isn't stored leaves the memory as it was
+kept-by : (t : Bool) (h : Held) (r : Record) (m l : Memory) {k : Kept} {x : Memory}
+    → storing k x ≡ pick t (storing (record { stored = true; held = longer h (length (encode r)) }) l) (storing (record { stored = false; held = h }) m)
+    → k .stored ≡ false → x ≡ m
+kept-by true h r m l e p = let q = ap (λ (y : Storing). y .kept .stored) e in let z : _≡_ {A = ℕ} 0 1 = cc in absurd (omega arith)
+kept-by false h r m l e p = ap (λ (y : Storing). y .memory) e
 
-pub not-kept : (h : Held) (r : Record) (s : List ℕ) {k : Kept} {x : List ℕ} → storing k x ≡ storeOf h r s → k .stored ≡ false → x ≡ s
+pub not-kept : (h : Held) (r : Record) (m : Memory) {k : Kept} {x : Memory} → storing k x ≡ storeOf h r m → k .stored ≡ false → x ≡ m
 unfolding storeOf
-not-kept h r s e p = kept-by (hasRoom h (length (encode r)) (length s)) h r s _ e p
+not-kept h r m e p = kept-by (hasRoom h (length (encode r)) (length (m .store)) (length (m .table))) h r m _ e p
 
 -- ---- a right record has at most eight numbers
 

@@ -12,7 +12,7 @@ use lib.ListN.{length, getD, take, drop, drop-of-length-le}
 use Rattle.count.specs.Pick.{pick}
 use Rattle.count.proofs.laws.Lists.{next}
 use Rattle.count.proofs.laws.Truth.{and-left, and-right, both}
-use Rattle.record.specs.Memory.{Memory}
+use Rattle.record.specs.Memory.{Memory, RightMemory}
 use Rattle.board.specs.declared.Line.{Line}
 use Rattle.board.specs.declared.Lined.{Lined}
 use Rattle.board.specs.declared.Board.{Board}
@@ -144,7 +144,7 @@ receivedAll ports (byte ∷ input) b l =
     let a = receivedAll ports input (o .result .board) (o .after) in
     did (record { board = a .result .board; len = o .result .len + a .result .len; refusal = o .result .refusal + a .result .refusal }) (a .after)
 
-module _ (ports reply : List ℕ) (m : Memory) (r : 32 ≤ length reply) (k : length (m .store) ≡ 16384) where
+module _ (ports reply : List ℕ) (m : Memory) (r : 32 ≤ length reply) (k : RightMemory m) where
   plain-received : (byte : ℕ) (b : Board) → takes b ≡ true → isPlain byte ≡ true
       → receiving byte ports b (lent reply m) ≡ quietly (withLine b (gathered byte (b .line))) (lent reply m)
   plain-received byte b h p =

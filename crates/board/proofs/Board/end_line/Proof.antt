@@ -9,7 +9,9 @@ replies-requires : tie.Need-replies-requires
 replies-requires c κs = search needs
 
 returns : tie.Need-returns
-returns c = return-over (c .before .before .before .before .before .before .args .ports) (c .before .before .before .before .before .before .args .self) (memory (c .before .before .before .before .before .before .args .store .now)) (c .before .if1 .taken) (c .replies .ensures)
+returns c =
+    let a = c .before .before .before .before .before .before .before .args in
+    return-over (a .ports) (a .self) (memory (a .store .now) (a .table .now)) (c .before .if1 .taken) (c .replies .ensures)
 
 is-storing-requires : tie.Need-is-storing-requires
 is-storing-requires c κs = search needs
@@ -20,8 +22,13 @@ store-line-requires c κs = search needs
 same-length : tie.Need-same-length
 same-length c = search needs
 
+same-length-2 : tie.Need-same-length-2
+same-length-2 c = search needs
+
 returns-2 : tie.Need-returns-2
-returns-2 c = return-stored (c .before .before .before .before .before .before .before .before .before .before .before .before .args .ports) (c .before .before .before .before .before .before .before .before .before .before .before .before .args .self) (memory (c .before .before .before .before .before .before .before .before .before .before .before .before .args .store .now)) (c .before .before .before .before .before .before .before .if1 .left) (c .before .before .before .before .before .before .is-storing .ensures) (c .before .before .before .before .if2 .taken) (c .before .before .store-line .ensures)
+returns-2 c =
+    let a = c .before .before .before .before .before .before .before .before .before .before .before .before .before .before .before .before .args in
+    return-stored (a .ports) (a .self) (memory (a .store .now) (a .table .now)) (c .before .before .before .before .before .before .before .before .before .before .if1 .left) (c .before .before .before .before .before .before .before .before .before .is-storing .ensures) (c .before .before .before .before .before .before .before .if2 .taken) (c .before .before .before .before .store-line .ensures)
 
 as-direct-requires : tie.Need-as-direct-requires
 as-direct-requires c κs = search needs
@@ -30,7 +37,9 @@ obey-requires : tie.Need-obey-requires
 obey-requires c κs = search needs
 
 returns-3 : tie.Need-returns-3
-returns-3 c = return-direct (c .before .before .before .before .before .before .before .before .before .before .args .ports) (c .before .before .before .before .before .before .before .before .before .before .args .self) (memory (c .before .before .before .before .before .before .before .before .before .before .args .store .now)) (c .before .before .before .before .before .if1 .left) (c .before .before .before .before .is-storing .ensures) (c .before .before .if2 .left) (c .before .as-direct .ensures) (c .obey .ensures)
+returns-3 c =
+    let a = c .before .before .before .before .before .before .before .before .before .before .before .args in
+    return-direct (a .ports) (a .self) (memory (a .store .now) (a .table .now)) (c .before .before .before .before .before .if1 .left) (c .before .before .before .before .is-storing .ensures) (c .before .before .if2 .left) (c .before .as-direct .ensures) (c .obey .ensures)
 
 pub end-line-spec : {M : Type 1} → statement M
 end-line-spec =
@@ -41,6 +50,7 @@ end-line-spec =
     is-storing-requires
     store-line-requires
     same-length
+    same-length-2
     returns-2
     as-direct-requires
     obey-requires

@@ -43,13 +43,13 @@ replies-requires-2 : tie.Need-replies-requires-2
 replies-requires-2 c κs = search needs
 
 returns : tie.Need-returns
-returns c = simp (← c .before .before .before .before .check .ensures, c .before .before .enum-told .given .1, c .before .cease .ensures, c .replies .ensures)
+returns c = λ table. simp (← c .before .before .before .before .check .ensures, c .before .before .enum-told .given .1, c .before .cease .ensures, c .replies .ensures)
 
 returns-2 : tie.Need-returns-2
-returns-2 c = simp (← c .before .before .before .before .before .before .before .check .ensures, c .before .before .before .before .before .verdict .given .1, c .before .before .before .empty .ensures, c .before .before .cease2 .ensures, c .before .with-engine .ensures, c .says .ensures)
+returns-2 c = λ table. simp (← c .before .before .before .before .before .before .before .check .ensures, c .before .before .before .before .before .verdict .given .1, c .before .before .before .empty .ensures, c .before .before .cease2 .ensures, c .before .with-engine .ensures, c .says .ensures)
 
 returns-3 : tie.Need-returns-3
-returns-3 c = simp (← c .before .before .before .before .before .check .ensures, c .before .before .before .enum-told2 .given .1, c .before .before .empty2 .ensures, c .before .cease3 .ensures, c .replies2 .ensures)
+returns-3 c = λ table. simp (← c .before .before .before .before .before .check .ensures, c .before .before .before .enum-told2 .given .1, c .before .before .empty2 .ensures, c .before .cease3 .ensures, c .replies2 .ensures)
 
 pub end-storing-spec : {M : Type 1} → statement M
 end-storing-spec =

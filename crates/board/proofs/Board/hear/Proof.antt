@@ -52,13 +52,16 @@ quit-requires c κs = search needs
 
 -- a byte that is gathered does not come here
 returns : tie.Need-returns
-returns c = never (sym (c .before .before .before .before .pre .1) ∙ ap isGather (c .before .enum-told .given .1))
+returns c = never (sym (c .before .before .before .before .before .pre .1) ∙ ap isGather (c .before .enum-told .given .1))
 
 same-length : tie.Need-same-length
 same-length c = search needs
 
+same-length-2 : tie.Need-same-length-2
+same-length-2 c = search needs
+
 returns-2 : tie.Need-returns-2
-returns-2 c = rw (c .before .before .before .before .enum-told2 .given .1) (c .before .before .end-line .ensures)
+returns-2 c = rw (c .before .before .before .before .before .before .before .enum-told2 .given .1) (c .before .before .before .before .end-line .ensures)
 
 returns-3 : tie.Need-returns-3
 returns-3 c = rw (c .before .enum-told3 .given .1) (spoke-as _ (c .listen .ensures))
@@ -96,6 +99,7 @@ hear-spec =
     quit-requires
     returns
     same-length
+    same-length-2
     returns-2
     returns-3
     returns-4

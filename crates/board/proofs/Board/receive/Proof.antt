@@ -43,6 +43,13 @@ returns-3 : tie.Need-returns-3
 unfolding receiving
 returns-3 c = simp (le-ltb _ _ (c .before .before .before .before .if1 .left), eq-eqb _ _ (c .before .before .before .if2 .left), ← c .before .before .sound .ensures, c .before .if3 .taken, c .refuse3 .ensures)
 
+refuse-requires-4 : tie.Need-refuse-requires-4
+refuse-requires-4 c κs = search needs
+
+returns-4 : tie.Need-returns-4
+unfolding receiving
+returns-4 c = simp (le-ltb _ _ (c .before .before .before .before .before .if1 .left), eq-eqb _ _ (c .before .before .before .before .if2 .left), ← c .before .before .before .sound .ensures, c .before .before .if3 .left, ne-eqb _ _ (c .before .if4 .taken), c .refuse4 .ensures)
+
 ear-requires : tie.Need-ear-requires
 ear-requires c κs = search needs
 
@@ -55,12 +62,13 @@ gather-requires c κs = search needs
 quiet-requires : tie.Need-quiet-requires
 quiet-requires c κs = search needs
 
-returns-4 : tie.Need-returns-4
-returns-4 c =
-    let a = c .before .before .before .before .before .before .before .before .before .before .before in
-    received-so (a .args .byte) (a .args .ports) (a .args .self) (a .args .reply .now) (memory (a .args .store .now)) (c .before .before .before .before .before .before .before .before .if1 .left) (c .before .before .before .before .before .before .before .if2 .left)
-    (sym (c .before .before .before .before .before .before .sound .ensures) ∙ not-false _ (c .before .before .before .before .before .if3 .left)) (spokeOf (c .before .gather .result) saying.Silent)
-    (gathered-so (a .args .byte) (a .args .ports) (a .args .self) (memory (a .args .store .now)) (sym (c .before .before .enum-told .given .1) ∙ c .before .before .before .before .ear .ensures) (c .before .gather .ensures)) (c .quiet .ensures) refl
+returns-5 : tie.Need-returns-5
+returns-5 c =
+    let a = c .before .before .before .before .before .before .before .before .before .before .before .before .before .args in
+    let m = memory (a .store .now) (a .table .now) in
+    received-so (a .byte) (a .ports) (a .self) (a .reply .now) m (c .before .before .before .before .before .before .before .before .before .if1 .left) (c .before .before .before .before .before .before .before .before .if2 .left, c .before .before .before .before .before .if4 .left)
+    (sym (c .before .before .before .before .before .before .before .sound .ensures) ∙ not-false _ (c .before .before .before .before .before .before .if3 .left)) (spokeOf (c .before .gather .result) saying.Silent)
+    (gathered-so (a .byte) (a .ports) (a .self) m (sym (c .before .before .enum-told .given .1) ∙ c .before .before .before .before .ear .ensures) (c .before .gather .ensures)) (c .quiet .ensures) refl
 
 -- every sort but the first
 other : (e : Ear) → OneOf (1 ∷ 2 ∷ 3 ∷ 4 ∷ 5 ∷ 6 ∷ []) (tagOf the-type e) → isGather e ≡ false
@@ -74,8 +82,8 @@ other ear.Quit h = refl
 
 hear-requires : tie.Need-hear-requires
 hear-requires c κs = (
-  sound-line _ (sym (c .before .before .before .before .sound .ensures) ∙ not-false _ (c .before .before .before .if3 .left)),
-  other (c .before .before .ear .result) (c .before .match .keys2),
+  sound-line _ (sym (c .before .before .before .before .before .before .sound .ensures) ∙ not-false _ (c .before .before .before .before .before .if3 .left)),
+  other (c .before .before .before .ear .result) (c .before .before .match .keys2),
 )
 
 answer-requires : tie.Need-answer-requires
@@ -87,12 +95,16 @@ same-length c = search needs
 same-length-2 : tie.Need-same-length-2
 same-length-2 c = search needs
 
-returns-5 : tie.Need-returns-5
-returns-5 c =
-    let a = c .before .before .before .before .before .before .before .before .before .before .before .before .before .before .before .before in
-    received-so (a .args .byte) (a .args .ports) (a .args .self) (a .args .reply .now) (memory (a .args .store .now)) (c .before .before .before .before .before .before .before .before .before .before .before .before .before .if1 .left) (c .before .before .before .before .before .before .before .before .before .before .before .before .if2 .left)
-    (sym (c .before .before .before .before .before .before .before .before .before .before .before .sound .ensures) ∙ not-false _ (c .before .before .before .before .before .before .before .before .before .before .if3 .left)) (c .before .before .before .before .before .before .hear .result)
-    (heard-so (a .args .byte) (a .args .ports) (a .args .self) (memory (a .args .store .now)) (c .before .before .before .before .before .before .before .before .before .ear .ensures) (c .before .before .before .before .before .before .hear .ensures)) (c .before .before .answer .ensures .0) (c .before .before .answer .ensures .1)
+same-length-3 : tie.Need-same-length-3
+same-length-3 c = search needs
+
+returns-6 : tie.Need-returns-6
+returns-6 c =
+    let a = c .before .before .before .before .before .before .before .before .before .before .before .before .before .before .before .before .before .before .before .before .before .args in
+    let m = memory (a .store .now) (a .table .now) in
+    received-so (a .byte) (a .ports) (a .self) (a .reply .now) m (c .before .before .before .before .before .before .before .before .before .before .before .before .before .before .before .before .before .if1 .left) (c .before .before .before .before .before .before .before .before .before .before .before .before .before .before .before .before .if2 .left, c .before .before .before .before .before .before .before .before .before .before .before .before .before .if4 .left)
+    (sym (c .before .before .before .before .before .before .before .before .before .before .before .before .before .before .before .sound .ensures) ∙ not-false _ (c .before .before .before .before .before .before .before .before .before .before .before .before .before .before .if3 .left)) (c .before .before .before .before .before .before .before .before .hear .result)
+    (heard-so (a .byte) (a .ports) (a .self) m (c .before .before .before .before .before .before .before .before .before .before .before .before .ear .ensures) (c .before .before .before .before .before .before .before .before .hear .ensures)) (c .before .before .answer .ensures .0) (c .before .before .answer .ensures .1)
 
 pub receive-spec : {M : Type 1} → statement M
 receive-spec =
@@ -105,13 +117,16 @@ receive-spec =
     sound-requires
     refuse-requires-3
     returns-3
+    refuse-requires-4
+    returns-4
     ear-requires
     enum-told
     gather-requires
     quiet-requires
-    returns-4
+    returns-5
     hear-requires
     answer-requires
     same-length
     same-length-2
-    returns-5)
+    same-length-3
+    returns-6)

@@ -15,10 +15,12 @@ replies-requires : tie.Need-replies-requires
 replies-requires c κs = search needs
 
 returns : tie.Need-returns
-returns c = record-refused (recordOf (c .before .before .before .before .before .before .before .args .code) (c .before .before .before .before .before .before .before .args .d)) (c .before .before .before .before .before .before .before .args .self) (memory (c .before .before .before .before .before .before .before .args .store .now)) (c .before .before .before .before .before .before .before .pre) (c .before .before .record-fault .ensures) (c .before .if1 .taken) (c .replies .ensures)
+returns c =
+    let a = c .before .before .before .before .before .before .before .before .args in
+    record-refused (recordOf (a .code) (a .d)) (a .self) (memory (a .store .now) (a .table .now)) (c .before .before .before .before .before .before .before .before .pre) (c .before .before .record-fault .ensures) (c .before .if1 .taken) (c .replies .ensures)
 
-cast-t12 : tie.Need-cast-t12
-cast-t12 c = let h = count-small _ _ _ _ (sym (c .before .record-fault .ensures) ∙ c .if1 .left) in omega arith
+cast-t13 : tie.Need-cast-t13
+cast-t13 c = let h = count-small _ _ _ _ (sym (c .before .record-fault .ensures) ∙ c .if1 .left) in omega arith
 
 keep-requires : tie.Need-keep-requires
 keep-requires c κs = search needs
@@ -26,8 +28,13 @@ keep-requires c κs = search needs
 same-length : tie.Need-same-length
 same-length c = search needs
 
+same-length-2 : tie.Need-same-length-2
+same-length-2 c = search needs
+
 returns-2 : tie.Need-returns-2
-returns-2 c = record-kept (recordOf (c .before .before .before .before .before .before .before .before .before .before .args .code) (c .before .before .before .before .before .before .before .before .before .before .args .d)) (c .before .before .before .before .before .before .before .before .before .before .args .self) (memory (c .before .before .before .before .before .before .before .before .before .before .args .store .now)) (c .before .before .before .before .before .before .before .before .before .before .pre) (c .before .before .before .before .before .record-fault .ensures) (c .before .before .before .before .if1 .left) (c .before .before .keep .ensures)
+returns-2 c =
+    let a = c .before .before .before .before .before .before .before .before .before .before .before .before .before .before .args in
+    record-kept (recordOf (a .code) (a .d)) (a .self) (memory (a .store .now) (a .table .now)) (c .before .before .before .before .before .before .before .before .before .before .before .before .before .before .pre) (c .before .before .before .before .before .before .before .before .record-fault .ensures) (c .before .before .before .before .before .before .before .if1 .left) (c .before .before .before .before .keep .ensures)
 
 pub record-line-spec : {M : Type 1} → statement M
 record-line-spec =
@@ -36,7 +43,8 @@ record-line-spec =
     record-fault-requires
     replies-requires
     returns
-    cast-t12
+    cast-t13
     keep-requires
     same-length
+    same-length-2
     returns-2)

@@ -19,7 +19,7 @@ enum-known-code : tie.Need-enum-known-code
 enum-known-code c = search needs
 
 record-line-requires : tie.Need-record-line-requires
-record-line-requires c κs = code-right (textOf (c .before .before .before .before .before .before .before .args .self .line)) (c .before .before .before .before .as-stored .ensures) (c .before .before .code .given .1)
+record-line-requires c κs = code-right (textOf (c .before .before .before .before .before .before .before .before .before .args .self .line)) (c .before .before .before .before .before .as-stored .ensures) (c .before .before .before .code .given .1)
 
 enum-told-2 : tie.Need-enum-told-2
 enum-told-2 c = search needs
@@ -28,19 +28,28 @@ end-storing-requires : tie.Need-end-storing-requires
 end-storing-requires c κs = search needs
 
 returns : tie.Need-returns
-returns c = stored-wrong (textOf (c .before .before .before .before .before .before .args .self .line)) (c .before .before .before .before .before .before .args .self) (memory (c .before .before .before .before .before .before .args .store .now)) (c .before .before .before .as-stored .ensures) (c .before .enum-told .given .1) (c .replies .ensures)
+returns c =
+    let a = c .before .before .before .before .before .before .before .args in
+    stored-wrong (textOf (a .self .line)) (a .self) (memory (a .store .now) (a .table .now)) (c .before .before .before .as-stored .ensures) (c .before .enum-told .given .1) (c .replies .ensures)
 
 same-length : tie.Need-same-length
 same-length c = search needs
 
-returns-2 : tie.Need-returns-2
-returns-2 c = stored-record (textOf (c .before .before .before .before .before .before .before .before .before .before .args .self .line)) (c .before .before .before .before .before .before .before .before .before .before .args .self) (memory (c .before .before .before .before .before .before .before .before .before .before .args .store .now)) (c .before .before .before .before .before .before .before .as-stored .ensures) (c .before .before .before .before .before .code .given .1) (c .before .before .record-line .ensures)
-
 same-length-2 : tie.Need-same-length-2
 same-length-2 c = search needs
 
+returns-2 : tie.Need-returns-2
+returns-2 c =
+    let a = c .before .before .before .before .before .before .before .before .before .before .before .before .before .before .args in
+    stored-record (textOf (a .self .line)) (a .self) (memory (a .store .now) (a .table .now)) (c .before .before .before .before .before .before .before .before .before .before .as-stored .ensures) (c .before .before .before .before .before .before .before .before .code .given .1) (c .before .before .before .before .record-line .ensures)
+
+same-length-3 : tie.Need-same-length-3
+same-length-3 c = search needs
+
 returns-3 : tie.Need-returns-3
-returns-3 c = stored-end (textOf (c .before .before .before .before .before .before .before .args .self .line)) (c .before .before .before .before .before .before .before .args .self) (memory (c .before .before .before .before .before .before .before .args .store .now)) (c .before .before .before .before .as-stored .ensures) (c .before .before .enum-told2 .given .1) (c .end-storing .ensures)
+returns-3 c =
+    let a = c .before .before .before .before .before .before .before .before .args in
+    stored-end (textOf (a .self .line)) (a .self) (memory (a .store .now) (a .table .now)) (c .before .before .before .before .as-stored .ensures) (c .before .before .enum-told2 .given .1) (c .end-storing .ensures (a .table .now))
 
 pub store-line-spec : {M : Type 1} → statement M
 store-line-spec =
@@ -55,6 +64,7 @@ store-line-spec =
     end-storing-requires
     returns
     same-length
-    returns-2
     same-length-2
+    returns-2
+    same-length-3
     returns-3)

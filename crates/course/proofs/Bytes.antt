@@ -9,14 +9,14 @@ use lib.ListN.{length, take, drop, set, length-append, length-drop, take-append-
 use lib.Seq.{length-take-le, take-at, drop-at, drop-drop, drop-append-add, set-split}
 use Rattle.count.specs.Pick.{pick}
 use Rattle.count.proofs.laws.Lists.{rest, to-end}
-use Rattle.record.specs.Memory.{Memory}
+use Rattle.record.specs.Memory.{Memory, RightMemory}
 use Rattle.board.specs.declared.Board.{Board}
 use Rattle.board.specs.declared.Received.{Received}
 use Rattle.board.specs.State.{Said, sound}
 use Rattle.board.specs.Receive.{hearing}
 use Rattle.board.specs.Calls as calls
 use Rattle.board.specs.Calls.{lent, receiving, answered}
-use Rattle.board.proofs.laws.Laws.{hearing-sound, store-length, reply-short, never-refused}
+use Rattle.board.proofs.laws.Laws.{hearing-sound, memory-right, reply-short, never-refused}
 use Rattle.course.specs.declared.Ran.{Ran}
 use Rattle.course.specs.declared.Walk.{Walk}
 use Rattle.course.specs.Text.{replyText}
@@ -172,7 +172,7 @@ module _ (byte : ℕ) (w : Walk) (mem : Memory) (out : List ℕ) where
         let d : drop n out2 ≡ drop (length t) out = rw (v .text) (drop-at t (drop (length t) out) n (sym (v .long))) in
         let u : take (length out2 - n) (drop n out2) ≡ drop (length t) out = rest n out2 ∙ d in
         let ks : sound (s .board) ≡ true = hearing-sound byte noPorts (w .board) mem (p .2) in
-        let kl : length (s .memory .store) ≡ 16384 = store-length byte noPorts (w .board) mem (p .2) ∙ p .1 in
+        let kl : RightMemory (s .memory) = memory-right byte noPorts (w .board) mem (p .2) (p .1) in
         let k : didRun m last ≡ ran c (drop (length t) out) =
         g ∙ (λ i. runOutcome most (its-board i) (its-memory i) (u i)) ∙ unrefused most (s .board) (s .memory) (drop (length t) out) kl ks in
         let x : Wrote (c .text) (take (length out2 - n) (drop n out2)) (m .len) last =
@@ -214,7 +214,7 @@ module _ (byte : ℕ) (w : Walk) (mem : Memory) (out : List ℕ) where
         let p = ready-parts w mem out e in
         let u = take (length out2 - n) (drop n out2) in
         let ks : sound (s .board) ≡ true = hearing-sound byte noPorts (w .board) mem (p .2) in
-        let kl : length (s .memory .store) ≡ 16384 = store-length byte noPorts (w .board) mem (p .2) ∙ p .1 in
+        let kl : RightMemory (s .memory) = memory-right byte noPorts (w .board) mem (p .2) (p .1) in
         let k : didRun m last ≡ ran (course (allowed most u) (s .memory) (s .board)) u =
         g ∙ (λ i. runOutcome most (its-board i) (its-memory i) u) ∙ unrefused most (s .board) (s .memory) u kl ks in
         let x : Wrote (course (allowed most u) (s .memory) (s .board) .text) u (m .len) last =

@@ -7,7 +7,7 @@ use lib.Dec.{eqb}
 use lib.ListN.{length, drop}
 use borrow.Author.Tests.{eq-eqb, ne-eqb}
 use Rattle.count.specs.Pick.{pick}
-use Rattle.record.specs.Memory.{Memory}
+use Rattle.record.specs.Memory.{Memory, RightMemory}
 use Rattle.engine.specs.declared.Engine.{Engine}
 use Rattle.board.specs.declared.Board.{Board}
 use Rattle.board.specs.State.{sound}
@@ -24,14 +24,18 @@ module _ (limit : ℕ) (b : Board) (m : Memory) (out : List ℕ) where
   unfolding runOutcome
   refused-102 h = rw (ne-eqb (length (m .store)) 16384 h)
 
-  module _ (l : length (m .store) ≡ 16384) where
-    pub refused-103 : sound b ≡ false → didRun (stood 103 b) out ≡ runOutcome limit b m out
-    unfolding runOutcome
-    refused-103 s = rw (eq-eqb (length (m .store)) 16384 l, s)
+  pub refused-103 : length (m .store) ≡ 16384 → sound b ≡ false → didRun (stood 103 b) out ≡ runOutcome limit b m out
+  unfolding runOutcome
+  refused-103 l s = rw (eq-eqb (length (m .store)) 16384 l, s)
 
+  pub refused-104 : length (m .store) ≡ 16384 → sound b ≡ true → (length (m .table) ≡ 1000 → ⊥) → didRun (stood 104 b) out ≡ runOutcome limit b m out
+  unfolding runOutcome
+  refused-104 l s h = rw (eq-eqb (length (m .store)) 16384 l, s, ne-eqb (length (m .table)) 1000 h)
+
+  module _ (l : RightMemory m) where
     pub unrefused : sound b ≡ true → runOutcome limit b m out ≡ ran (course (allowed limit out) m b) out
     unfolding runOutcome
-    unrefused s = rw (eq-eqb (length (m .store)) 16384 l, s)
+    unrefused s = rw (eq-eqb (length (m .store)) 16384 (l .0), s, eq-eqb (length (m .table)) 1000 (l .1))
 
     pub rests-there : sound b ≡ true → b .standing ≡ true → didRun (stood 0 b) out ≡ runOutcome limit b m out
     rests-there s n = sym (unrefused s ∙ ap (λ (c : Course). ran c out) (stands m (allowed limit out) b n))

@@ -5,14 +5,14 @@ use mathlib.Core.Path.{_≡_, ap, sym, _∙_}
 use mathlib.Core.Bool.{Bool, true, false, not, _&&_}
 use mathlib.Core.List.{List, [], _++_}
 use native.Mathlib.Omega.{arith}
-use lib.Dec.{leb, eqb}
+use lib.Dec.{leb}
 use lib.ListN.{length}
 use borrow.Author.Tests.{eqb-true, leb-true}
 use Rattle.count.specs.Pick.{pick}
 use Rattle.count.specs.Text.{written, wrote}
 use Rattle.count.proofs.laws.Digits.{wrote-long}
 use Rattle.count.proofs.laws.Truth.{and-parts}
-use Rattle.record.specs.Memory.{Memory}
+use Rattle.record.specs.Memory.{Memory, RightMemory, storeFits, tableFits}
 use Rattle.board.specs.declared.Board.{Board}
 use Rattle.board.specs.State.{sound}
 use Rattle.course.specs.declared.Ran.{Ran}
@@ -46,29 +46,31 @@ pub pick-no : {A : Type 0} (x y : A) (b : Bool) → b ≡ false → pick b x y �
 pick-no x y b e = rw e
 
 -- a run makes no more calls than its limit
-few-by : (x y : Bool) (limit : ℕ) (b : Board) (m : Memory) (out : List ℕ)
-    → pick (not x) (refusedRun 102 b out) (pick (not y) (refusedRun 103 b out) (ran (course (allowed limit out) m b) out)) .result .calls ≤ limit
+few-by : (x y z : Bool) (limit : ℕ) (b : Board) (m : Memory) (out : List ℕ)
+    → pick (not x) (refusedRun 102 b out) (pick (not y) (refusedRun 103 b out) (pick (not z) (refusedRun 104 b out) (ran (course (allowed limit out) m b) out))) .result .calls ≤ limit
 unfolding allowed
-few-by false y limit b m out = omega arith
-few-by true false limit b m out = omega arith
-few-by true true limit b m out = omega (arith, course-few m (min limit (length out / 12)) b, min-le-left limit (length out / 12))
+few-by false y z limit b m out = omega arith
+few-by true false z limit b m out = omega arith
+few-by true true false limit b m out = omega arith
+few-by true true true limit b m out = omega (arith, course-few m (min limit (length out / 12)) b, min-le-left limit (length out / 12))
 
 pub run-few : (limit : ℕ) (b : Board) (m : Memory) (out : List ℕ) {r : Ran} {last : List ℕ} → didRun r last ≡ runOutcome limit b m out → r .calls ≤ limit
 unfolding runOutcome
 run-few limit b m out q =
     let c = ap (λ (x : RunOutcome). x .result .calls) q in
-    omega (arith, c, few-by (eqb (length (m .store)) 16384) (sound b) limit b m out)
+    omega (arith, c, few-by (storeFits m) (sound b) (tableFits m) limit b m out)
 
 module _ (w : Walk) (m : Memory) (out : List ℕ) where
   abbrev onward : Done
   onward = let c = course (allowed (most - w .calls) out) m (w .board) in done (further c (w .calls)) (c .text) m out
 
-  pub ready-parts : ready w m out ≡ true → (64 ≤ length out) × (length (m .store) ≡ 16384) × (sound (w .board) ≡ true)
+  pub ready-parts : ready w m out ≡ true → (64 ≤ length out) × RightMemory m × (sound (w .board) ≡ true)
   unfolding ready
   ready-parts e =
-      let p = and-parts (leb 64 (length out) && eqb (length (m .store)) 16384) (sound (w .board)) e in
-      let q = and-parts (leb 64 (length out)) (eqb (length (m .store)) 16384) (p .0) in
-      (leb-true 64 (length out) (q .0), eqb-true (length (m .store)) 16384 (q .1), p .1)
+      let o = and-parts (leb 64 (length out) && storeFits m && sound (w .board)) (tableFits m) e in
+      let p = and-parts (leb 64 (length out) && storeFits m) (sound (w .board)) (o .0) in
+      let q = and-parts (leb 64 (length out)) (storeFits m) (p .0) in
+      (leb-true 64 (length out) (q .0), (eqb-true (length (m .store)) 16384 (q .1), eqb-true (length (m .table)) 1000 (o .1)), p .1)
 
   -- ---- a run that goes on
 

@@ -9,7 +9,7 @@ use lib.ListN.{length, take, drop}
 use Rattle.motion.specs.work.Here.{nextOf}
 use Rattle.motion.specs.declared.Move.{Move}
 use Rattle.record.specs.Memory.{Memory}
-use Rattle.record.specs.Places.{fetchOf}
+use Rattle.record.specs.Table.{fetchOf}
 use Rattle.engine.specs.declared.Engine.{Engine}
 use Rattle.engine.specs.declared.Under.{Under}
 use Rattle.engine.specs.declared.Under.the-variants as under
@@ -39,7 +39,7 @@ from at out = take (length out - at) (drop at out)
 module _ (mem : Memory) (limit : ℕ) (e₀ : Engine) (out₀ : List ℕ) (l : 12 * limit ≤ length out₀) where
   -- a clock call
   pub turned : (n : ℕ) (e : Engine) (out : List ℕ) (at : ℕ) → RKept mem limit e₀ out₀ n e out at
-      → (t : Told) (ys : List ℕ) (m : ℕ) → t ≡ ticked nextOf (fetchOf (e .held) (mem .store)) e → n < limit → runsOf e ≡ true
+      → (t : Told) (ys : List ℕ) (m : ℕ) → t ≡ ticked nextOf (fetchOf (e .held) mem) e → n < limit → runsOf e ≡ true
       → Wrote (answerText (t .answer)) (from at out) m ys → m ≤ 12
       → RKept mem limit e₀ out₀ (n + 1) (t .engine) (putMid at (length out - at) out ys) (at + m)
   turned n e out at k t ys m p h g w f =

@@ -10,8 +10,8 @@ use Rattle.count.specs.Pick.{pick}
 use Rattle.count.proofs.laws.Truth.{and-right, and-true, and-false}
 use Rattle.motion.specs.work.Here.{nextOf}
 use Rattle.motion.specs.Next.{pulseOf}
-use Rattle.record.specs.Memory.{Memory}
-use Rattle.record.specs.Places.{fetchOf}
+use Rattle.record.specs.Memory.{Memory, RightMemory}
+use Rattle.record.specs.Table.{fetchOf}
 use Rattle.engine.specs.declared.Engine.{Engine}
 use Rattle.engine.specs.declared.Answer.the-variants as answer
 use Rattle.engine.specs.declared.Told.{Told}
@@ -39,25 +39,25 @@ withEngine b e = board e (b .standing) (b .line)
 abbrev pub onBoard : Board → Way Engine → Course
 onBoard b w = record { board = withEngine b (w .state); calls = w .calls; text = w .text }
 
-module _ (m : Memory) (l : length (m .store) ≡ 16384) where
+module _ (m : Memory) (l : RightMemory m) where
   -- a clock call that is not refused
   unrefused : (b : Board) → sound b ≡ true
-      → clocking b m ≡ pick (b .standing) (clocked 0 b answer.Nothing) (wentOn b (ticked pulseOf (fetchOf (b .engine .held) (m .store)) (b .engine)))
+      → clocking b m ≡ pick (b .standing) (clocked 0 b answer.Nothing) (wentOn b (ticked pulseOf (fetchOf (b .engine .held) m) (b .engine)))
   unfolding clocking
-  unrefused b s = rw (eq-eqb (length (m .store)) 16384 l, s)
+  unrefused b s = rw (eq-eqb (length (m .store)) 16384 (l .0), s, eq-eqb (length (m .table)) 1000 (l .1))
 
   -- and meets nothing that stands
-  pub clock-is : (b : Board) → sound b ≡ true → b .standing ≡ false → clocking b m ≡ wentOn b (ticked nextOf (fetchOf (b .engine .held) (m .store)) (b .engine))
+  pub clock-is : (b : Board) → sound b ≡ true → b .standing ≡ false → clocking b m ≡ wentOn b (ticked nextOf (fetchOf (b .engine .held) m) (b .engine))
   clock-is b s n =
       unrefused b s
-      ∙ ap (λ (x : Bool). pick x (clocked 0 b answer.Nothing) (wentOn b (ticked pulseOf (fetchOf (b .engine .held) (m .store)) (b .engine)))) n
-      ∙ ap (λ (t : Told). wentOn b t) (sym (rules-agree (fetchOf (b .engine .held) (m .store)) (b .engine) (sound-engine b s)))
+      ∙ ap (λ (x : Bool). pick x (clocked 0 b answer.Nothing) (wentOn b (ticked pulseOf (fetchOf (b .engine .held) m) (b .engine)))) n
+      ∙ ap (λ (t : Told). wentOn b t) (sym (rules-agree (fetchOf (b .engine .held) m) (b .engine) (sound-engine b s)))
 
   -- and its board is sound and does not stand
   pub next-sound : (b : Board) → sound b ≡ true → sound (withEngine b (tickNext m (b .engine))) ≡ true
   unfolding sound
   next-sound b s =
-      let k = tick-keeps (fetchOf (b .engine .held) (m .store)) (b .engine) (sound-engine b s) in
+      let k = tick-keeps (fetchOf (b .engine .held) m) (b .engine) (sound-engine b s) in
       rw (k, and-right (soundOf (b .engine)) (leb (b .line .len) 80) s)
 
   runs-same : (b : Board) → b .standing ≡ false → runsNow b ≡ runsOf (b .engine)

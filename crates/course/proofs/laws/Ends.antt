@@ -12,7 +12,7 @@ use borrow.Author.Tests.{le-leb, eq-eqb}
 use Rattle.count.specs.Pick.{pick}
 use Rattle.count.specs.Text.{Written}
 use Rattle.count.proofs.laws.Digits.{wrote-long}
-use Rattle.record.specs.Memory.{Memory}
+use Rattle.record.specs.Memory.{Memory, RightMemory}
 use Rattle.board.specs.declared.Board.{Board}
 use Rattle.board.specs.State.{Said, sound}
 use Rattle.board.specs.Receive.{hearing}
@@ -116,9 +116,9 @@ done-prints : (w : Walk) (text input : List ℕ) (m : Memory) (out : List ℕ) �
 done-prints w text input m out = ap (λ (l : List ℕ). l ++ remaining w input m) (take-append-seam text (drop (length text) out))
 
 -- a walk on a sound board, with a memory and a buffer of the right lengths, is ready
-pub is-ready : (w : Walk) (m : Memory) (out : List ℕ) → 64 ≤ length out → length (m .store) ≡ 16384 → sound (w .board) ≡ true → ready w m out ≡ true
+pub is-ready : (w : Walk) (m : Memory) (out : List ℕ) → 64 ≤ length out → RightMemory m → sound (w .board) ≡ true → ready w m out ≡ true
 unfolding ready
-is-ready w m out h l s = rw (le-leb 64 (length out) h, eq-eqb (length (m .store)) 16384 l, s)
+is-ready w m out h l s = rw (le-leb 64 (length out) h, eq-eqb (length (m .store)) 16384 (l .0), s, eq-eqb (length (m .table)) 1000 (l .1))
 
 module _ (w : Walk) (m : Memory) (out : List ℕ) (h : ready w m out ≡ true) where
   yes : (b : Bool) → b ≡ true → b && ready w m out ≡ true

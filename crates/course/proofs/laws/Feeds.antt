@@ -10,7 +10,7 @@ use lib.Dec.{eqb}
 use lib.ListN.{length, take, drop, take-append-drop}
 use Rattle.count.specs.Pick.{pick}
 use Rattle.count.proofs.laws.Truth.{never, and-left, and-right, and-false}
-use Rattle.record.specs.Memory.{Memory}
+use Rattle.record.specs.Memory.{Memory, RightMemory}
 use Rattle.engine.specs.Kinds.{Kind, kind, rowOf}
 use Rattle.engine.specs.Kinds.Kind.{Idle, Storing, Moving, Between, Pausing, Waiting}
 use Rattle.engine.specs.Tick.{runsOf}
@@ -113,7 +113,7 @@ some-after (byte ∷ input) calls h = by (isPlain byte) h
     by true h = rw one-add
     by false h = never (sym h)
 
-module _ (mem : Memory) (out : List ℕ) (l : length (mem .store) ≡ 16384) (m : 64 ≤ length out) where
+module _ (mem : Memory) (out : List ℕ) (l : RightMemory mem) (m : 64 ≤ length out) where
   plain-next : (byte : ℕ) (b : Board) (calls : ℕ) → takes b ≡ true → isPlain byte ≡ true
       → nextDone byte (walk b calls true) mem out ≡ done (walk (withLine b (gathered byte (b .line))) 0 true) [] mem out
   unfolding nextDone
@@ -168,7 +168,7 @@ module _ (input : List ℕ) (w : Walk) (mem : Memory) where
       by false h = rw (fed-none input w h)
 
   -- AND IT IS PORTIONS OF ONE BYTE EACH, WHICH WRITE NOTHING
-  pub feed-is-next : (out : List ℕ) → length (mem .store) ≡ 16384 → 64 ≤ length out
+  pub feed-is-next : (out : List ℕ) → RightMemory mem → 64 ≤ length out
       → nextAll (take (fedOf input w .count) input) w mem out ≡ done (fedOf input w .walk) [] mem out
   unfolding nextAll
   feed-is-next out l m = by (feeds input w) refl

@@ -12,7 +12,7 @@ use Rattle.motion.specs.work.Here.{nextOf, withinOf}
 use Rattle.motion.specs.work.Made.{made}
 use Rattle.motion.proofs.laws.Within.{within-next}
 use Rattle.record.specs.Memory.{Memory}
-use Rattle.record.specs.Places.{fetchOf}
+use Rattle.record.specs.Table.{fetchOf}
 use Rattle.engine.specs.declared.Engine.{Engine}
 use Rattle.engine.specs.declared.Job.{Job}
 use Rattle.engine.specs.declared.Job.the-variants as job
@@ -37,7 +37,7 @@ module _ (mem : Memory) (e : Engine) (t : Gone) where
   direct-by next.Over p q = let z : _≡_ {A = ℕ} 0 1 = cc in absurd (omega arith)
 
   moving-by : (x : Next) → nextOf (t .rest) (t .at) ≡ x → made x ≡ true
-      → (movingOn nextOf (fetchOf (e .held) (mem .store)) x (inMoving e t) .engine ≡ inMoving e (goneBy x t)) × (answerText (movingOn nextOf (fetchOf (e .held) (mem .store)) x (inMoving e t) .answer) ≡ saidBy x)
+      → (movingOn nextOf (fetchOf (e .held) mem) x (inMoving e t) .engine ≡ inMoving e (goneBy x t)) × (answerText (movingOn nextOf (fetchOf (e .held) mem) x (inMoving e t) .answer) ≡ saidBy x)
   moving-by (next.Made s) p q = (ap (λ (c : Counters). inMoving e (here (s .rest) c)) (sym (next-moved (t .rest) (t .at) s refl p)), refl)
   moving-by next.Over p q = let z : _≡_ {A = ℕ} 0 1 = cc in absurd (omega arith)
 
@@ -53,7 +53,7 @@ module _ (mem : Memory) (e : Engine) (t : Gone) where
   same-moving p =
       let q = within-next (t .rest) (t .at) p in
       let d = moving-by (withinOf (t .rest) (t .at)) q p in
-      let f = fetchOf (e .held) (mem .store) in
+      let f = fetchOf (e .held) mem in
       (refl, ap (λ (x : Next). movingOn nextOf f x (inMoving e t) .engine) q ∙ d .0, ap (λ (x : Next). answerText (movingOn nextOf f x (inMoving e t) .answer)) q ∙ d .1)
 
 -- ---- so the pulses are a part of the run

@@ -17,7 +17,10 @@ stay-requires : tie.Need-stay-requires
 stay-requires c κs = search needs
 
 returns : tie.Need-returns
-returns c = let a = c .before .before .before .before .args in ap (λ (p : Portion). doneOf p (memory (a .store .now)) (a .out .now)) (c .stay .ensures) ∙ on-over (a .self) (memory (a .store .now)) (a .out .now) (c .before .if1 .taken)
+returns c =
+    let a = c .before .before .before .before .before .args in
+    let m = memory (a .store .now) (a .table .now) in
+    ap (λ (p : Portion). doneOf p m (a .out .now)) (c .stay .ensures) ∙ on-over (a .self) m (a .out .now) (c .before .if1 .taken)
 
 is-ready-requires : tie.Need-is-ready-requires
 is-ready-requires c κs = search needs
@@ -27,7 +30,10 @@ stay-requires-2 c κs = search needs
 
 returns-2 : tie.Need-returns-2
 unfolding ready
-returns-2 c = let a = c .before .before .before .before .before .before .args in ap (λ (p : Portion). doneOf p (memory (a .store .now)) (a .out .now)) (c .stay2 .ensures) ∙ on-unready (a .self) (memory (a .store .now)) (a .out .now) (c .before .before .before .if1 .left) (sym (c .before .before .is-ready .ensures) ∙ not-true _ (c .before .if2 .taken))
+returns-2 c =
+    let a = c .before .before .before .before .before .before .before .args in
+    let m = memory (a .store .now) (a .table .now) in
+    ap (λ (p : Portion). doneOf p m (a .out .now)) (c .stay2 .ensures) ∙ on-unready (a .self) m (a .out .now) (c .before .before .before .if1 .left) (sym (c .before .before .is-ready .ensures) ∙ not-true _ (c .before .if2 .taken))
 
 left-of-requires : tie.Need-left-of-requires
 left-of-requires c κs = search needs
@@ -44,10 +50,11 @@ same-length c = search needs
 returns-3 : tie.Need-returns-3
 unfolding ready
 returns-3 c =
-    let a = c .before .before .before .before .before .before .before .before .before .before .before .before .before .args in
+    let a = c .before .before .before .before .before .before .before .before .before .before .before .before .before .before .args in
+    let m = memory (a .store .now) (a .table .now) in
     let r = c .before .before .before .before .run in
-    ap (λ (n : ℕ). doneOf (record { walk = walk (r .result .board) n (r .result .over); len = r .result .len }) (memory (a .store .now)) (r .last .1 .1 .1 .0)) (c .sum-of .ensures)
-    ∙ on-made (a .self) (memory (a .store .now)) (a .out .now) (c .before .before .before .before .before .before .before .before .before .before .if1 .left) (sym (c .before .before .before .before .before .before .before .before .before .is-ready .ensures) ∙ not-false _ (c .before .before .before .before .before .before .before .before .if2 .left)) (r .ensures ∙ ap (λ (n : ℕ). runOutcome n (a .self .board) (memory (a .store .now)) (a .out .now)) (c .before .before .before .before .before .before .left-of .ensures))
+    ap (λ (n : ℕ). doneOf (record { walk = walk (r .result .board) n (r .result .over); len = r .result .len }) m (r .last .1 .1 .1 .1 .0)) (c .sum-of .ensures)
+    ∙ on-made (a .self) m (a .out .now) (c .before .before .before .before .before .before .before .before .before .before .if1 .left) (sym (c .before .before .before .before .before .before .before .before .before .is-ready .ensures) ∙ not-false _ (c .before .before .before .before .before .before .before .before .if2 .left)) (r .ensures ∙ ap (λ (n : ℕ). runOutcome n (a .self .board) m (a .out .now)) (c .before .before .before .before .before .before .left-of .ensures))
 
 pub go-on-spec : {M : Type 1} → statement M
 go-on-spec =

@@ -18,10 +18,10 @@ use Rattle.course.proofs.going.go.Statement.{statement}
 use Rattle.course.proofs.going.go.Tie as tie
 
 abbrev Inv-loop : tie.InvT-loop
-Inv-loop store limit out₀ e₀ n₀ at₀ out e n at = RKept (memory store) limit e₀ out₀ n e out at × (12 * limit ≤ length out₀)
+Inv-loop store table limit out₀ e₀ n₀ at₀ out e n at = RKept (memory store table) limit e₀ out₀ n e out at × (12 * limit ≤ length out₀)
 
 abbrev μ-loop : tie.MeasureT-loop
-μ-loop store limit out₀ e₀ n₀ at₀ out e n at = limit - n
+μ-loop store table limit out₀ e₀ n₀ at₀ out e n at = limit - n
 
 -- the buffer after the clock call's text
 abbrev out1 : (c : tie.After-slice-known2 Inv-loop μ-loop) → List ℕ
@@ -29,30 +29,33 @@ out1 c = let l = c .before .before .before .before .before .before .before .befo
 
 -- the invariant after the clock call
 mid : (c : tie.After-slice-known2 Inv-loop μ-loop)
-    → RKept (memory (c .before .before .before .before .before .before .before .before .before .before .before .before .args .store .now)) (c .before .before .before .before .before .before .before .before .before .before .before .before .args .limit) (c .before .before .before .before .before .before .before .before .before .before .before .before .args .start) (c .before .before .before .before .before .before .before .before .before .before .before .before .args .out .now)
+    → RKept (memory (c .before .before .before .before .before .before .before .before .before .before .before .before .before .args .store .now) (c .before .before .before .before .before .before .before .before .before .before .before .before .before .args .table .now)) (c .before .before .before .before .before .before .before .before .before .before .before .before .before .args .limit) (c .before .before .before .before .before .before .before .before .before .before .before .before .before .args .start) (c .before .before .before .before .before .before .before .before .before .before .before .before .before .args .out .now)
     (c .before .before .before .before .before .before .before .before .before .loop .n + 1) (c .before .before .before .before .before .tick .result .engine) (out1 c) (c .before .before .before .before .before .before .before .before .before .loop .at + c .before .before .put-answer .result)
 mid c =
     let l = c .before .before .before .before .before .before .before .before .before .loop in
-    let a = c .before .before .before .before .before .before .before .before .before .before .before .before .args in
-    turned (memory (a .store .now)) (a .limit) (a .start) (a .out .now) (l .inv .1) (l .n) (l .e) (l .out) (l .at) (l .inv .0) (c .before .before .before .before .before .tick .result) (c .before .before .put-answer .last .0) (c .before .before .put-answer .result)
+    let a = c .before .before .before .before .before .before .before .before .before .before .before .before .before .args in
+    turned (memory (a .store .now) (a .table .now)) (a .limit) (a .start) (a .out .now) (l .inv .1) (l .n) (l .e) (l .out) (l .at) (l .inv .0) (c .before .before .before .before .before .tick .result) (c .before .before .put-answer .last .0) (c .before .before .put-answer .result)
     (c .before .before .before .before .before .tick .ensures) (c .before .before .before .before .before .before .before .before .loop-test .taken) (sym (c .before .before .before .before .before .before .before .runs .ensures) ∙ not-false _ (c .before .before .before .before .before .before .if1 .left)) (c .before .before .put-answer .ensures .0) (c .before .before .put-answer .ensures .1)
 
 -- and after the pulses behind it
 both : (c : tie.After-glide-on Inv-loop μ-loop)
     → let d = c .before .before in
-    RKept (memory (d .before .before .before .before .before .before .before .before .before .before .before .before .args .store .now)) (d .before .before .before .before .before .before .before .before .before .before .before .before .args .limit) (d .before .before .before .before .before .before .before .before .before .before .before .before .args .start) (d .before .before .before .before .before .before .before .before .before .before .before .before .args .out .now)
+    RKept (memory (d .before .before .before .before .before .before .before .before .before .before .before .before .before .args .store .now) (d .before .before .before .before .before .before .before .before .before .before .before .before .before .args .table .now)) (d .before .before .before .before .before .before .before .before .before .before .before .before .before .args .limit) (d .before .before .before .before .before .before .before .before .before .before .before .before .before .args .start) (d .before .before .before .before .before .before .before .before .before .before .before .before .before .args .out .now)
     (d .before .before .before .before .before .before .before .before .before .loop .n + 1 + c .glide-on .result .calls) (c .glide-on .result .engine)
     (putMid (d .before .before .before .before .before .before .before .before .before .loop .at + d .before .before .put-answer .result) (length (out1 d) - (d .before .before .before .before .before .before .before .before .before .loop .at + d .before .before .put-answer .result)) (out1 d) (c .glide-on .last .1 .1 .0))
     (d .before .before .before .before .before .before .before .before .before .loop .at + d .before .before .put-answer .result + c .glide-on .result .len)
 both c =
     let d = c .before .before in
     let l = d .before .before .before .before .before .before .before .before .before .loop in
-    let a = d .before .before .before .before .before .before .before .before .before .before .before .before .args in
-    gone (memory (a .store .now)) (a .limit) (a .start) (a .out .now) (l .inv .1) (l .n + 1) (d .before .before .before .before .before .tick .result .engine) (out1 d) (l .at + d .before .before .put-answer .result) (mid d)
+    let a = d .before .before .before .before .before .before .before .before .before .before .before .before .before .args in
+    gone (memory (a .store .now) (a .table .now)) (a .limit) (a .start) (a .out .now) (l .inv .1) (l .n + 1) (d .before .before .before .before .before .tick .result .engine) (out1 d) (l .at + d .before .before .put-answer .result) (mid d)
     (c .glide-on .result) (c .glide-on .last .1 .1 .0) (c .glide-on .ensures .0) (c .glide-on .ensures .1)
 
 loop-holds : tie.Need-loop-holds Inv-loop μ-loop
-loop-holds c = let a = c .before .before .args in (kept-first runsOf (tickNext (memory (a .store .now))) (tickSaid (memory (a .store .now))) (a .limit) (a .start) (a .out .now), c .before .before .pre)
+loop-holds c =
+    let a = c .before .before .before .args in
+    let m = memory (a .store .now) (a .table .now) in
+    (kept-first runsOf (tickNext m) (tickSaid m) (a .limit) (a .start) (a .out .now), c .before .before .before .pre)
 
 runs-requires : tie.Need-runs-requires Inv-loop μ-loop
 runs-requires c κs = search needs
@@ -61,7 +64,11 @@ same-length : tie.Need-same-length Inv-loop μ-loop
 same-length c = c .before .before .before .loop .inv .0 .long
 
 returns : tie.Need-returns Inv-loop μ-loop
-returns c = let l = c .before .before .before .loop in let a = c .before .before .before .before .before .before .args in kept-last runsOf (tickNext (memory (a .store .now))) (tickSaid (memory (a .store .now))) (a .limit) (a .start) (a .out .now) (l .n) (l .e) (l .out) (l .at) (l .inv .0) (way-off runsOf (tickNext (memory (a .store .now))) (tickSaid (memory (a .store .now))) _ _ (sym (c .before .runs .ensures) ∙ not-true _ (c .if1 .taken)))
+returns c =
+    let l = c .before .before .before .loop in
+    let a = c .before .before .before .before .before .before .before .args in
+    let m = memory (a .store .now) (a .table .now) in
+    kept-last runsOf (tickNext m) (tickSaid m) (a .limit) (a .start) (a .out .now) (l .n) (l .e) (l .out) (l .at) (l .inv .0) (way-off runsOf (tickNext m) (tickSaid m) _ _ (sym (c .before .runs .ensures) ∙ not-true _ (c .if1 .taken)))
 
 tick-requires : tie.Need-tick-requires Inv-loop μ-loop
 tick-requires c κs = search needs
@@ -100,10 +107,10 @@ glide-on-requires : tie.Need-glide-on-requires Inv-loop μ-loop
 glide-on-requires c κs = let d = c .before in let l = c .before .before .before .before .before .before .before .before .before .before .loop in rw (behind-long (l .at + c .before .before .before .put-answer .result) (out1 d)) (omega (arith, mid d .short, mid d .long, mid d .few, l .inv .1))
 
 add-at : tie.Need-add-at Inv-loop μ-loop
-add-at c = let b = both (c .before .before .before .before) in omega (arith, b .short, b .few, c .before .before .before .before .before .before .before .before .before .before .before .before .before .before .before .before .before .before .fits .limit)
+add-at c = let b = both (c .before .before .before .before) in omega (arith, b .short, b .few, c .before .before .before .before .before .before .before .before .before .before .before .before .before .before .before .before .before .before .before .fits .limit)
 
 add-n : tie.Need-add-n Inv-loop μ-loop
-add-n c = let b = both (c .before .before .before .before .before) in omega (arith, b .few, c .before .before .before .before .before .before .before .before .before .before .before .before .before .before .before .before .before .before .before .fits .limit)
+add-n c = let b = both (c .before .before .before .before .before) in omega (arith, b .few, c .before .before .before .before .before .before .before .before .before .before .before .before .before .before .before .before .before .before .before .before .fits .limit)
 
 loop-less : tie.Need-loop-less Inv-loop μ-loop
 loop-less c = omega (arith, c .before .before .before .before .before .before .before .before .before .before .before .before .before .before .before .loop-test .taken)
@@ -115,7 +122,11 @@ same-length-2 : tie.Need-same-length-2 Inv-loop μ-loop
 same-length-2 c = c .before .loop .inv .0 .long
 
 returns-2 : tie.Need-returns-2 Inv-loop μ-loop
-returns-2 c = let l = c .before .loop in let a = c .before .before .before .before .args in kept-last runsOf (tickNext (memory (a .store .now))) (tickSaid (memory (a .store .now))) (a .limit) (a .start) (a .out .now) (l .n) (l .e) (l .out) (l .at) (l .inv .0) (way-none runsOf (tickNext (memory (a .store .now))) (tickSaid (memory (a .store .now))) _ _ (omega arith))
+returns-2 c =
+    let l = c .before .loop in
+    let a = c .before .before .before .before .before .args in
+    let m = memory (a .store .now) (a .table .now) in
+    kept-last runsOf (tickNext m) (tickSaid m) (a .limit) (a .start) (a .out .now) (l .n) (l .e) (l .out) (l .at) (l .inv .0) (way-none runsOf (tickNext m) (tickSaid m) _ _ (omega arith))
 
 pub go-spec : {M : Type 1} → statement M
 go-spec =

@@ -3,9 +3,11 @@ use Prim.Native.Nat.{ℕ}
 use mathlib.Core.Bool.{Bool, true, false, not, _&&_, _||_}
 use mathlib.Core.List.{List}
 use mathlib.Core.Path.{_≡_, refl, sym}
+use borrow.Author.Tests.{eq-eqb, ne-eqb}
 use lib.Dec.{eqb}
 use lib.ListN.{length}
 use Rattle.record.specs.declared.Held.{Held}
+use Rattle.record.specs.Memory.{Memory}
 use Rattle.record.specs.Places.{recordsOf}
 use Rattle.program.specs.declared.Acceptance.{Acceptance}
 use Rattle.program.specs.Program.{accepted}
@@ -31,25 +33,33 @@ module _ (a : Held) (s : List ℕ) (b : Held) (t : List ℕ) where
       rw (e, f, p, q)
       (both-first (accepted (counted a b) s) (accepted (counted b a) t) (ofThese leadsOut (recordsOf (counted a b) s)) (ofThese startsFirst (recordsOf (counted b a) t)))
 
-  -- ---- the refusals in their order
+-- ---- the refusals in their order
 
-  pub is-102 : not (storesRight s t) ≡ true → 102 ≡ refusalOf a s b t
+module _ (a : Held) (m : Memory) (b : Held) (t : List ℕ) where
+  pub is-102 : not (storesRight (m .store) t) ≡ true → 102 ≡ refusalOf a m b t
   unfolding refusalOf
   is-102 e = rw e
 
-  pub is-3 : not (storesRight s t) ≡ false → not (axesRight a b) ≡ true → 51 ≡ refusalOf a s b t
-  unfolding refusalOf
-  is-3 d e = rw (d, e)
-
-  pub is-G : not (storesRight s t) ≡ false → not (axesRight a b) ≡ false → not (bothAccepted a s b t) || entersRange a s b t ≡ true → 71 ≡ refusalOf a s b t
-  unfolding refusalOf
-  is-G c d e = rw (c, d, e)
-
-  module _ (c : not (storesRight s t) ≡ false) (d : not (axesRight a b) ≡ false) (e : not (bothAccepted a s b t) || entersRange a s b t ≡ false) where
-    pub is-6 : not (roomRight a b) ≡ true → 54 ≡ refusalOf a s b t
+  module _ (c : not (storesRight (m .store) t) ≡ false) where
+    pub is-104 : (length (m .table) ≡ 1000 → ⊥) → 104 ≡ refusalOf a m b t
     unfolding refusalOf
-    is-6 f = rw (c, d, e, f)
+    is-104 e = rw (c, ne-eqb (length (m .table)) 1000 e)
 
-    pub is-0 : not (roomRight a b) ≡ false → 0 ≡ refusalOf a s b t
-    unfolding refusalOf
-    is-0 f = rw (c, d, e, f)
+    module _ (d : length (m .table) ≡ 1000) where
+      pub is-3 : not (axesRight a b) ≡ true → 51 ≡ refusalOf a m b t
+      unfolding refusalOf
+      is-3 e = rw (c, eq-eqb (length (m .table)) 1000 d, e)
+
+      module _ (e : not (axesRight a b) ≡ false) where
+        pub is-G : not (bothAccepted a (m .store) b t) || entersRange a (m .store) b t ≡ true → 71 ≡ refusalOf a m b t
+        unfolding refusalOf
+        is-G f = rw (c, eq-eqb (length (m .table)) 1000 d, e, f)
+
+        module _ (f : not (bothAccepted a (m .store) b t) || entersRange a (m .store) b t ≡ false) where
+          pub is-6 : not (roomRight a b) ≡ true → 54 ≡ refusalOf a m b t
+          unfolding refusalOf
+          is-6 g = rw (c, eq-eqb (length (m .table)) 1000 d, e, f, g)
+
+          pub is-0 : not (roomRight a b) ≡ false → 0 ≡ refusalOf a m b t
+          unfolding refusalOf
+          is-0 g = rw (c, eq-eqb (length (m .table)) 1000 d, e, f, g)

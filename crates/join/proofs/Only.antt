@@ -5,9 +5,15 @@ use denote.Ref.{now}
 use Rattle.join.specs.Join.{Joining}
 use Rattle.join.proofs.joining.join.Reads as join
 
--- the second parameter, `store: &mut [u8]`, as it is left
+-- the second and the third parameter, `store: &mut [u8]` and `table: &mut [u16]`, as they are left
 abbrev join-store : {X A B : Type 0} → A × (X × B) → X
 join-store s = s .1 .0
 
-pub join-one : (κs : _) (a : _) (r r′ : _) (s s′ : _) → join.Post κs a r s → join.Post κs a r′ s′ → (r ≡ r′) × (now (join-store s) ≡ now (join-store s′))
-join-one κs a r r′ s s′ p q = (ap (λ (x : Joining). x .joined) (p ∙ sym q), ap (λ (x : Joining). x .bytes) (p ∙ sym q))
+abbrev join-table : {X A B C : Type 0} → A × (B × (X × C)) → X
+join-table s = s .1 .1 .0
+
+pub join-one : (κs : _) (a : _) (r r′ : _) (s s′ : _) → join.Post κs a r s → join.Post κs a r′ s′
+    → (r ≡ r′) × (now (join-store s) ≡ now (join-store s′)) × (now (join-table s) ≡ now (join-table s′))
+join-one κs a r r′ s s′ p q =
+    let e = p ∙ sym q in
+    (ap (λ (x : Joining). x .joined) e, ap (λ (x : Joining). x .memory .store) e, ap (λ (x : Joining). x .memory .table) e)

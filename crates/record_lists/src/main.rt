@@ -24,11 +24,17 @@ fn record_of(w: [u32; 11]) -> Record {
 }
 
 // Stores a record so many times, as far as there is room.
-fn store_times(store: &mut [u8], before: Held, item: Record, times: u32) -> Held {
+fn store_times(
+    store: &mut [u8],
+    table: &mut [u16],
+    before: Held,
+    item: Record,
+    times: u32,
+) -> Held {
     let mut held = before;
     let mut left = times;
     while 0 < left {
-        let k = record::store_record(store, held, item);
+        let k = record::store_record(store, table, held, item);
         let longer = k.held;
         held = longer;
         left = left - 1;
@@ -37,7 +43,14 @@ fn store_times(store: &mut [u8], before: Held, item: Record, times: u32) -> Held
 }
 
 // Stores so many kinds of record of the text.
-fn fill(store: &mut [u8], axes: u8, text: &[u8], from: usize, kinds: u32) -> Filled {
+fn fill(
+    store: &mut [u8],
+    table: &mut [u16],
+    axes: u8,
+    text: &[u8],
+    from: usize,
+    kinds: u32,
+) -> Filled {
     let mut words: [u32; 11] = [0; 11];
     let mut held = Held {
         used: 0,
@@ -48,7 +61,7 @@ fn fill(store: &mut [u8], axes: u8, text: &[u8], from: usize, kinds: u32) -> Fil
     let mut left = kinds;
     while 0 < left {
         at = reader::next_numbers(text, at, &mut words);
-        let longer = store_times(store, held, record_of(words), words[0]);
+        let longer = store_times(store, table, held, record_of(words), words[0]);
         held = longer;
         left = left - 1;
     }
@@ -56,7 +69,13 @@ fn fill(store: &mut [u8], axes: u8, text: &[u8], from: usize, kinds: u32) -> Fil
 }
 
 // Stores what is fetched from the places of another store, from the first to the last.
-fn fill_again(second: &mut [u8], store: &[u8], from: Held) -> Held {
+fn fill_again(
+    second: &mut [u8],
+    other: &mut [u16],
+    store: &[u8],
+    table: &[u16],
+    from: Held,
+) -> Held {
     let mut held = Held {
         used: 0,
         records: 0,
@@ -64,8 +83,8 @@ fn fill_again(second: &mut [u8], store: &[u8], from: Held) -> Held {
     };
     let mut place = 0u16;
     while place < from.records {
-        let f = record::fetch(store, from, place);
-        let k = record::store_record(second, held, f.item);
+        let f = record::fetch(store, table, from, place);
+        let k = record::store_record(second, other, held, f.item);
         let longer = k.held;
         held = longer;
         place = place + 1;
@@ -96,6 +115,29 @@ fn same(a: &[u8], x: Held, b: &[u8], y: Held) -> bool {
     (x.used == y.used) & (x.records == y.records) & same_bytes(a, b, x.used as usize)
 }
 
+// Whether two tables are the same.
+fn same_entries(a: &[u16], b: &[u16]) -> bool {
+    let n = a.len();
+    if b.len() != n {
+        return false;
+    }
+    let mut i = 0usize;
+    while i < n {
+        if a[i] != b[i] {
+            return false;
+        }
+        i = i + 1;
+    }
+    true
+}
+
+// Whether a table is the one that is filled from its store.
+fn is_filled(store: &[u8], table: &[u16], held: Held) -> bool {
+    let mut other: [u16; 1000] = [0; 1000];
+    let refusal = record::fill(store, &mut other, held);
+    (refusal == 0) & same_entries(table, &other)
+}
+
 // The listing as it stands in the buffer, and a line feed.
 fn show_listing(text: &[u8], len: u32) {
     let n = len as usize;
@@ -119,15 +161,17 @@ fn show_same(b: bool) {
     }
 }
 
-// Whether the records of a store, fetched and stored again, give the same bytes.
-fn show_again(store: &[u8], held: Held) {
+// Whether the records of a store, fetched and stored again, give the same bytes and the same table, which is the one that is filled too.
+fn show_again(store: &[u8], table: &[u16], held: Held) {
     let mut second: [u8; 16384] = [0; 16384];
-    let again = fill_again(&mut second, store, held);
-    show_same(same(store, held, &second, again));
+    let mut other: [u16; 1000] = [0; 1000];
+    let again = fill_again(&mut second, &mut other, store, table, held);
+    let tables = same_entries(table, &other) & is_filled(store, table, held);
+    show_same(tables & same(store, held, &second, again));
 }
 
 // The listing of a store, or its refusal.
-fn show_store(store: &[u8], held: Held) {
+fn show_store(store: &[u8], table: &[u16], held: Held) {
     let mut lines: [u8; 32768] = [0; 32768];
     let listed = record::list(store, held, &mut lines);
     if listed.refusal != 0 {
@@ -135,16 +179,24 @@ fn show_store(store: &[u8], held: Held) {
         return;
     }
     show_listing(&lines, listed.len);
-    show_again(store, held);
+    show_again(store, table, held);
 }
 
 // One store of the text; answers where the text goes on.
 fn one_store(text: &[u8], from: usize) -> usize {
     let mut store: [u8; 16384] = [0; 16384];
+    let mut table: [u16; 1000] = [0; 1000];
     let axes = reader::next_number(text, from);
     let kinds = reader::next_number(text, axes.at);
-    let f = fill(&mut store, byte_of(axes.word), text, kinds.at, kinds.word);
-    show_store(&store, f.held);
+    let f = fill(
+        &mut store,
+        &mut table,
+        byte_of(axes.word),
+        text,
+        kinds.at,
+        kinds.word,
+    );
+    show_store(&store, &table, f.held);
     f.at
 }
 

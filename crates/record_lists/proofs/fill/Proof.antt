@@ -6,10 +6,10 @@ use Rattle.record_lists.proofs.fill.Statement.{statement}
 use Rattle.record_lists.proofs.fill.Tie as tie
 
 abbrev Inv-loop : tie.InvT-loop
-Inv-loop store₀ axes text from kinds words₀ held₀ at₀ left₀ store words held at left = (length store ≡ length store₀) × (length words ≡ 11)
+Inv-loop store₀ table₀ axes text from kinds words₀ held₀ at₀ left₀ store table words held at left = (length store ≡ length store₀) × (length table ≡ length table₀) × (length words ≡ 11)
 
 abbrev μ-loop : tie.MeasureT-loop
-μ-loop store₀ axes text from kinds words₀ held₀ at₀ left₀ store words held at left = left
+μ-loop store₀ table₀ axes text from kinds words₀ held₀ at₀ left₀ store table words held at left = left
 
 loop-holds : tie.Need-loop-holds Inv-loop μ-loop
 loop-holds c = search needs
@@ -41,6 +41,9 @@ loop-again c = search needs
 same-length : tie.Need-same-length Inv-loop μ-loop
 same-length c = search needs
 
+same-length-2 : tie.Need-same-length-2 Inv-loop μ-loop
+same-length-2 c = search needs
+
 returns : tie.Need-returns Inv-loop μ-loop
 returns c = search needs
 
@@ -60,4 +63,5 @@ fill-spec =
     loop-less
     loop-again
     same-length
+    same-length-2
     returns)

@@ -7,10 +7,10 @@ use Rattle.record_lists.proofs.fill_again.Statement.{statement}
 use Rattle.record_lists.proofs.fill_again.Tie as tie
 
 abbrev Inv-loop : tie.InvT-loop
-Inv-loop second₀ store from held₀ place₀ second held place = (length second ≡ length second₀) × (place ≤ from .records)
+Inv-loop second₀ other₀ store table from held₀ place₀ second other held place = (length second ≡ length second₀) × (length other ≡ length other₀) × (place ≤ from .records)
 
 abbrev μ-loop : tie.MeasureT-loop
-μ-loop second₀ store from held₀ place₀ second held place = from .records - place
+μ-loop second₀ other₀ store table from held₀ place₀ second other held place = from .records - place
 
 loop-holds : tie.Need-loop-holds Inv-loop μ-loop
 loop-holds c = search needs
@@ -33,6 +33,9 @@ loop-again c = search needs
 same-length : tie.Need-same-length Inv-loop μ-loop
 same-length c = search needs
 
+same-length-2 : tie.Need-same-length-2 Inv-loop μ-loop
+same-length-2 c = search needs
+
 returns : tie.Need-returns Inv-loop μ-loop
 returns c = search needs
 
@@ -49,4 +52,5 @@ fill-again-spec =
     loop-less
     loop-again
     same-length
+    same-length-2
     returns)

@@ -6,10 +6,10 @@ use Rattle.record_lists.proofs.store_times.Statement.{statement}
 use Rattle.record_lists.proofs.store_times.Tie as tie
 
 abbrev Inv-loop : tie.InvT-loop
-Inv-loop store₀ item times held₀ left₀ store held left = length store ≡ length store₀
+Inv-loop store₀ table₀ item times held₀ left₀ store table held left = (length store ≡ length store₀) × (length table ≡ length table₀)
 
 abbrev μ-loop : tie.MeasureT-loop
-μ-loop store₀ item times held₀ left₀ store held left = left
+μ-loop store₀ table₀ item times held₀ left₀ store table held left = left
 
 loop-holds : tie.Need-loop-holds Inv-loop μ-loop
 loop-holds c = search needs
@@ -29,6 +29,9 @@ loop-again c = search needs
 same-length : tie.Need-same-length Inv-loop μ-loop
 same-length c = search needs
 
+same-length-2 : tie.Need-same-length-2 Inv-loop μ-loop
+same-length-2 c = search needs
+
 returns : tie.Need-returns Inv-loop μ-loop
 returns c = search needs
 
@@ -44,4 +47,5 @@ store-times-spec =
     loop-less
     loop-again
     same-length
+    same-length-2
     returns)

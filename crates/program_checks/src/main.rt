@@ -88,14 +88,14 @@ fn no_loops() -> Loops {
 }
 
 // The places of a run's first records; the first wait hears another character, the second its own, and so on.
-fn run(store: &[u8], held: Held) {
+fn run(store: &[u8], table: &[u16], held: Held) {
     let mut place = 0u16;
     let mut loops = no_loops();
     let mut heard = false;
     let mut left = 40u16;
     while 0 < left {
         left = left - 1;
-        let f = record::fetch(store, held, place);
+        let f = record::fetch(store, table, held, place);
         if f.len == 0 {
             io::write_all(STDOUT_FILENO, b" E");
             return;
@@ -115,11 +115,25 @@ fn run(store: &[u8], held: Held) {
     }
 }
 
+// Where each record starts, by walking from the front: `record::fill` takes whole stores of at most 1,000 records, and these are any.
+fn walk(table: &mut [u16], store: &[u8], held: Held) {
+    let mut at = 0usize;
+    let mut i = 0usize;
+    while i < table.len() {
+        table[i] = at as u16;
+        let f = record::record_at(store, held, at);
+        at = (at + (f.len as usize)) % 65536;
+        i += 1;
+    }
+}
+
 fn answer(store: &[u8], held: Held) {
     show(program::check(store, held));
     if record::readable(store, held) {
+        let mut table = [0u16; 1000];
+        walk(&mut table, store, held);
         io::write_all(STDOUT_FILENO, b":");
-        run(store, held);
+        run(store, &table, held);
     }
     io::write_all(STDOUT_FILENO, b"\n");
 }

@@ -4,10 +4,10 @@ use Rattle.program_checks.proofs.run.Statement.{statement}
 use Rattle.program_checks.proofs.run.Tie as tie
 
 abbrev Inv-loop : tie.InvT-loop
-Inv-loop store held place₀ loops₀ heard₀ left₀ t11 t12 t13 place loops heard left = Unit {0}
+Inv-loop store table held place₀ loops₀ heard₀ left₀ t11 t12 t13 place loops heard left = Unit {0}
 
 abbrev μ-loop : tie.MeasureT-loop
-μ-loop store held place₀ loops₀ heard₀ left₀ t11 t12 t13 place loops heard left = left
+μ-loop store table held place₀ loops₀ heard₀ left₀ t11 t12 t13 place loops heard left = left
 
 no-loops-requires : tie.Need-no-loops-requires Inv-loop μ-loop
 no-loops-requires c κs = search needs

@@ -25,55 +25,61 @@ use Rattle.promise.specs.Machine.{Event, byte as heard, clock as timed}
 
 -- a result of `receive`, and what was lent afterwards
 pub record Hears (v : ℕ) (ports : List ℕ) (l : Lent) (b : Board) (o : Outcome) : Type 1 where
-  pub κs : Lfts 2
+  pub κs : Lfts 3
   pub args : ArgsD receiveM.signature κs
-  pub last : AtExit (endedOf 2 receiveKinds.ps receiveKinds.r) κs
+  pub last : AtExit (endedOf 3 receiveKinds.ps receiveKinds.r) κs
   pub self : args .0 ≡ b
   pub given : args .1 .0 ≡ v
   pub inputs : args .1 .1 .0 ≡ ports
   pub reply : now (args .1 .1 .1 .0) ≡ l .reply
   pub store : now (args .1 .1 .1 .1 .0) ≡ l .memory .store
+  pub table : now (args .1 .1 .1 .1 .1 .0) ≡ l .memory .table
   pub replied : now (last .1 .1 .1 .0) ≡ o .after .reply
   pub stored : now (last .1 .1 .1 .1 .0) ≡ o .after .memory .store
+  pub entered : now (last .1 .1 .1 .1 .1 .0) ≡ o .after .memory .table
   pub post : receive.Post κs args (o .result) last
 
 -- a result of `clock`
 pub record Ticks (mem : Memory) (b : Board) (t : Ticked) : Type 1 where
-  pub κs : Lfts 1
+  pub κs : Lfts 2
   pub args : ArgsD clockM.signature κs
-  pub last : AtExit (endedOf 1 clockKinds.ps clockKinds.r) κs
+  pub last : AtExit (endedOf 2 clockKinds.ps clockKinds.r) κs
   pub self : args .0 ≡ b
-  pub lent : now (args .1 .0) ≡ mem .store
+  pub store : now (args .1 .0) ≡ mem .store
+  pub table : now (args .1 .1 .0) ≡ mem .table
   pub post : clock.Post κs args t last
 
 pub hears-is : (v : ℕ) (ports : List ℕ) (l : Lent) (b : Board) (o : Outcome) → Hears v ports l b o → o ≡ receiving v ports b l
-hears-is v ports l b o h = rw (← h .self, ← h .given, ← h .inputs, ← h .reply, ← h .store, ← h .replied, ← h .stored) (h .post)
+hears-is v ports l b o h = rw (← h .self, ← h .given, ← h .inputs, ← h .reply, ← h .store, ← h .table, ← h .replied, ← h .stored, ← h .entered) (h .post)
 
 pub ticks-is : (mem : Memory) (b : Board) (t : Ticked) → Ticks mem b t → t ≡ clocking b mem
-ticks-is mem b t h = rw (← h .self, ← h .lent) (h .post)
+ticks-is mem b t h = rw (← h .self, ← h .store, ← h .table) (h .post)
 
 pub clock-allowed : (mem : Memory) (b : Board) → Ticks mem b (clocking b mem)
 clock-allowed mem b = record {
-  κs = ([], tt);
-  args = (b, (record { ptr = (0, 0); name = 0; now = mem .store }, tt));
-  last = (b, (record { ptr = (0, 0); name = 0; now = mem .store }, tt));
+  κs = ([], ([], tt));
+  args = (b, (record { ptr = (0, 0); name = 0; now = mem .store }, (record { ptr = (0, 0); name = 0; now = mem .table }, tt)));
+  last = (b, (record { ptr = (0, 0); name = 0; now = mem .store }, (record { ptr = (0, 0); name = 0; now = mem .table }, tt)));
   self = refl;
-  lent = refl;
+  store = refl;
+  table = refl;
   post = refl;
 }
 
 pub byte-allowed : (v : ℕ) (ports : List ℕ) (l : Lent) (b : Board) → Hears v ports l b (receiving v ports b l)
 byte-allowed v ports l b = record {
-  κs = ([], ([], tt));
-  args = (b, (v, (ports, (record { ptr = (0, 0); name = 0; now = l .reply }, (record { ptr = (0, 0); name = 0; now = l .memory .store }, tt)))));
-  last = (b, (v, (ports, (record { ptr = (0, 0); name = 0; now = receiving v ports b l .after .reply }, (record { ptr = (0, 0); name = 0; now = receiving v ports b l .after .memory .store }, tt)))));
+  κs = ([], ([], ([], tt)));
+  args = (b, (v, (ports, (record { ptr = (0, 0); name = 0; now = l .reply }, (record { ptr = (0, 0); name = 0; now = l .memory .store }, (record { ptr = (0, 0); name = 0; now = l .memory .table }, tt))))));
+  last = (b, (v, (ports, (record { ptr = (0, 0); name = 0; now = receiving v ports b l .after .reply }, (record { ptr = (0, 0); name = 0; now = receiving v ports b l .after .memory .store }, (record { ptr = (0, 0); name = 0; now = receiving v ports b l .after .memory .table }, tt))))));
   self = refl;
   given = refl;
   inputs = refl;
   reply = refl;
   store = refl;
+  table = refl;
   replied = refl;
   stored = refl;
+  entered = refl;
   post = refl;
 }
 

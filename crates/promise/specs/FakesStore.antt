@@ -17,7 +17,7 @@ use Rattle.record.specs.Places.Records.{are, none-are}
 use Rattle.program.specs.Edges.{leadsOut, ofThese}
 use Rattle.join.specs.Join.{counted, refusalOf, both, joinedMemory, joining, answer, joinOf}
 use Rattle.board.specs.declared.Board.{Board}
-use Rattle.board.specs.Calls.{Lent, lent, Outcome, receiving, fresh}
+use Rattle.board.specs.Calls.{lent, Outcome, receiving, fresh}
 use Rattle.promise.specs.Machine.{Machine, Heard, ours}
 use Rattle.promise.specs.Join.{Joiner}
 

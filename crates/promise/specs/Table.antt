@@ -12,7 +12,7 @@ use Rattle.record.specs.Table.{spotOf, TableTrue, fillOf}
 use Rattle.board.specs.Calls.{lent}
 use Rattle.promise.specs.Machine.{Machine}
 use Rattle.promise.specs.Steps.{Each, reached, Along}
-use Rattle.promise.specs.Stop.{Step, Place, boardAt, last}
+use Rattle.promise.specs.Stop.{Step, boardAt, last}
 use Rattle.promise.specs.Route.{Alone}
 use Rattle.promise.specs.Join.{Joiner}
 

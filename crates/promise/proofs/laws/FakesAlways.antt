@@ -67,7 +67,7 @@ mild-again es m = (fits 253 refl, (fits 64 refl, (fits 48 refl, (fits 83 refl, (
 
 claims-begun : Begun claims (moving claims)
 unfolding reached shown number receiving sound soundOf counted inRange underWay hearing stopped earOf gathering gathered returned directSaid replyOf first directOf afterAddress letterOf behind digitsBehind digitsOf numberOf parted itemsOf numbersOf within in24 signed word placed added inSpeed rightCount rightZ2 rightDistances rightSpeeds pulses steps countAfter goal goalX goalY goalZ1 goalZ2 firstSpeed laterSpeed route goingTo planOf fromOf toOf leftOf afterOf countRight axesRight rangesRight speedsRight beginOf clocking ticked pulseOf nextBy skipped signAt speedAt
-claims-begun = record { sound = refl; runs = refl; standing = refl; line = refl; memory = refl }
+claims-begun = record { sound = refl; runs = refl; standing = refl; line = refl; memory = (refl, refl) }
 
 pub claims-fails-midway : StopChangesNothing claims → ⊥
 unfolding reached shown number receiving sound soundOf counted inRange underWay hearing stopped earOf gathering gathered returned directSaid replyOf first directOf afterAddress letterOf behind digitsBehind digitsOf numberOf parted itemsOf numbersOf within in24 signed word placed added inSpeed rightCount rightZ2 rightDistances rightSpeeds pulses steps countAfter goal goalX goalY goalZ1 goalZ2 firstSpeed laterSpeed route goingTo planOf fromOf toOf leftOf afterOf countRight axesRight rangesRight speedsRight beginOf clocking ticked pulseOf nextBy skipped signAt speedAt
@@ -79,7 +79,7 @@ claims-fails-midway f =
 
 mutes-begun : Begun mutes (moving mutes)
 unfolding reached shown number receiving sound soundOf counted inRange underWay hearing stopped earOf gathering gathered returned directSaid replyOf first directOf afterAddress letterOf behind digitsBehind digitsOf numberOf parted itemsOf numbersOf within in24 signed word placed added inSpeed rightCount rightZ2 rightDistances rightSpeeds pulses steps countAfter goal goalX goalY goalZ1 goalZ2 firstSpeed laterSpeed route goingTo planOf fromOf toOf leftOf afterOf countRight axesRight rangesRight speedsRight beginOf clocking ticked pulseOf nextBy skipped signAt speedAt
-mutes-begun = record { sound = refl; runs = refl; standing = refl; line = refl; memory = refl }
+mutes-begun = record { sound = refl; runs = refl; standing = refl; line = refl; memory = (refl, refl) }
 
 abbrev four : List Step
 four = call own ∷ thrice
@@ -101,7 +101,7 @@ mutes-fails-ends d =
 
 slows-begun : Begun slows (moving slows)
 unfolding reached shown number receiving sound soundOf counted inRange underWay hearing stopped earOf gathering gathered returned directSaid replyOf first directOf afterAddress letterOf behind digitsBehind digitsOf numberOf parted itemsOf numbersOf within in24 signed word placed added inSpeed rightCount rightZ2 rightDistances rightSpeeds pulses steps countAfter goal goalX goalY goalZ1 goalZ2 firstSpeed laterSpeed route goingTo planOf fromOf toOf leftOf afterOf countRight axesRight rangesRight speedsRight beginOf clocking ticked pulseOf nextBy skipped signAt speedAt
-slows-begun = record { sound = refl; runs = refl; standing = refl; line = refl; memory = refl }
+slows-begun = record { sound = refl; runs = refl; standing = refl; line = refl; memory = (refl, refl) }
 
 slows-same : (countOf slows (moving slows) (again once) ≡ 1) × (countOf slows (moving slows) once ≡ 1) × (taken slows (moving slows) (again once) ≡ []) × (taken slows (moving slows) once ≡ [])
 unfolding reached shown number receiving sound soundOf counted inRange underWay hearing stopped earOf gathering gathered returned directSaid replyOf first directOf afterAddress letterOf behind digitsBehind digitsOf numberOf parted itemsOf numbersOf within in24 signed word placed added inSpeed rightCount rightZ2 rightDistances rightSpeeds pulses steps countAfter goal goalX goalY goalZ1 goalZ2 firstSpeed laterSpeed route goingTo planOf fromOf toOf leftOf afterOf countRight axesRight rangesRight speedsRight beginOf clocking ticked pulseOf nextBy skipped signAt speedAt
@@ -122,7 +122,7 @@ signs (a ∷ l) = map number (a .values) ++ signs l
 
 turns-begun : Begun turns (moving turns)
 unfolding reached shown number receiving sound soundOf counted inRange underWay hearing stopped earOf gathering gathered returned directSaid replyOf first directOf afterAddress letterOf behind digitsBehind digitsOf numberOf parted itemsOf numbersOf within in24 signed word placed added inSpeed rightCount rightZ2 rightDistances rightSpeeds pulses steps countAfter goal goalX goalY goalZ1 goalZ2 firstSpeed laterSpeed route goingTo planOf fromOf toOf leftOf afterOf countRight axesRight rangesRight speedsRight beginOf clocking ticked pulseOf nextBy skipped signAt speedAt
-turns-begun = record { sound = refl; runs = refl; standing = refl; line = refl; memory = refl }
+turns-begun = record { sound = refl; runs = refl; standing = refl; line = refl; memory = (refl, refl) }
 
 turns-same : (countOf turns (moving turns) (again once) ≡ 1) × (countOf turns (moving turns) once ≡ 1) × (taken turns (moving turns) (again once) ≡ []) × (taken turns (moving turns) once ≡ [])
 unfolding reached shown number receiving sound soundOf counted inRange underWay hearing stopped earOf gathering gathered returned directSaid replyOf first directOf afterAddress letterOf behind digitsBehind digitsOf numberOf parted itemsOf numbersOf within in24 signed word placed added inSpeed rightCount rightZ2 rightDistances rightSpeeds pulses steps countAfter goal goalX goalY goalZ1 goalZ2 firstSpeed laterSpeed route goingTo planOf fromOf toOf leftOf afterOf countRight axesRight rangesRight speedsRight beginOf clocking ticked pulseOf nextBy skipped signAt speedAt
@@ -139,7 +139,7 @@ turns-fails d =
 
 losesPulse-begun : Begun losesPulse (moving losesPulse)
 unfolding reached shown number receiving sound soundOf counted inRange underWay hearing stopped earOf gathering gathered returned directSaid replyOf first directOf afterAddress letterOf behind digitsBehind digitsOf numberOf parted itemsOf numbersOf within in24 signed word placed added inSpeed rightCount rightZ2 rightDistances rightSpeeds pulses steps countAfter goal goalX goalY goalZ1 goalZ2 firstSpeed laterSpeed route goingTo planOf fromOf toOf leftOf afterOf countRight axesRight rangesRight speedsRight beginOf clocking ticked pulseOf nextBy skipped signAt speedAt
-losesPulse-begun = record { sound = refl; runs = refl; standing = refl; line = refl; memory = refl }
+losesPulse-begun = record { sound = refl; runs = refl; standing = refl; line = refl; memory = (refl, refl) }
 
 losesPulse-same : (countOf losesPulse (moving losesPulse) (again thrice) ≡ 3) × (countOf losesPulse (moving losesPulse) thrice ≡ 3) × (taken losesPulse (moving losesPulse) (again thrice) ≡ []) × (taken losesPulse (moving losesPulse) thrice ≡ [])
 unfolding reached shown number receiving sound soundOf counted inRange underWay hearing stopped earOf gathering gathered returned directSaid replyOf first directOf afterAddress letterOf behind digitsBehind digitsOf numberOf parted itemsOf numbersOf within in24 signed word placed added inSpeed rightCount rightZ2 rightDistances rightSpeeds pulses steps countAfter goal goalX goalY goalZ1 goalZ2 firstSpeed laterSpeed route goingTo planOf fromOf toOf leftOf afterOf countRight axesRight rangesRight speedsRight beginOf clocking ticked pulseOf nextBy skipped signAt speedAt
@@ -156,13 +156,13 @@ losesPulse-fails d =
 
 stirs-begun : Begun stirs (moving stirs)
 unfolding reached shown number receiving sound soundOf counted inRange underWay hearing stopped earOf gathering gathered returned directSaid replyOf first directOf afterAddress letterOf behind digitsBehind digitsOf numberOf parted itemsOf numbersOf within in24 signed word placed added inSpeed rightCount rightZ2 rightDistances rightSpeeds pulses steps countAfter goal goalX goalY goalZ1 goalZ2 firstSpeed laterSpeed route goingTo planOf fromOf toOf leftOf afterOf countRight axesRight rangesRight speedsRight beginOf clocking ticked pulseOf nextBy skipped signAt speedAt
-stirs-begun = record { sound = refl; runs = refl; standing = refl; line = refl; memory = refl }
+stirs-begun = record { sound = refl; runs = refl; standing = refl; line = refl; memory = (refl, refl) }
 
 pub stirs-fails : Demanded stirs → ⊥
 unfolding reached shown number receiving sound soundOf counted inRange underWay hearing stopped earOf gathering gathered returned directSaid replyOf first directOf afterAddress letterOf behind digitsBehind digitsOf numberOf parted itemsOf numbersOf within in24 signed word placed added inSpeed rightCount rightZ2 rightDistances rightSpeeds pulses steps countAfter goal goalX goalY goalZ1 goalZ2 firstSpeed laterSpeed route goingTo planOf fromOf toOf leftOf afterOf countRight axesRight rangesRight speedsRight beginOf clocking ticked pulseOf nextBy skipped signAt speedAt
 stirs-fails d =
     let s : Same stirs (moving stirs) elsewhere [] =
-    d .demand-3 .always (moving stirs) elsewhere [] stirs-begun (eqb-false (length {A = ℕ} []) 16384 refl, tt) tt refl refl in
+    d .demand-3 .always (moving stirs) elsewhere [] stirs-begun (λ r. eqb-false (length {A = ℕ} []) 16384 refl (r .0), tt) tt refl refl in
     eqb-false 8388609 8388608 refl (ap (λ (e : Engine). e .at .x) (s .engine))
 
 -- ---- and ours on the same case: two clock calls while it stands do not count and answer nothing, so that counting them would be wrong

@@ -19,7 +19,8 @@ use Rattle.line.specs.Numbers.{digitsBehind, digitsOf, numberOf, parted, itemsO
 use Rattle.record.specs.Bytes.{bytes4, numBytes, encode, wordAt, wordsOf, front}
 use Rattle.record.specs.Fault.{isCode, countRight, axesRight, loopRight, rangesRight, speedsRight, faultOf}
 use Rattle.record.specs.Keep.{hasRoom, storeOf}
-use Rattle.record.specs.Places.{recordAt, spotFrom, spotOf, fetchOf, recordsFrom, recordsOf}
+use Rattle.record.specs.Places.{recordAt, recordsFrom, recordsOf}
+use Rattle.record.specs.Table.{spotOf, fetchOf}
 use Rattle.program.specs.Check.{holds, share, around, crosses, early, overlaps, holders, outside, strays, letter, checked}
 use Rattle.program.specs.Onward.{inside, again, opens, looped, aimed, onwardOf}
 use Rattle.program.specs.Program.{checkOf, verdictOf}
@@ -62,7 +63,7 @@ zeros zero j = omega arith
 zeros (suc k) zero = omega arith
 zeros (suc k) (suc j) = zeros k j
 
-zeros-below : (k : ℕ) → Below 256 (replicate k 0)
+pub zeros-below : (k : ℕ) → Below 256 (replicate k 0)
 zeros-below k = record { at = zeros k }
 
 written-below : Below 256 written
@@ -72,15 +73,15 @@ written-below =
     (c 0 _ (omega arith) (c 0 _ (omega arith) (c 0 _ (omega arith) (zeros-below 16376))))))))
 
 accepts : accepted (losesBytes .board (afterAll losesBytes events (losesBytes .first)) .engine .held) written ≡ true
-unfolding afterAll passes accepted sized within in24 signed word placed added inSpeed inOffset inBack inLoop inDelay inCharacter inSwitch inPort inByte inZero rightCount rightZ2 rightDistances rightSpeeds hexDigit hexes twos24 report twoHex decimal digits shown fromOf toOf speedAt skipped nextBy pulseOf afterOf leftOf pulses steps signAt countAfter goal goalX goalY goalZ1 goalZ2 firstSpeed laterSpeed route goingTo planOf counted inRange underWay behind letterOf afterAddress directOf codeOf storedOf digitsBehind digitsOf numberOf parted itemsOf numbersOf bytes4 numBytes encode wordAt wordsOf front isCode countRight axesRight loopRight rangesRight speedsRight faultOf hasRoom storeOf recordAt spotFrom spotOf fetchOf recordsFrom recordsOf holds share around crosses early overlaps holders outside strays letter checked inside again opens looped aimed onwardOf checkOf verdictOf soundOf mixed resetOf heard beginOf performed ticked runsOf receiving clocking first replyOf directSaid earOf returned gathering stopped broken resetSaid hearing gathered sound recordReply storedSaid
+unfolding afterAll passes accepted sized within in24 signed word placed added inSpeed inOffset inBack inLoop inDelay inCharacter inSwitch inPort inByte inZero rightCount rightZ2 rightDistances rightSpeeds hexDigit hexes twos24 report twoHex decimal digits shown fromOf toOf speedAt skipped nextBy pulseOf afterOf leftOf pulses steps signAt countAfter goal goalX goalY goalZ1 goalZ2 firstSpeed laterSpeed route goingTo planOf counted inRange underWay behind letterOf afterAddress directOf codeOf storedOf digitsBehind digitsOf numberOf parted itemsOf numbersOf bytes4 numBytes encode wordAt wordsOf front isCode countRight axesRight loopRight rangesRight speedsRight faultOf hasRoom storeOf recordAt spotOf fetchOf recordsFrom recordsOf holds share around crosses early overlaps holders outside strays letter checked inside again opens looped aimed onwardOf checkOf verdictOf soundOf mixed resetOf heard beginOf performed ticked runsOf receiving clocking first replyOf directSaid earOf returned gathering stopped broken resetSaid hearing gathered sound recordReply storedSaid
 accepts = refl
 
 room : 32768 ≤ length page
 room = leb-true 32768 (length page) refl
 
 pub losesBytes-fails : Demanded losesBytes → ⊥
-unfolding afterAll sent ticks listing listOf more numbersText lineText listText within in24 signed word placed added inSpeed inOffset inBack inLoop inDelay inCharacter inSwitch inPort inByte inZero rightCount rightZ2 rightDistances rightSpeeds hexDigit hexes twos24 report twoHex decimal digits shown fromOf toOf speedAt skipped nextBy pulseOf afterOf leftOf pulses steps signAt countAfter goal goalX goalY goalZ1 goalZ2 firstSpeed laterSpeed route goingTo planOf counted inRange underWay behind letterOf afterAddress directOf codeOf storedOf digitsBehind digitsOf numberOf parted itemsOf numbersOf bytes4 numBytes encode wordAt wordsOf front isCode countRight axesRight loopRight rangesRight speedsRight faultOf hasRoom storeOf recordAt spotFrom spotOf fetchOf recordsFrom recordsOf holds share around crosses early overlaps holders outside strays letter checked inside again opens looped aimed onwardOf checkOf verdictOf soundOf mixed resetOf heard beginOf performed ticked runsOf receiving clocking first replyOf directSaid earOf returned gathering stopped broken resetSaid hearing gathered sound recordReply storedSaid
+unfolding afterAll sent ticks listing listOf more numbersText lineText listText within in24 signed word placed added inSpeed inOffset inBack inLoop inDelay inCharacter inSwitch inPort inByte inZero rightCount rightZ2 rightDistances rightSpeeds hexDigit hexes twos24 report twoHex decimal digits shown fromOf toOf speedAt skipped nextBy pulseOf afterOf leftOf pulses steps signAt countAfter goal goalX goalY goalZ1 goalZ2 firstSpeed laterSpeed route goingTo planOf counted inRange underWay behind letterOf afterAddress directOf codeOf storedOf digitsBehind digitsOf numberOf parted itemsOf numbersOf bytes4 numBytes encode wordAt wordsOf front isCode countRight axesRight loopRight rangesRight speedsRight faultOf hasRoom storeOf recordAt spotOf fetchOf recordsFrom recordsOf holds share around crosses early overlaps holders outside strays letter checked inside again opens looped aimed onwardOf checkOf verdictOf soundOf mixed resetOf heard beginOf performed ticked runsOf receiving clocking first replyOf directSaid earOf returned gathering stopped broken resetSaid hearing gathered sound recordReply storedSaid
 losesBytes-fails d =
     let r : ListedAgain losesBytes written page noMemory host (afterAll losesBytes events (losesBytes .first)) =
-    d .demand-2 .round-trip events written page noMemory host refl written-below accepts room refl (zeros-below 16384) in
+    d .demand-2 .round-trip events written page noMemory host refl written-below accepts room (refl, refl) (zeros-below 16384) in
     eqb-false 0 0xD7 refl (ap (λ (s : List ℕ). getD s 0 0) (r .restored .bytes))

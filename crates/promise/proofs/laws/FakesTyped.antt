@@ -13,9 +13,9 @@ use Rattle.promise.specs.Stop.{Step, receive, own}
 abbrev pub reply0 : List ℕ
 reply0 = replicate 32 0
 
--- a memory with these bytes in its store
+-- a memory with these bytes in its store, and every entry of its table 0
 abbrev pub withStore : List ℕ → Memory
-withStore store = memory store
+withStore store = memory store (replicate 1000 0)
 
 abbrev pub lent0 : Lent
 lent0 = lent reply0 noMemory

@@ -8,7 +8,7 @@ use borrow.Author.Tests.{lt-ltb, le-ltb, ne-eqb}
 use lib.ListN.{length, take, drop}
 use lib.Seq.{take-append-seam}
 use Rattle.count.specs.Pick.{pick}
-use Rattle.record.specs.Memory.{Memory}
+use Rattle.record.specs.Memory.{Memory, RightMemory, storeFits, tableFits}
 use Rattle.engine.specs.Sound.{soundOf}
 use Rattle.engine.specs.Kinds.Ear.{gathers}
 use Rattle.board.specs.declared.Line.{Line}
@@ -17,11 +17,11 @@ use Rattle.board.specs.State.{gathered, withLine, Said, said, sound}
 use Rattle.board.specs.Receive.{earOf, gathering, ordinary, hearing}
 use Rattle.board.specs.Calls.{Lent, lent, Outcome, refused, answered, receiving}
 use Rattle.board.proofs.laws.Fair.{line-sound}
-use Rattle.promise.specs.Machine.{RightMemory, ours}
+use Rattle.promise.specs.Machine.{ours}
 use Rattle.promise.specs.Demands.{idles, stores, waits, ticks, Host, Sent, after, sent}
 use Rattle.promise.specs.Steps.{Each}
 use Rattle.promise.specs.Spaces.{Gathers, silence}
-use Rattle.promise.proofs.laws.KeepsCalls.{isRight, right-is, keeps-quiet}
+use Rattle.promise.proofs.laws.KeepsCalls.{isRight, right-store, right-table, right-is, keeps-quiet}
 
 -- ---- one byte
 
@@ -37,7 +37,7 @@ ticks-quiet (suc k) mem b h = ap (λ (c : Board). ticks ours k mem c) (keeps-qui
 pub hear-so : (v : ℕ) (ports : List ℕ) (b : Board) (l : Lent) → sound b ≡ true → RightMemory (l .memory) → 32 ≤ length (l .reply)
     → receiving v ports b l ≡ answered (hearing v ports b (l .memory)) (l .reply)
 unfolding receiving
-hear-so v ports b l s n r = rw (le-ltb (length (l .reply)) 32 r, right-is (l .memory) n, s)
+hear-so v ports b l s n r = rw (le-ltb (length (l .reply)) 32 r, right-store (l .memory) n, s, right-table (l .memory) n)
 
 -- what a byte comes to, refused or heard
 abbrev pub step : ℕ → List ℕ → Board → Memory → Said
@@ -50,19 +50,24 @@ module _ (host : Host) (i v : ℕ) (l : List ℕ) (b : Board) (mem : Memory) whe
   abbrev pub goes : Said → Sent ours
   goes x = after ours (x .reply) (sent ours host (suc i) l (x .board) (x .memory))
 
-  step-by : (c d : Bool) (x : Said)
-      → went (pick (not c) (refused 102 b (lent (host .reply i) mem)) (pick (not d) (refused 103 b (lent (host .reply i) mem)) (answered x (host .reply i))))
-      ≡ goes (pick (c && d) x (said b [] mem))
-  step-by true true x =
+  abbrev lends : Lent
+  lends = lent (host .reply i) mem
+
+  step-by : (c e d : Bool) (x : Said)
+      → went (pick (not c) (refused 102 b lends) (pick (not d) (refused 103 b lends) (pick (not e) (refused 104 b lends) (answered x (host .reply i)))))
+      ≡ goes (pick (c && e && d) x (said b [] mem))
+  step-by true true true x =
       ap (λ (t : List ℕ). after ours t (sent ours host (suc i) l (x .board) (x .memory))) (take-append-seam (x .reply) (drop (length (x .reply)) (host .reply i)))
-  step-by true false x = refl
-  step-by false d x = refl
+  step-by true false true x = refl
+  step-by true true false x = refl
+  step-by true false false x = refl
+  step-by false e d x = refl
 
   pub one-step : ticks ours (host .calls i) mem b ≡ b → sent ours host i (v ∷ l) b mem ≡ goes (step v (host .ports i) b mem)
   unfolding sent receiving
   one-step r =
       ap (λ (c : Board). went (receiving v (host .ports i) c (lent (host .reply i) mem))) r
-      ∙ rw (le-ltb (length (host .reply i)) 32 (host .room i)) (step-by (isRight mem) (sound b) (hearing v (host .ports i) b mem))
+      ∙ rw (le-ltb (length (host .reply i)) 32 (host .room i)) (step-by (storeFits mem) (tableFits mem) (sound b) (hearing v (host .ports i) b mem))
 
 -- ---- a byte that is no control code
 

@@ -17,7 +17,7 @@ use Rattle.record.specs.declared.Record.{Record}
 use Rattle.record.specs.Bytes.{encode}
 use Rattle.record.specs.Memory.{Memory}
 use Rattle.record.specs.Keep.{Storing, hasRoom, storeOf}
-use Rattle.record.specs.Places.{fetchOf}
+use Rattle.record.specs.Table.{fetchOf}
 use Rattle.program.specs.Program.{verdictOf, isSound, axesSet}
 use Rattle.line.specs.declared.Letter.{Letter}
 use Rattle.line.specs.declared.Letter.the-variants as letter
@@ -97,7 +97,7 @@ module _ (rule : Rule) (fetch : Fetching) (e : Engine) (w : Written e) where
 
 clock-written : (b : Board) (mem : Memory) → Written (b .engine) → Written (clocking b mem .board .engine)
 clock-written b mem w =
-    by-call b mem (λ (t : Ticked). Written (t .board .engine)) w w w (λ p q. tick-kept pulseOf (fetchOf (b .engine .held) (mem .store)) (b .engine) w)
+    by-call b mem (λ (t : Ticked). Written (t .board .engine)) (λ n. w) (λ p q. tick-kept pulseOf (fetchOf (b .engine .held) mem) (b .engine) w)
 
 -- ---- a byte: `i` on a board with axes, and no other byte, begins storing
 
@@ -125,9 +125,9 @@ module _ (v : ℕ) (ports : List ℕ) (b : Board) (mem : Memory) (h : sound b �
 
   -- a line while storing
 
-  stored-axes : (r : Record) → storeOf (b .engine .held) r (mem .store) .kept .held .axes ≡ b .engine .held .axes
+  stored-axes : (r : Record) → storeOf (b .engine .held) r mem .kept .held .axes ≡ b .engine .held .axes
   unfolding storeOf
-  stored-axes r = kept-axes (hasRoom (b .engine .held) (length (encode r)) (length (mem .store))) _ _ (b .engine .held .axes) refl refl
+  stored-axes r = kept-axes (hasRoom (b .engine .held) (length (encode r)) (length (mem .store)) (length (mem .table))) _ _ (b .engine .held .axes) refl refl
 
   code-on : (k : Code) (d : Stored) → On (storedBy k d b mem)
   code-on code.Wrong d = w

@@ -9,11 +9,12 @@ use lib.Dec.{ltb, eqb}
 use lib.ListN.{length}
 use Rattle.count.specs.Pick.{pick}
 use Rattle.count.specs.Paper.{says}
-use Rattle.count.proofs.laws.Truth.{never}
+use Rattle.count.proofs.laws.Truth.{never, and-parts, both}
 use Rattle.motion.specs.Next.{pulseOf}
-use Rattle.record.specs.Memory.{Memory}
-use Rattle.record.specs.Places.{Records, recordsOf, fetchOf}
+use Rattle.record.specs.Memory.{Memory, RightMemory, storeFits, tableFits}
+use Rattle.record.specs.Places.{Records, recordsOf}
 use Rattle.record.specs.Places.Records.{are, none-are}
+use Rattle.record.specs.Table.{fetchOf}
 use Rattle.record.specs.Listing.{Telling, telling, tell, listOf}
 use Rattle.engine.specs.declared.Job.{Job}
 use Rattle.engine.specs.declared.Job.the-variants as job
@@ -29,93 +30,100 @@ use Rattle.board.specs.Receive.{hearing, isStoring}
 use Rattle.board.specs.Calls.{Lent, Outcome, refused, answered, receiving, clocked, wentOn, clocking, listing}
 use Rattle.course.specs.Text.{answerText}
 use Rattle.course.specs.Run.{runsNow, Course, noCalls, then, course}
-use Rattle.promise.specs.Machine.{RightMemory, ours}
+use Rattle.promise.specs.Machine.{ours}
 use Rattle.promise.specs.Demands.{isIdle, isWaiting, RefusedCall, Quiet, ticks, CountedRun, Counted}
 
 -- ---- a memory as every call asks for it, as the calls test it
 
 abbrev pub isRight : Memory → Bool
-isRight mem = eqb (length (mem .store)) 16384
+isRight mem = storeFits mem && tableFits mem
+
+pub right-store : (mem : Memory) → RightMemory mem → storeFits mem ≡ true
+right-store mem h = eq-eqb (length (mem .store)) 16384 (h .0)
+
+pub right-table : (mem : Memory) → RightMemory mem → tableFits mem ≡ true
+right-table mem h = eq-eqb (length (mem .table)) 1000 (h .1)
+
+pub fits-right : (mem : Memory) → storeFits mem ≡ true → tableFits mem ≡ true → RightMemory mem
+fits-right mem g h = (eqb-true (length (mem .store)) 16384 g, eqb-true (length (mem .table)) 1000 h)
 
 pub is-right : (mem : Memory) → isRight mem ≡ true → RightMemory mem
-is-right mem h = eqb-true (length (mem .store)) 16384 h
+is-right mem h = let d = and-parts (storeFits mem) (tableFits mem) h in fits-right mem (d .0) (d .1)
 
 pub right-is : (mem : Memory) → RightMemory mem → isRight mem ≡ true
-right-is mem h = eq-eqb (length (mem .store)) 16384 h
+right-is mem h = both (right-store mem h) (right-table mem h)
 
 -- ---- a received byte: refused, or heard
 
 module _ (v : ℕ) (ports : List ℕ) (b : Board) (l : Lent) where
-  calm-by : (x y z : Bool) (o : Outcome)
-      → pick x (refused 101 b l) (pick y (refused 102 b l) (pick z (refused 103 b l) o)) .result .refusal ≡ 0
-      → pick x (refused 101 b l) (pick y (refused 102 b l) (pick z (refused 103 b l) o)) ≡ o
-  calm-by true y z o h = absurd (omega arith)
-  calm-by false true z o h = absurd (omega arith)
-  calm-by false false true o h = absurd (omega arith)
-  calm-by false false false o h = refl
+  abbrev tested : Bool → Bool → Bool → Bool → Outcome → Outcome
+  tested x y z w o = pick x (refused 101 b l) (pick (not y) (refused 102 b l) (pick (not z) (refused 103 b l) (pick (not w) (refused 104 b l) o)))
+
+  abbrev hears : Outcome
+  hears = answered (hearing v ports b (l .memory)) (l .reply)
+
+  calm-by : (x y z w : Bool) (o : Outcome) → tested x y z w o .result .refusal ≡ 0
+      → (y ≡ true) × (z ≡ true) × (w ≡ true) × (tested x y z w o ≡ o)
+  calm-by true y z w o h = absurd (omega arith)
+  calm-by false false z w o h = absurd (omega arith)
+  calm-by false true false w o h = absurd (omega arith)
+  calm-by false true true false o h = absurd (omega arith)
+  calm-by false true true true o h = (refl, refl, refl, refl)
+
+  calm-all : receiving v ports b l .result .refusal ≡ 0
+      → (storeFits (l .memory) ≡ true) × (sound b ≡ true) × (tableFits (l .memory) ≡ true) × (receiving v ports b l ≡ hears)
+  unfolding receiving
+  calm-all h = calm-by (ltb (length (l .reply)) 32) (storeFits (l .memory)) (sound b) (tableFits (l .memory)) hears h
 
   -- a call that is not refused hears the byte
   pub calm : receiving v ports b l .result .refusal ≡ 0 → receiving v ports b l ≡ answered (hearing v ports b (l .memory)) (l .reply)
-  unfolding receiving
-  calm h = calm-by (ltb (length (l .reply)) 32) (not (isRight (l .memory))) (not (sound b)) (answered (hearing v ports b (l .memory)) (l .reply)) h
-
-  long-by : (x z : Bool) (o : Outcome) (y : Bool)
-      → pick x (refused 101 b l) (pick (not y) (refused 102 b l) (pick z (refused 103 b l) o)) .result .refusal ≡ 0 → y ≡ true
-  long-by true z o y h = absurd (omega arith)
-  long-by false z o true h = refl
-  long-by false z o false h = absurd (omega arith)
+  calm h = calm-all h .3
 
   -- and was lent a memory as every call asks for it
   pub calm-memory : receiving v ports b l .result .refusal ≡ 0 → RightMemory (l .memory)
-  unfolding receiving
-  calm-memory h =
-      is-right (l .memory) (long-by (ltb (length (l .reply)) 32) (not (sound b)) (answered (hearing v ports b (l .memory)) (l .reply)) (isRight (l .memory)) h)
-
-  sound-by : (x y : Bool) (o : Outcome) (z : Bool)
-      → pick x (refused 101 b l) (pick y (refused 102 b l) (pick (not z) (refused 103 b l) o)) .result .refusal ≡ 0 → z ≡ true
-  sound-by true y o z h = absurd (omega arith)
-  sound-by false true o z h = absurd (omega arith)
-  sound-by false false o true h = refl
-  sound-by false false o false h = absurd (omega arith)
+  calm-memory h = fits-right (l .memory) (calm-all h .0) (calm-all h .2)
 
   -- in a state that 103 does not refuse
   pub calm-sound : receiving v ports b l .result .refusal ≡ 0 → sound b ≡ true
-  unfolding receiving
-  calm-sound h = sound-by (ltb (length (l .reply)) 32) (not (isRight (l .memory))) (answered (hearing v ports b (l .memory)) (l .reply)) (sound b) h
+  calm-sound h = calm-all h .1
 
-  kept-by : (x y z : Bool) (o : Outcome) → o .result .refusal ≡ 0
-      → (pick x (refused 101 b l) (pick y (refused 102 b l) (pick z (refused 103 b l) o)) .result .refusal ≡ 0 → ⊥)
-      → (pick x (refused 101 b l) (pick y (refused 102 b l) (pick z (refused 103 b l) o)) .result .board ≡ b)
-      × (pick x (refused 101 b l) (pick y (refused 102 b l) (pick z (refused 103 b l) o)) .after ≡ l)
-      × (pick x (refused 101 b l) (pick y (refused 102 b l) (pick z (refused 103 b l) o)) .result .len ≡ 0)
-  kept-by true y z o e h = (refl, refl, refl)
-  kept-by false true z o e h = (refl, refl, refl)
-  kept-by false false true o e h = (refl, refl, refl)
-  kept-by false false false o e h = absurd (h e)
+  kept-by : (x y z w : Bool) (o : Outcome) → o .result .refusal ≡ 0 → (tested x y z w o .result .refusal ≡ 0 → ⊥)
+      → (tested x y z w o .result .board ≡ b) × (tested x y z w o .after ≡ l) × (tested x y z w o .result .len ≡ 0)
+  kept-by true y z w o e h = (refl, refl, refl)
+  kept-by false false z w o e h = (refl, refl, refl)
+  kept-by false true false w o e h = (refl, refl, refl)
+  kept-by false true true false o e h = (refl, refl, refl)
+  kept-by false true true true o e h = absurd (h e)
 
   pub kept : (receiving v ports b l .result .refusal ≡ 0 → ⊥)
       → (receiving v ports b l .result .board ≡ b) × (receiving v ports b l .after ≡ l) × (receiving v ports b l .result .len ≡ 0)
   unfolding receiving
-  kept h = kept-by (ltb (length (l .reply)) 32) (not (isRight (l .memory))) (not (sound b)) (answered (hearing v ports b (l .memory)) (l .reply)) refl h
+  kept h = kept-by (ltb (length (l .reply)) 32) (storeFits (l .memory)) (sound b) (tableFits (l .memory)) hears refl h
 
 -- ---- a clock call: refused, standing, or the engine's
 
 module _ (b : Board) (mem : Memory) where
-  abbrev engineCall : Ticked
-  engineCall = wentOn b (ticked pulseOf (fetchOf (b .engine .held) (mem .store)) (b .engine))
+  abbrev pub engineCall : Ticked
+  engineCall = wentOn b (ticked pulseOf (fetchOf (b .engine .held) mem) (b .engine))
 
-  -- a property of a clock call by its four cases
-  pub by-call : (P : Ticked → Type 0) → P (clocked 102 b answer.Nothing) → P (clocked 103 b answer.Nothing) → P (clocked 0 b answer.Nothing)
-      → (sound b ≡ true → b .standing ≡ false → P engineCall) → P (clocking b mem)
+  abbrev nothing : ℕ → Ticked
+  nothing n = clocked n b answer.Nothing
+
+  abbrev pub triedBy : Bool → Bool → Bool → Bool → Ticked
+  triedBy x y w z = pick (not x) (nothing 102) (pick (not y) (nothing 103) (pick (not w) (nothing 104) (pick z (nothing 0) engineCall)))
+
+  -- a property of a clock call: it answers nothing, refused or standing, or the engine makes it
+  pub by-call : (P : Ticked → Type 0) → ((n : ℕ) → P (clocked n b answer.Nothing)) → (sound b ≡ true → b .standing ≡ false → P engineCall)
+      → P (clocking b mem)
   unfolding clocking
-  by-call P p2 p3 p0 p = by (not (isRight mem)) (sound b) (b .standing) refl refl
+  by-call P n p = by (storeFits mem) (sound b) (tableFits mem) (b .standing) refl refl
     where
-      by : (x y z : Bool) → sound b ≡ y → b .standing ≡ z
-          → P (pick x (clocked 102 b answer.Nothing) (pick (not y) (clocked 103 b answer.Nothing) (pick z (clocked 0 b answer.Nothing) engineCall)))
-      by true y z e f = p2
-      by false false z e f = p3
-      by false true true e f = p0
-      by false true false e f = p e f
+      by : (x y w z : Bool) → sound b ≡ y → b .standing ≡ z → P (triedBy x y w z)
+      by false y w z e f = n 102
+      by true false w z e f = n 103
+      by true true false z e f = n 104
+      by true true true true e f = n 0
+      by true true true false e f = p e f
 
 -- ---- lent another memory, no call changes anything
 
@@ -126,15 +134,16 @@ elsewhere-byte v ports b l n = by (eqb (receiving v ports b l .result .refusal) 
     by true q = absurd (n (calm-memory v ports b l (eqb-true (receiving v ports b l .result .refusal) 0 q)))
     by false q = kept v ports b l (eqb-false (receiving v ports b l .result .refusal) 0 q) .0
 
-pub elsewhere-call : (b : Board) (mem : Memory) → (RightMemory mem → ⊥) → clocking b mem ≡ clocked 102 b answer.Nothing
+-- it is refused 102, 103 or 104
+pub elsewhere-call : (b : Board) (mem : Memory) → (RightMemory mem → ⊥) → (n : ℕ) × (clocking b mem ≡ clocked n b answer.Nothing)
 unfolding clocking
-elsewhere-call b mem n = by (isRight mem) refl
+elsewhere-call b mem n = by (storeFits mem) (sound b) (tableFits mem) refl refl
   where
-    by : (x : Bool) → isRight mem ≡ x
-        → pick (not x) (clocked 102 b answer.Nothing)
-        (pick (not (sound b)) (clocked 103 b answer.Nothing) (pick (b .standing) (clocked 0 b answer.Nothing) (engineCall b mem))) ≡ clocked 102 b answer.Nothing
-    by true q = absurd (n (is-right mem q))
-    by false q = refl
+    by : (x y w : Bool) → storeFits mem ≡ x → tableFits mem ≡ w → (k : ℕ) × (triedBy b mem x y w (b .standing) ≡ clocked k b answer.Nothing)
+    by false y w p q = (102, refl)
+    by true false w p q = (103, refl)
+    by true true false p q = (104, refl)
+    by true true true p q = absurd (n (fits-right mem p q))
 
 -- ---- RefusedCall
 
@@ -146,7 +155,7 @@ ticked-refused : (mem : Memory) (s : Board) → (clocking s mem .refusal ≡ 0 �
     → (clocking s mem .board ≡ s) × (paper (clocking s mem .answer) ≡ says 5 [])
 ticked-refused mem s =
     by-call s mem (λ (t : Ticked). (t .refusal ≡ 0 → ⊥) → (t .board ≡ s) × (paper (t .answer) ≡ says 5 []))
-    (λ h. (refl, refl)) (λ h. (refl, refl)) (λ h. (refl, refl)) (λ p q h. absurd (h refl))
+    (λ n h. (refl, refl)) (λ p q h. absurd (h refl))
 
 module _ (store text : List ℕ) (s : Board) where
   -- where it is refused, no text
@@ -193,11 +202,11 @@ rest-job false false false false e h = h
 pub keeps-quiet : Quiet ours
 unfolding ticked
 keeps-quiet mem s h =
-    by-call s mem (λ (t : Ticked). (t .board ≡ s) × (paper (t .answer) ≡ says 5 [])) (refl, refl) (refl, refl) (refl, refl)
+    by-call s mem (λ (t : Ticked). (t .board ≡ s) × (paper (t .answer) ≡ says 5 [])) (λ n. (refl, refl))
     (λ p q.
     let j = s .engine .run .job in
     let r = rest-job (s .standing) (isIdle j) (isStoring j) (isWaiting j) q h in
-    let e = tick-quiet pulseOf (fetchOf (s .engine .held) (mem .store)) (s .engine) j r in
+    let e = tick-quiet pulseOf (fetchOf (s .engine .held) mem) (s .engine) j r in
     (ap (λ (t : Told). board (t .engine) (s .standing) (s .line)) e, ap (λ (t : Told). paper (t .answer)) e))
 
 -- ---- Counted

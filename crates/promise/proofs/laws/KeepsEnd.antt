@@ -124,4 +124,4 @@ stored-then-listed es ports l text other host e h z b w n′ b′ =
     let s : sound (receiving 13 ports here l .result .board) ≡ true =
     rw (out-board 13 ports l here h) (hearing-sound 13 ports here (l .memory) (always-written es .0)) in
     listed-again (receiving 13 ports here l .result .board) (receiving 13 ports here l .after .memory .store) text other host s
-    (ap (λ (m : Memory). length (m .store)) (x .1) ∙ calm-memory 13 ports here l h) (rw (x .1) b) (keeps-end-accepts es ports l e h z) w n′ b′
+    (ap (λ (m : Memory). length (m .store)) (x .1) ∙ calm-memory 13 ports here l h .0) (rw (x .1) b) (keeps-end-accepts es ports l e h z) w n′ b′

@@ -93,7 +93,7 @@ module _ (a : Axis) (b : Board) (ports : List ℕ) (mem : Memory) where
   record-at : (r : Record) → At (b .engine .at) (recordSaid r b mem)
   record-at r =
       pick-at (eqb (recordReply (b .engine .held) r mem) 48) (b .engine .at)
-      (said (board (withHeld (b .engine) (storeOf (b .engine .held) r (mem .store) .kept .held)) (b .standing) noLine) (48 ∷ []) (storedIn (b .engine .held) r mem))
+      (said (board (withHeld (b .engine) (storeOf (b .engine .held) r mem .kept .held)) (b .standing) noLine) (48 ∷ []) (storedIn (b .engine .held) r mem))
       (said (lineDone b) (recordReply (b .engine .held) r mem ∷ []) mem) refl refl
 
   end-at : At (b .engine .at) (endSaid b mem)

@@ -16,7 +16,7 @@ use Rattle.motion.specs.Next.{leftOf}
 use Rattle.motion.specs.Plan.{asked, planOf}
 use Rattle.record.specs.declared.Held.{Held}
 use Rattle.record.specs.declared.Record.{Record}
-use Rattle.record.specs.Memory.{Memory, memory}
+use Rattle.record.specs.Memory.{Memory}
 use Rattle.record.specs.Keep.{storeOf}
 use Rattle.program.specs.Program.{verdictOf, isSound}
 use Rattle.line.specs.declared.Letter.{Letter}
@@ -43,7 +43,7 @@ use Rattle.promise.specs.Demands.{isIdle, isWaiting, idles, stores, isNi
 
 -- the memory once a record is stored in it
 abbrev pub storedIn : Held → Record → Memory → Memory
-storedIn h r mem = memory (storeOf h r (mem .store) .bytes)
+storedIn h r mem = storeOf h r mem .memory
 
 -- ---- what a return comes to
 
@@ -196,7 +196,7 @@ module _ (b : Board) (mem : Memory) (q : endLine b ≡ isNine (textOf (b .line))
     where
       by : (z : Bool) → eqb (recordReply (b .engine .held) r mem) 48 ≡ z
           → Came b mem (pick z
-          (said (board (withHeld (b .engine) (storeOf (b .engine .held) r (mem .store) .kept .held)) (b .standing) noLine) (48 ∷ []) (storedIn (b .engine .held) r mem))
+          (said (board (withHeld (b .engine) (storeOf (b .engine .held) r mem .kept .held)) (b .standing) noLine) (48 ∷ []) (storedIn (b .engine .held) r mem))
           (said (lineDone b) (recordReply (b .engine .held) r mem ∷ []) mem))
       by true e = zeroed [] refl refl
       by false e = refused (recordReply (b .engine .held) r mem) (eqb-false _ 48 e) (q ∙ n) refl

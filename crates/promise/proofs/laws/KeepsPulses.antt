@@ -27,7 +27,7 @@ use Rattle.record.specs.Fault.{isMovement, isAbsolute}
 use Rattle.record.specs.Bytes.{Fetch}
 use Rattle.record.specs.Bytes.Fetch.{Got, End, Wrong}
 use Rattle.record.specs.Memory.{Memory}
-use Rattle.record.specs.Places.{fetchOf}
+use Rattle.record.specs.Table.{fetchOf}
 use Rattle.program.specs.declared.Going.{Going}
 use Rattle.program.specs.declared.Going.the-variants as going
 use Rattle.program.specs.declared.Way.{Way}
@@ -164,7 +164,7 @@ pub clock-adds : (a : Axis) (b : Board) (mem : Memory) → position a (clocking 
 unfolding ticked adds sound
 clock-adds a b mem =
     let z : position a b ≡ position a b +ℤ pos 0 = sym (+ℤ-idr (position a b)) in
-    by-call b mem (λ (t : Ticked). position a (t .board) ≡ position a b +ℤ adds a (paper (t .answer))) z z z
+    by-call b mem (λ (t : Ticked). position a (t .board) ≡ position a b +ℤ adds a (paper (t .answer))) (λ n. z)
     (λ h s.
     let g = and-left (soundOf (b .engine)) (leb (b .line .len) 80) h in
-    sum-ticked a (b .engine) (fetchOf (b .engine .held) (mem .store)) (b .engine .run .job) (sound-at (b .engine) g) (sound-job (b .engine) g))
+    sum-ticked a (b .engine) (fetchOf (b .engine .held) mem) (b .engine .run .job) (sound-at (b .engine) g) (sound-job (b .engine) g))

@@ -8,7 +8,7 @@ use borrow.Author.Tests.{lt-ltb, ne-eqb}
 use lib.ListN.{length, length-append}
 use Rattle.count.proofs.laws.Words.{pad-put}
 use Rattle.count.specs.Words.{pad}
-use Rattle.record.specs.Memory.{Memory}
+use Rattle.record.specs.Memory.{Memory, RightMemory}
 use Rattle.engine.specs.declared.Engine.{Engine}
 use Rattle.engine.specs.Sound.{soundOf}
 use Rattle.engine.specs.Kinds.Ear.{gathers}
@@ -17,7 +17,7 @@ use Rattle.board.specs.declared.Board.{Board}
 use Rattle.board.specs.State.{board, noLine, gathered, said, sound}
 use Rattle.board.specs.Receive.{earBy, earOf, hearing}
 use Rattle.board.proofs.laws.Fair.{line-sound}
-use Rattle.promise.specs.Machine.{RightMemory, ours}
+use Rattle.promise.specs.Machine.{ours}
 use Rattle.promise.specs.Demands.{ticks, Host, zeroAtReturns, Sent, sent}
 use Rattle.promise.specs.Steps.{Each}
 use Rattle.promise.specs.Spaces.{Gathers}

@@ -11,7 +11,7 @@ use lib.ListN.{length, length-set, length-append}
 use lib.Seq.{take-suc-set}
 use Rattle.count.specs.Pick.{pick}
 use Rattle.count.proofs.laws.Truth.{and-left, and-right, never}
-use Rattle.record.specs.Memory.{Memory}
+use Rattle.record.specs.Memory.{Memory, RightMemory}
 use Rattle.line.specs.declared.Code.{Code}
 use Rattle.line.specs.declared.Code.the-variants as code
 use Rattle.line.specs.declared.Stored.{Stored}
@@ -31,7 +31,7 @@ use Rattle.board.specs.Direct.{directSaid}
 use Rattle.board.specs.Storing.{storedBy, storedSaid}
 use Rattle.board.specs.Receive.{earBy, earOf, isStoring, returned, gathering, ordinary, hearing}
 use Rattle.board.proofs.laws.Hears.{sound-engine}
-use Rattle.promise.specs.Machine.{RightMemory, ours}
+use Rattle.promise.specs.Machine.{ours}
 use Rattle.promise.specs.Demands.{isIdle, idles, stores, ticks, Host, Sent, after, sent}
 use Rattle.promise.specs.Steps.{Each}
 use Rattle.promise.specs.Spaces.{Gathers, IsLine, NoneBegun, Between, no-calls, at-rest, silence, sending, SameOutcome, SpacesChangeNothing}

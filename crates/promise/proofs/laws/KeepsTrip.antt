@@ -5,14 +5,14 @@ use mathlib.Core.Bool.{Bool, true, false}
 use mathlib.Core.List.{List, [], _∷_, _++_, append-assoc, append-nil}
 use native.Mathlib.Omega.{arith}
 use borrow.Author.Tests.{le-ltb, le-leb}
-use lib.ListN.{length, take, drop, length-append}
+use lib.ListN.{length, take, drop, length-append, length-set}
 use lib.Seq.{length-take-le, take-append-seam}
 use Rattle.count.specs.Pick.{pick}
 use Rattle.motion.specs.Sound.{counted}
 use Rattle.record.specs.declared.Held.{Held}
 use Rattle.record.specs.declared.Record.{Record}
 use Rattle.record.specs.Bytes.{encode, numbersOf}
-use Rattle.record.specs.Memory.{Memory}
+use Rattle.record.specs.Memory.{Memory, RightMemory}
 use Rattle.record.specs.Places.{recordsFrom, recordsOf, encodeAll}
 use Rattle.record.specs.Places.Records.{are}
 use Rattle.record.specs.Keep.{longer, hasRoom, storeOf}
@@ -37,7 +37,7 @@ use Rattle.board.specs.Storing.{recordReply, recordSaid, namedFault, storedSaid
 use Rattle.board.specs.Receive.{earOf, returned, gathering, hearing}
 use Rattle.board.specs.Calls.{fresh, listing}
 use Rattle.board.proofs.laws.Hears.{sound-engine}
-use Rattle.promise.specs.Machine.{RightMemory, ours, afterAll}
+use Rattle.promise.specs.Machine.{ours, afterAll}
 use Rattle.promise.specs.Demands.{idles, Host, storingText, sent, Restored, ListedAgain, RoundTrip}
 use Rattle.promise.proofs.laws.KeepsLines.{storedIn}
 use Rattle.promise.proofs.laws.KeepsSending.{with-line, lineOf, Ends, line-all}
@@ -66,13 +66,13 @@ module _ (axes : ℕ) (h : Held) (mem : Memory) where
   stored-here t ports n = ap (λ (s : List ℕ). storedSaid (storedOf s) (here t) mem) (take-pad 80 t n)
 
   -- a right record with room is answered 0
-  rows-none : (r : Record) → Faultless (h .axes) (r .code) (r .count) (r .words) → storeOf h r (mem .store) .kept .stored ≡ true → recordReply h r mem ≡ 48
+  rows-none : (r : Record) → Faultless (h .axes) (r .code) (r .count) (r .words) → storeOf h r mem .kept .stored ≡ true → recordReply h r mem ≡ 48
   unfolding recordReply first
   rows-none r f s = rw (f .count-so, f .axes-so, f .ranges-so, f .speeds-so, s)
 
-  record-said : (r : Record) (ports : List ℕ) (g : RightOne (h .axes) r) → length (line (h .axes) r g) ≤ 80 → storeOf h r (mem .store) .kept .stored ≡ true
+  record-said : (r : Record) (ports : List ℕ) (g : RightOne (h .axes) r) → length (line (h .axes) r g) ≤ 80 → storeOf h r mem .kept .stored ≡ true
       → hearing 13 ports (here (line (h .axes) r g)) mem
-      ≡ said (board (storingWith axes (storeOf h r (mem .store) .kept .held)) false noLine) (48 ∷ []) (storedIn h r mem)
+      ≡ said (board (storingWith axes (storeOf h r mem .kept .held)) false noLine) (48 ∷ []) (storedIn h r mem)
   unfolding storedSaid
   record-said r ports g n s =
       let t = line (h .axes) r g in
@@ -87,8 +87,8 @@ module _ (axes : ℕ) (h : Held) (mem : Memory) where
       ∙ ap (λ (x : Bool). pick x (said (board (restingWith axes h) false noLine) (48 ∷ []) mem) (said (board (restingWith axes nothingHeld) false noLine) (71 ∷ namedFault (verdictOf h (mem .store))) mem)) s
 
   -- room for one record more
-  room-stored : (r : Record) → hasRoom h (length (encode r)) (length (mem .store)) ≡ true
-      → (storeOf h r (mem .store) .kept .stored ≡ true) × (storeOf h r (mem .store) .kept .held ≡ longer h (length (encode r)))
+  room-stored : (r : Record) → hasRoom h (length (encode r)) (length (mem .store)) (length (mem .table)) ≡ true
+      → (storeOf h r mem .kept .stored ≡ true) × (storeOf h r mem .kept .held ≡ longer h (length (encode r)))
   unfolding storeOf
   room-stored r p = (rw p, rw p)
 
@@ -121,9 +121,9 @@ unfolding listText lineText
 text-so r rest = append-assoc (r .code ∷ numbersText (numbersOf r)) (13 ∷ []) (listText rest)
 
 has-room : (axes : ℕ) (done : List Record) (r : Record) (mem : Memory) → RightMemory mem → length done + 1 ≤ 1000
-    → length (encodeAll done) + length (encode r) ≤ 16384 → hasRoom (heldBy axes done) (length (encode r)) (length (mem .store)) ≡ true
+    → length (encodeAll done) + length (encode r) ≤ 16384 → hasRoom (heldBy axes done) (length (encode r)) (length (mem .store)) (length (mem .table)) ≡ true
 unfolding hasRoom
-has-room axes done r mem n m u = rw (n, le-leb (length done + 1) 1000 m, le-leb (length (encodeAll done) + length (encode r)) 16384 u)
+has-room axes done r mem n m u = rw (n .0, n .1, le-leb (length done + 1) 1000 m, le-leb (length (encodeAll done) + length (encode r)) 16384 u)
 
 -- ---- all records and the end line
 
@@ -162,17 +162,18 @@ module _ (host : Host) (axes : ℕ) (k : axesKnown axes ≡ true) (l : List Reco
       ap (λ (x : List Record). length (encodeAll x)) (sym e) ∙ encode-more done rest r in
       let many : length l ≡ length done + suc (length rest) = ap length (sym e) ∙ length-append done (r ∷ rest) in
       let c = room-stored axes h mem r (has-room axes done r mem n (omega arith) (omega arith)) in
-      let a = stored-list h r (mem .store) done b q (g .0) (c .0) in
-      let w : storeOf h r (mem .store) .kept .held ≡ heldBy axes (done ++ r ∷ []) = c .1 ∙ held-behind axes done r in
+      let a = stored-list h r mem done b q (g .0) (c .0) in
+      let w : storeOf h r mem .kept .held ≡ heldBy axes (done ++ r ∷ []) = c .1 ∙ held-behind axes done r in
+      let m : RightMemory (storedIn h r mem) = (a .long ∙ n .0, ap length (a .entry) ∙ length-set (mem .table) (h .records) (h .used) ∙ n .1) in
       let f : (done ++ r ∷ []) ++ rest ≡ l = append-assoc done (r ∷ []) rest ∙ e in
       let z : recordsOf (heldBy axes (done ++ r ∷ [])) (storedIn h r mem .store) ≡ are (done ++ r ∷ []) = rw (← w) (a .list) in
       let next : (j : ℕ) → Ends host Kept-all (listText rest)
-      (sent ours host j (listText rest) (board (storingWith axes (storeOf h r (mem .store) .kept .held)) false noLine) (storedIn h r mem)) =
-      λ j. rw w (records-all rest (done ++ r ∷ []) (storedIn h r mem) j f (g .1) z (a .below) (a .long ∙ n)) in
+      (sent ours host j (listText rest) (board (storingWith axes (storeOf h r mem .kept .held)) false noLine) (storedIn h r mem)) =
+      λ j. rw w (records-all rest (done ++ r ∷ []) (storedIn h r mem) j f (g .1) z (a .below) m) in
       subst (λ (x : List ℕ). Ends host Kept-all x (sent ours host i x (with-line (storingWith axes h) noLine) mem))
       (sym (text-so r rest))
       (line-all host Kept-all (storingWith axes h) mem refl refl (storing-sound axes h k refl (omega arith) (omega arith)) n t i (listText rest)
-      (board (storingWith axes (storeOf h r (mem .store) .kept .held)) false noLine) (storedIn h r mem) (line-plain axes r (g .0)) (line-short axes r (g .0))
+      (board (storingWith axes (storeOf h r mem .kept .held)) false noLine) (storedIn h r mem) (line-plain axes r (g .0)) (line-short axes r (g .0))
       (λ ports. record-said axes h mem r ports (g .0) (line-short axes r (g .0)) (c .0)) next)
 
 -- ---- RoundTrip

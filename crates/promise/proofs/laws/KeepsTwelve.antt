@@ -16,7 +16,8 @@ use Rattle.line.specs.Numbers.{digitsBehind, digitsOf, numberOf, parted, itemsO
 use Rattle.record.specs.Bytes.{bytes4, numBytes, encode, wordAt, wordsOf, front}
 use Rattle.record.specs.Fault.{isCode, countRight, axesRight, loopRight, rangesRight, speedsRight, faultOf}
 use Rattle.record.specs.Keep.{hasRoom, storeOf}
-use Rattle.record.specs.Places.{recordAt, spotFrom, spotOf, fetchOf, recordsFrom, recordsOf}
+use Rattle.record.specs.Places.{recordAt, recordsFrom, recordsOf}
+use Rattle.record.specs.Table.{spotOf, fetchOf}
 use Rattle.program.specs.Check.{holds, share, around, crosses, early, overlaps, holders, outside, strays, letter, checked}
 use Rattle.program.specs.Onward.{inside, again, opens, looped, aimed, onwardOf}
 use Rattle.program.specs.Program.{checkOf, verdictOf}
@@ -37,7 +38,7 @@ use Rattle.promise.specs.Twelve.{History, from, standsOn, standsAt, send
 
 -- (1) to (3), which run
 ran : One × Two × Three
-unfolding sends ticks within in24 signed word placed added inSpeed inOffset inBack inLoop inDelay inCharacter inSwitch inPort inByte inZero rightCount rightZ2 rightDistances rightSpeeds hexDigit hexes twos24 report twoHex decimal digits shown decimals fourDigits fromOf toOf speedAt skipped nextBy pulseOf afterOf leftOf pulses steps signAt countAfter goal goalX goalY goalZ1 goalZ2 firstSpeed laterSpeed route goingTo planOf counted inRange underWay behind letterOf afterAddress directOf codeOf storedOf digitsBehind digitsOf numberOf parted itemsOf numbersOf bytes4 numBytes encode wordAt wordsOf front isCode countRight axesRight loopRight rangesRight speedsRight faultOf hasRoom storeOf recordAt spotFrom spotOf fetchOf recordsFrom recordsOf holds share around crosses early overlaps holders outside strays letter checked inside again opens looped aimed onwardOf checkOf verdictOf soundOf mixed resetOf heard beginOf performed ticked runsOf receiving clocking first replyOf directSaid earOf returned gathering stopped broken resetSaid hearing gathered sound recordReply storedSaid runsNow course pulseText positionsText walkedFrom walked
+unfolding sends ticks within in24 signed word placed added inSpeed inOffset inBack inLoop inDelay inCharacter inSwitch inPort inByte inZero rightCount rightZ2 rightDistances rightSpeeds hexDigit hexes twos24 report twoHex decimal digits shown decimals fourDigits fromOf toOf speedAt skipped nextBy pulseOf afterOf leftOf pulses steps signAt countAfter goal goalX goalY goalZ1 goalZ2 firstSpeed laterSpeed route goingTo planOf counted inRange underWay behind letterOf afterAddress directOf codeOf storedOf digitsBehind digitsOf numberOf parted itemsOf numbersOf bytes4 numBytes encode wordAt wordsOf front isCode countRight axesRight loopRight rangesRight speedsRight faultOf hasRoom storeOf recordAt spotOf fetchOf recordsFrom recordsOf holds share around crosses early overlaps holders outside strays letter checked inside again opens looped aimed onwardOf checkOf verdictOf soundOf mixed resetOf heard beginOf performed ticked runsOf receiving clocking first replyOf directSaid earOf returned gathering stopped broken resetSaid hearing gathered sound recordReply storedSaid runsNow course pulseText positionsText walkedFrom walked
 ran = (refl, refl, (refl, refl, refl, refl))
 
 -- (12): the board at 8,388,607 and its line
@@ -47,7 +48,7 @@ last = sends (codes "@0A1,600\r") (from (standsAt (pos 8388607)))
 -- (4) to (8) and (12), lines and their replies
 replied : Four × Five × Six × Seven × Eight
     × ((last .replies ≡ codes "9") × (last .board ≡ standsOn 16777215) × (last .memory ≡ noMemory) × (last .refusal ≡ 0))
-unfolding sends ticks within in24 signed word placed added inSpeed inOffset inBack inLoop inDelay inCharacter inSwitch inPort inByte inZero rightCount rightZ2 rightDistances rightSpeeds hexDigit hexes twos24 report twoHex decimal digits shown decimals fourDigits fromOf toOf speedAt skipped nextBy pulseOf afterOf leftOf pulses steps signAt countAfter goal goalX goalY goalZ1 goalZ2 firstSpeed laterSpeed route goingTo planOf counted inRange underWay behind letterOf afterAddress directOf codeOf storedOf digitsBehind digitsOf numberOf parted itemsOf numbersOf bytes4 numBytes encode wordAt wordsOf front isCode countRight axesRight loopRight rangesRight speedsRight faultOf hasRoom storeOf recordAt spotFrom spotOf fetchOf recordsFrom recordsOf holds share around crosses early overlaps holders outside strays letter checked inside again opens looped aimed onwardOf checkOf verdictOf soundOf mixed resetOf heard beginOf performed ticked runsOf receiving clocking first replyOf directSaid earOf returned gathering stopped broken resetSaid hearing gathered sound recordReply storedSaid runsNow course pulseText positionsText walkedFrom walked
+unfolding sends ticks within in24 signed word placed added inSpeed inOffset inBack inLoop inDelay inCharacter inSwitch inPort inByte inZero rightCount rightZ2 rightDistances rightSpeeds hexDigit hexes twos24 report twoHex decimal digits shown decimals fourDigits fromOf toOf speedAt skipped nextBy pulseOf afterOf leftOf pulses steps signAt countAfter goal goalX goalY goalZ1 goalZ2 firstSpeed laterSpeed route goingTo planOf counted inRange underWay behind letterOf afterAddress directOf codeOf storedOf digitsBehind digitsOf numberOf parted itemsOf numbersOf bytes4 numBytes encode wordAt wordsOf front isCode countRight axesRight loopRight rangesRight speedsRight faultOf hasRoom storeOf recordAt spotOf fetchOf recordsFrom recordsOf holds share around crosses early overlaps holders outside strays letter checked inside again opens looped aimed onwardOf checkOf verdictOf soundOf mixed resetOf heard beginOf performed ticked runsOf receiving clocking first replyOf directSaid earOf returned gathering stopped broken resetSaid hearing gathered sound recordReply storedSaid runsNow course pulseText positionsText walkedFrom walked
 replied = ((refl, refl, refl), (refl, refl), (refl, refl), refl, refl, (refl, refl, refl, refl))
 
 count-so : 16777215 ≡ count (pos 8388607)

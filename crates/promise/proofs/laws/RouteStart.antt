@@ -11,7 +11,7 @@ use Rattle.count.proofs.laws.Truth.{never, and-parts}
 use Rattle.line.specs.declared.Letter.{Letter}
 use Rattle.line.specs.declared.Letter.the-variants as letter
 use Rattle.line.specs.Lines.{letterPaper, directOf, storedOf}
-use Rattle.record.specs.Memory.{Memory}
+use Rattle.record.specs.Memory.{Memory, RightMemory}
 use Rattle.engine.specs.declared.Engine.{Engine}
 use Rattle.engine.specs.declared.Job.{Job}
 use Rattle.engine.specs.declared.Job.the-variants as job
@@ -26,7 +26,7 @@ use Rattle.board.specs.Receive.{earBy, earOf, isStoring, returned, gathering, o
 use Rattle.engine.specs.Kinds.Ear.{gathers}
 use Rattle.board.specs.Calls.{Lent, Outcome, receiving}
 use Rattle.board.proofs.laws.Laws.{hearing-sound}
-use Rattle.promise.specs.Machine.{RightMemory, ours, afterAll}
+use Rattle.promise.specs.Machine.{ours, afterAll}
 use Rattle.promise.specs.Demands.{isIdle}
 use Rattle.promise.specs.Route.{Started, StartRoutes}
 use Rattle.promise.proofs.laws.KeepsCalls.{calm, calm-memory, calm-sound}

@@ -12,9 +12,10 @@ use Rattle.count.proofs.laws.Truth.{never}
 use Rattle.motion.specs.Next.{pulseOf}
 use Rattle.record.specs.declared.Held.{Held}
 use Rattle.record.specs.declared.Record.{Record}
-use Rattle.record.specs.Memory.{Memory}
-use Rattle.record.specs.Places.{recordsOf, fetchOf}
+use Rattle.record.specs.Memory.{Memory, RightMemory}
+use Rattle.record.specs.Places.{recordsOf}
 use Rattle.record.specs.Places.Records.{are}
+use Rattle.record.specs.Table.{fetchOf, TableTrue}
 use Rattle.program.proofs.laws.Accepting.{records-count, accepted-list}
 use Rattle.engine.specs.declared.Answer.the-variants as answer
 use Rattle.engine.specs.declared.Run.{Run}
@@ -29,17 +30,17 @@ use Rattle.board.specs.Receive.{hearing}
 use Rattle.board.specs.Calls.{lent, Outcome, receiving, clocked, wentOn, clocking}
 use Rattle.board.proofs.laws.Hears.{sound-line}
 use Rattle.board.proofs.laws.Laws.{hearing-sound, clocking-sound}
-use Rattle.promise.specs.Machine.{RightMemory, ours}
+use Rattle.promise.specs.Machine.{ours}
 use Rattle.promise.specs.Steps.{Each}
 use Rattle.promise.specs.Stop.{Step, Lending, own, other, receive, call, Elsewhere, restsBy, rests, ahead}
 use Rattle.promise.specs.Route.{Alone, comesBy, visitOf, visits, Routes}
 use Rattle.promise.proofs.laws.StopBoard.{left}
-use Rattle.promise.proofs.laws.KeepsCalls.{right-is, calm, kept, elsewhere-byte, elsewhere-call}
+use Rattle.promise.proofs.laws.KeepsCalls.{right-store, right-table, calm, kept, elsewhere-byte, elsewhere-call}
 use Rattle.promise.proofs.laws.RouteCall.{Goes, GoesBy, goes-none, call-goes}
 use Rattle.promise.proofs.laws.RouteBytes.{At, Follows, same, hears}
 use Rattle.promise.proofs.laws.RouteLed.{path-route}
 
-module _ (l : List Record) (h : Held) (mem : Memory) (recs : recordsOf h (mem .store) ≡ are l) (size : RightMemory mem) where
+module _ (l : List Record) (h : Held) (mem : Memory) (recs : recordsOf h (mem .store) ≡ are l) (starts : TableTrue h mem) (size : RightMemory mem) where
   -- the program runs on its store, or nothing runs
   record On (q : At) : Type 0 where
     sound : sound (q .0) ≡ true
@@ -86,22 +87,22 @@ module _ (l : List Record) (h : Held) (mem : Memory) (recs : recordsOf h (mem .s
 
     call-other : (t : Memory) → Elsewhere (other t) → Leads (b, mem) (call (other t))
     call-other t a =
-        let k = ap (λ (x : Ticked). x .board) (elsewhere-call b t a) in
+        let k = ap (λ (x : Ticked). x .board) (elsewhere-call b t a .1) in
         record {
           fine = λ z. record { sound = subst (λ (x : Board). sound x ≡ true) (sym k) n; held = ap (λ (x : Board). x .engine .held) k ∙ d; memory = refl };
           goes = λ v g. subst (λ (x : Board). Goes l (x .engine) v) k g;
         }
 
     abbrev tells : Told
-    tells = ticked pulseOf (fetchOf (b .engine .held) (mem .store)) (b .engine)
+    tells = ticked pulseOf (fetchOf (b .engine .held) mem) (b .engine)
 
     called : clocking b mem ≡ pick (b .standing) (clocked 0 b answer.Nothing) (wentOn b tells)
     unfolding clocking
-    called = rw (right-is mem size, n)
+    called = rw (right-store mem size, n, right-table mem size)
 
     -- the store's part in use stays, or nothing runs any more
     told-held : restsBy (tells .engine .run .job) ≡ false → tells .engine .held ≡ h
-    told-held z = by (held-stays pulseOf (fetchOf (b .engine .held) (mem .store)) (b .engine))
+    told-held z = by (held-stays pulseOf (fetchOf (b .engine .held) mem) (b .engine))
       where
         by : (tells .engine .held ≡ b .engine .held) ⊎ (tells ≡ failed (b .engine)) → tells .engine .held ≡ h
         by (inl k) = k ∙ d
@@ -110,7 +111,7 @@ module _ (l : List Record) (h : Held) (mem : Memory) (recs : recordsOf h (mem .s
     told-goes : (v : List ℕ) → Goes l (tells .engine) v → Goes l (b .engine) (pick (comesBy (b .engine .run .job)) (b .engine .run .place ∷ []) [] ++ v)
     told-goes v g =
         call-goes l (b .engine) (ap (λ (x : Held). x .records) d ∙ sym (records-count h (mem .store) l recs)) v
-        (subst (λ (t : Told). Goes l (t .engine) v) (same-tick h (mem .store) l recs pulseOf (b .engine) d) g)
+        (subst (λ (t : Told). Goes l (t .engine) v) (same-tick h mem l recs starts pulseOf (b .engine) d) g)
 
     abbrev To : Bool → Board → Type 0
     To t x = (rests x ≡ false → x .engine .held ≡ h)
@@ -152,7 +153,7 @@ module _ (l : List Record) (h : Held) (mem : Memory) (recs : recordsOf h (mem .s
 
 -- THE VISITS OF A STARTED PROGRAM ARE A ROUTE
 pub ours-routes : Routes ours
-ours-routes h l p es start acc recs alone =
+ours-routes h l p es start acc recs starts alone =
     path-route (h .axes) l (accepted-list h (p .1 .store) l recs acc) (visits ours p es)
     (subst (λ (x : Run). GoesBy l (x .job) (x .place) (x .loops) (visits ours p es)) (start .run)
-    (follow l h (p .1) recs (start .memory) es p (λ z. record { sound = start .sound; held = start .held; memory = refl }) alone))
+    (follow l h (p .1) recs starts (start .memory) es p (λ z. record { sound = start .sound; held = start .held; memory = refl }) alone))

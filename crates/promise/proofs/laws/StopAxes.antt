@@ -96,7 +96,7 @@ module _ (ports : List ℕ) (e : Engine) (l : Line) (mem : Memory) (r : restsBy 
   stored-axed (code.Record c) d =
       let k : Record = recordOf c d in
       pick-after (eqb (recordReply (e .held) k mem) 48)
-      (said (board (withHeld e (storeOf (e .held) k (mem .store) .kept .held)) false noLine) (48 ∷ []) (storedIn (e .held) k mem))
+      (said (board (withHeld e (storeOf (e .held) k mem .kept .held)) false noLine) (48 ∷ []) (storedIn (e .held) k mem))
       (said (lineDone b) (recordReply (e .held) k mem ∷ []) mem) (λ q. still q) (λ q. still q)
   stored-axed code.End d =
       pick-after (isSound (verdictOf (e .held) (mem .store))) (said (board (ceased e) false noLine) (48 ∷ []) mem)

@@ -9,7 +9,7 @@ use Rattle.count.specs.Pick.{pick}
 use Rattle.count.proofs.laws.Truth.{never, and-left}
 use Rattle.motion.specs.Next.{pulseOf}
 use Rattle.record.specs.Memory.{Memory}
-use Rattle.record.specs.Places.{fetchOf}
+use Rattle.record.specs.Table.{fetchOf}
 use Rattle.engine.specs.declared.Job.{Job}
 use Rattle.engine.specs.declared.Job.the-variants as job
 use Rattle.engine.specs.declared.Engine.{Engine}
@@ -145,9 +145,9 @@ byte-runs v ports b mem h =
 pub clock-runs : (b : Board) (mem : Memory) → Runs b → Runs (clocking b mem .board)
 clock-runs b mem h = record {
   fit = one (b, mem) (call own) (h .fit) tt .1;
-  axes = by-call b mem (λ (t : Ticked). Axed (t .board .engine)) (h .axes) (h .axes) (h .axes)
-      (λ s q. tick-axed pulseOf (fetchOf (b .engine .held) (mem .store)) (b .engine) (h .axes));
-  stands = by-call b mem (λ (t : Ticked). t .board .standing ≡ true → rests (t .board) ≡ false) (h .stands) (h .stands) (h .stands)
+  axes = by-call b mem (λ (t : Ticked). Axed (t .board .engine)) (λ n. h .axes)
+      (λ s q. tick-axed pulseOf (fetchOf (b .engine .held) mem) (b .engine) (h .axes));
+  stands = by-call b mem (λ (t : Ticked). t .board .standing ≡ true → rests (t .board) ≡ false) (λ n. h .stands)
       (λ s q p. never (sym q ∙ p));
 }
 

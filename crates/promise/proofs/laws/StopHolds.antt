@@ -12,7 +12,7 @@ use Rattle.line.specs.declared.Letter.{Letter}
 use Rattle.line.specs.declared.Letter.the-variants as letter
 use Rattle.line.specs.declared.Direct.{Direct}
 use Rattle.line.specs.Lines.{letterPaper, directOf, afterAddress, letterOf, behind, storedOf}
-use Rattle.record.specs.Memory.{Memory}
+use Rattle.record.specs.Memory.{Memory, RightMemory}
 use Rattle.engine.specs.declared.Job.{Job}
 use Rattle.engine.specs.declared.Job.the-variants as job
 use Rattle.engine.specs.declared.Engine.{Engine}
@@ -24,7 +24,7 @@ use Rattle.board.specs.Direct.{replyOf, first, directSaid}
 use Rattle.board.specs.Storing.{storedSaid}
 use Rattle.board.specs.Receive.{holdsBy, earOf, isStoring, stopped, hearing, returned, gathering}
 use Rattle.board.specs.Calls.{lent, Outcome, answered, receiving}
-use Rattle.promise.specs.Machine.{RightMemory, ours}
+use Rattle.promise.specs.Machine.{ours}
 use Rattle.promise.specs.Steps.{reached}
 use Rattle.promise.specs.Demands.{isWaiting}
 use Rattle.promise.specs.Stop.{receive, own, restsBy, delaysBy, stoppable, ahead, last, Called, Comes, heardAt, StopHolds, StopElseDoesNothing, StartGoesOn, startLine}

@@ -78,7 +78,7 @@ module _ (ports : List ℕ) (e : Engine) (l : Line) (mem : Memory) where
   quiet-record r = by (eqb (recordReply (e .held) r mem) 48)
     where
       yes′ : Said
-      yes′ = said (board (withHeld e (storeOf (e .held) r (mem .store) .kept .held)) false noLine) (48 ∷ []) (storedIn (e .held) r mem)
+      yes′ = said (board (withHeld e (storeOf (e .held) r mem .kept .held)) false noLine) (48 ∷ []) (storedIn (e .held) r mem)
 
       no′ : Said
       no′ = said (lineDone b) (recordReply (e .held) r mem ∷ []) mem

@@ -3,8 +3,8 @@
 use mathlib.Core.Bool.{Bool, true, false, not, _&&_, _||_, true≢false}
 use mathlib.Core.Path.{_≡_, refl, sym, _∙_, ap, subst}
 use borrow.Author.Tests.{not-true}
-use lib.ListN.{length}
 use Rattle.count.proofs.laws.Truth.{never, and-left, and-right}
+use Rattle.record.specs.Memory.{RightMemory}
 use Rattle.engine.specs.declared.Job.{Job}
 use Rattle.engine.specs.declared.Job.the-variants as job
 use Rattle.engine.specs.Tick.{runsBy, runsOf}
@@ -12,7 +12,7 @@ use Rattle.board.specs.declared.Board.{Board}
 use Rattle.board.specs.State.{board, noLine, sound}
 use Rattle.board.specs.Calls.{Outcome, fresh}
 use Rattle.board.proofs.laws.Hears.{sound-engine}
-use Rattle.board.proofs.laws.Laws.{hearing-sound, clocking-sound, store-length}
+use Rattle.board.proofs.laws.Laws.{hearing-sound, clocking-sound, memory-right}
 use Rattle.course.specs.Run.{runsNow}
 use Rattle.promise.specs.Machine.{ours, byte, next, afterAll}
 use Rattle.promise.specs.Demands.{isIdle, idles, Silent, begun, onward, dropped, taken}
@@ -60,8 +60,8 @@ ours-begins es ports l i r n =
       standing = g .1;
       line = clear-line b′ (h .fit) (g .0) (g .1);
       memory =
-          ap (λ (o : Outcome). length (o .after .memory .store)) (out-so 13 ports l b r) ∙ store-length 13 ports b (l .memory) (always-sound es)
-          ∙ calm-memory 13 ports b l r;
+          subst (λ (o : Outcome). RightMemory (o .after .memory)) (sym (out-so 13 ports l b r))
+          (memory-right 13 ports b (l .memory) (always-sound es) (calm-memory 13 ports b l r));
     }
 
 -- ---- StopAndStart

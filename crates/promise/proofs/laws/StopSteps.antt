@@ -10,8 +10,8 @@ use Rattle.count.specs.Pick.{pick}
 use Rattle.count.specs.Paper.{Paper}
 use Rattle.count.proofs.laws.Truth.{and-true}
 use Rattle.motion.specs.Next.{pulseOf}
-use Rattle.record.specs.Memory.{Memory}
-use Rattle.record.specs.Places.{fetchOf}
+use Rattle.record.specs.Memory.{Memory, storeFits, tableFits}
+use Rattle.record.specs.Table.{fetchOf}
 use Rattle.engine.specs.declared.Answer.the-variants as answer
 use Rattle.engine.specs.declared.Engine.{Engine}
 use Rattle.engine.specs.declared.Told.{Told}
@@ -25,11 +25,11 @@ use Rattle.board.specs.declared.Board.{Board}
 use Rattle.board.specs.declared.Ticked.{Ticked}
 use Rattle.board.specs.State.{board, noLine, sound, said}
 use Rattle.board.specs.Receive.{earBy, earOf, holdsBy, stopped, ordinary, hearing, gathering}
-use Rattle.board.specs.Calls.{lent, Outcome, refused, answered, receiving, clocked, wentOn, clocking}
+use Rattle.board.specs.Calls.{lent, Outcome, refused, answered, receiving, clocking}
 use Rattle.promise.specs.Machine.{ours}
 use Rattle.promise.specs.Demands.{isWaiting}
 use Rattle.promise.specs.Stop.{Step, receive, call, Lending, own, other, Elsewhere, rightly, restsBy, counts, takes, spoken, ahead, answerOf}
-use Rattle.promise.proofs.laws.KeepsCalls.{isRight, elsewhere-byte, elsewhere-call}
+use Rattle.promise.proofs.laws.KeepsCalls.{isRight, triedBy, elsewhere-byte, elsewhere-call}
 use Rattle.promise.proofs.laws.StopBoard.{twinBoard, Clear, Fit, clear-of, left, held-byte}
 use Rattle.promise.proofs.laws.StopQuiet.{twin-of, quiet-byte}
 
@@ -54,7 +54,7 @@ abbrev pub right : Engine → Memory → Bool
 right e mem = isRight mem && soundOf e
 
 abbrev pub toldOf : Board → Memory → Told
-toldOf b mem = ticked pulseOf (fetchOf (b .engine .held) (mem .store)) (b .engine)
+toldOf b mem = ticked pulseOf (fetchOf (b .engine .held) mem) (b .engine)
 
 abbrev pub ticks : At → At
 ticks p = (pick (p .0 .standing) (p .0) (board (toldOf (p .0) (p .1) .engine) (p .0 .standing) (p .0 .line)), p .1)
@@ -78,42 +78,43 @@ after o = (o .result .board, o .after .memory)
 pub our-byte : (v : ℕ) (ports reply : List ℕ) (p : At) → leb (p .0 .line .len) 80 ≡ true → 32 ≤ length reply →
     ahead ours p (receive v ports reply own) ≡ pick (right (p .0 .engine) (p .1)) (left (hearing v ports (p .0) (p .1))) p
 unfolding receiving sound
-our-byte v ports reply (b, mem) h n = rw (le-ltb (length reply) 32 n, h) (by (isRight mem) (soundOf (b .engine)))
+our-byte v ports reply (b, mem) h n = rw (le-ltb (length reply) 32 n, h) (by (storeFits mem) (tableFits mem) (soundOf (b .engine)))
   where
-    by : (g s : Bool) → after (pick (not g) (refused 102 b (lent reply mem)) (pick (not (s && true)) (refused 103 b (lent reply mem)) (answered (hearing v ports b mem) reply)))
-        ≡ pick (g && s) (left (hearing v ports b mem)) (b, mem)
-    by true true = refl
-    by true false = refl
-    by false s = refl
+    by : (g w s : Bool) → after (pick (not g) (refused 102 b (lent reply mem)) (pick (not (s && true)) (refused 103 b (lent reply mem))
+        (pick (not w) (refused 104 b (lent reply mem)) (answered (hearing v ports b mem) reply))))
+        ≡ pick (g && w && s) (left (hearing v ports b mem)) (b, mem)
+    by true true true = refl
+    by true false true = refl
+    by true true false = refl
+    by true false false = refl
+    by false w s = refl
 
 pub our-tick : (p : At) → leb (p .0 .line .len) 80 ≡ true →
     ahead ours p (call own) ≡ pick (right (p .0 .engine) (p .1)) (ticks p) p
 unfolding clocking sound
-our-tick (b, mem) h = rw h (by (isRight mem) (soundOf (b .engine)) (b .standing))
+our-tick (b, mem) h = rw h (by (storeFits mem) (tableFits mem) (soundOf (b .engine)) (b .standing))
   where
-    by : (g s t : Bool) → _≡_ {A = At} (
-      pick (not g) (clocked 102 b answer.Nothing)
-          (pick (not (s && true)) (clocked 103 b answer.Nothing) (pick t (clocked 0 b answer.Nothing) (wentOn b (toldOf b mem)))) .board,
-      mem,
-    )
-        (pick (g && s) (pick t b (board (toldOf b mem .engine) (b .standing) (b .line)), mem) (b, mem))
-    by true true true = refl
-    by true true false = refl
-    by true false t = refl
-    by false s t = refl
+    by : (g w s t : Bool) → _≡_ {A = At} (triedBy b mem g (s && true) w t .board, mem)
+        (pick (g && w && s) (pick t b (board (toldOf b mem .engine) (b .standing) (b .line)), mem) (b, mem))
+    by true true true true = refl
+    by true true true false = refl
+    by true false true t = refl
+    by true true false t = refl
+    by true false false t = refl
+    by false w s t = refl
 
 pub our-answer : (p : At) → leb (p .0 .line .len) 80 ≡ true →
     answerOf ours p (call own) ≡ pick (right (p .0 .engine) (p .1)) (tells p) []
 unfolding clocking sound
-our-answer (b, mem) h = rw h (by (isRight mem) (soundOf (b .engine)) (b .standing))
+our-answer (b, mem) h = rw h (by (storeFits mem) (tableFits mem) (soundOf (b .engine)) (b .standing))
   where
-    by : (g s t : Bool) → spoken (paper (pick (not g) (clocked 102 b answer.Nothing)
-        (pick (not (s && true)) (clocked 103 b answer.Nothing) (pick t (clocked 0 b answer.Nothing) (wentOn b (toldOf b mem)))) .answer))
-        ≡ pick (g && s) (spoken (paper (pick t answer.Nothing (toldOf b mem .answer)))) []
-    by true true true = refl
-    by true true false = refl
-    by true false t = refl
-    by false s t = refl
+    by : (g w s t : Bool) → spoken (paper (triedBy b mem g (s && true) w t .answer)) ≡ pick (g && w && s) (spoken (paper (pick t answer.Nothing (toldOf b mem .answer)))) []
+    by true true true true = refl
+    by true true true false = refl
+    by true false true t = refl
+    by true true false t = refl
+    by true false false t = refl
+    by false w s t = refl
 
 -- ---- a call that is refused for what is lent changes nothing
 
@@ -134,7 +135,7 @@ refused-byte v ports reply (other t) p n h = other-byte v ports reply t p n
 
 pub refused-tick : (t : Memory) (p : At) → Elsewhere (other t) → (ahead ours p (call (other t)) ≡ p) × (answerOf ours p (call (other t)) ≡ [])
 refused-tick t (b, mem) n =
-    let k = elsewhere-call b t n in
+    let k = elsewhere-call b t n .1 in
     (ap (λ (x : Ticked). (x .board, mem)) k, ap (λ (x : Ticked). spoken (paper (x .answer))) k)
 
 -- ---- one step: kept, the twin makes it too; left out, the twin stays
@@ -209,14 +210,14 @@ module _ (e : Engine) (l : Line) (mem : Memory) where
 
   tick-at : (j : Job) → Fit (board e false l) → Clear j l →
       Result (not (isWaiting j || restsBy j)) (at false)
-      (board (tickedBy pulseOf (fetchOf (e .held) (mem .store)) j e .engine) false l, mem)
-      (board (tickedBy pulseOf (fetchOf (e .held) (mem .store)) j e .engine) false l, mem)
+      (board (tickedBy pulseOf (fetchOf (e .held) mem) j e .engine) false l, mem)
+      (board (tickedBy pulseOf (fetchOf (e .held) mem) j e .engine) false l, mem)
   tick-at job.Idle f c = (refl, f)
   tick-at job.Storing f c = (refl, f)
-  tick-at (job.Direct m) f c = goes (tickedBy pulseOf (fetchOf (e .held) (mem .store)) (job.Direct m) e) f c
-  tick-at job.Ready f c = goes (tickedBy pulseOf (fetchOf (e .held) (mem .store)) job.Ready e) f c
-  tick-at (job.Moving m) f c = goes (tickedBy pulseOf (fetchOf (e .held) (mem .store)) (job.Moving m) e) f c
-  tick-at (job.Delay q) f c = goes (tickedBy pulseOf (fetchOf (e .held) (mem .store)) (job.Delay q) e) f c
+  tick-at (job.Direct m) f c = goes (tickedBy pulseOf (fetchOf (e .held) mem) (job.Direct m) e) f c
+  tick-at job.Ready f c = goes (tickedBy pulseOf (fetchOf (e .held) mem) job.Ready e) f c
+  tick-at (job.Moving m) f c = goes (tickedBy pulseOf (fetchOf (e .held) mem) (job.Moving m) e) f c
+  tick-at (job.Delay q) f c = goes (tickedBy pulseOf (fetchOf (e .held) mem) (job.Delay q) e) f c
   tick-at (job.Wait v t) f c = (refl, f)
 
   pub one-tick : (s : Bool) → Fit (board e s l) → Result (counts (board e s l)) (at s) (ticks (twin (at s))) (ticks (at s))
@@ -224,7 +225,7 @@ module _ (e : Engine) (l : Line) (mem : Memory) where
   one-tick true f = (refl, f)
   one-tick false f = tick-at (e .run .job) f (f .clear)
 
-  quiet-answer : (j : Job) → not (isWaiting j || restsBy j) ≡ false → spoken (paper (tickedBy pulseOf (fetchOf (e .held) (mem .store)) j e .answer)) ≡ []
+  quiet-answer : (j : Job) → not (isWaiting j || restsBy j) ≡ false → spoken (paper (tickedBy pulseOf (fetchOf (e .held) mem) j e .answer)) ≡ []
   quiet-answer job.Idle h = refl
   quiet-answer job.Storing h = refl
   quiet-answer (job.Direct m) h = absurd (true≢false h)

@@ -30,7 +30,9 @@ pub mod KeepsReturn
 pub mod KeepsSending
 pub mod KeepsSpaces
 pub mod KeepsStart
+pub mod KeepsStored
 pub mod KeepsSum
+pub mod KeepsTable
 pub mod KeepsTrip
 pub mod KeepsTwelve
 pub mod RouteBytes

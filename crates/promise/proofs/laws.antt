@@ -10,6 +10,7 @@ pub mod FakesRoute
 pub mod FakesSpaces
 pub mod FakesStop
 pub mod FakesSum
+pub mod FakesTable
 pub mod FakesTyped
 pub mod Follows
 pub mod Gathering

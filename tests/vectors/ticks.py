@@ -1,5 +1,6 @@
 #!/usr/bin/env python3
-"""Writes crates/engine_ticks/stdin and stdout: steps on an engine, and every answer of its clock calls by 01's sentences.
+"""Writes crates/engine_ticks/stdin and stdout: steps on an engine, and every answer of its clock calls by 01's sentences
+and those of 02, §6.
 
 An independent model: signed numbers, quotients, lists of pulses made beforehand, a stack of open loops; it knows neither counts nor
 words nor the code's jobs. Run in the root of the repository: `python3 tests/vectors/ticks.py` writes both files, `--check` compares.
@@ -443,6 +444,24 @@ def altered(s):
         s.stand(place, depth)
         s.show()
         s.calls(3)
+        s.show()
+    # no record before the place is read
+    for at, place in ((0, 2), (11, 2), (20, 1), (20, 2)):
+        s.fresh(1)
+        s.program(*good)
+        s.poke(at, 9)
+        s.start()
+        s.stand(place, 0)
+        s.calls(3)
+        s.show()
+    # entries past the count: one of a longer program before, one that was never written
+    for place in (8, 12):
+        s.fresh(1)
+        s.program(*good)
+        s.hold(28, 13, 1)
+        s.start()
+        s.stand(place, 0)
+        s.calls(2)
         s.show()
     for place, at in ((0, 8), (1, 0), (1, 20), (1, 24), (2, 8), (2, 0), (1, 9), (1, 12), (2, 28), (2, 27), (1, 65535), (3, 0), (999, 0)):
         s.fresh(1)

@@ -112,11 +112,11 @@ fn show_engine(e: Engine) {
 }
 
 // So many clock calls.
-fn ticks(first: Engine, store: &[u8], n: u32) -> Engine {
+fn ticks(first: Engine, store: &[u8], table: &[u16], n: u32) -> Engine {
     let mut e = first;
     let mut left = n;
     while 0 < left {
-        let t = e.tick(store);
+        let t = e.tick(store, table);
         let answer = t.answer;
         show_answer(answer);
         let next = t.engine;
@@ -168,8 +168,8 @@ fn run_as(e: Engine, w: [u32; 11]) -> Engine {
     next
 }
 
-// The steps that leave the store as it is.
-fn act(e: Engine, store: &[u8], w: [u32; 11]) -> Engine {
+// The steps that leave the store and its table as they are.
+fn act(e: Engine, store: &[u8], table: &[u16], w: [u32; 11]) -> Engine {
     let kind = w[0];
     match kind {
         0 => Engine::fresh().set_axes(byte_of(w[1])),
@@ -177,7 +177,7 @@ fn act(e: Engine, store: &[u8], w: [u32; 11]) -> Engine {
         2 => e,
         3 => e.cease(),
         4 => e.start(),
-        5 => ticks(e, store, w[1]),
+        5 => ticks(e, store, table, w[1]),
         6 => e.hear(byte_of(w[1])),
         7 => direct(e, w[1] == 1, words_of(w)),
         8 => e,
@@ -189,6 +189,7 @@ fn act(e: Engine, store: &[u8], w: [u32; 11]) -> Engine {
         14 => e.reset(),
         15 => e.empty(),
         16 => e.set_output(byte_of(w[1])),
+        18 => e,
         _ => {
             show_engine(e);
             e
@@ -197,13 +198,13 @@ fn act(e: Engine, store: &[u8], w: [u32; 11]) -> Engine {
 }
 
 // A record stored, where it is right under the store's axes and has room: K and whether.
-fn keep(e: Engine, store: &mut [u8], w: [u32; 11]) -> Engine {
+fn keep(e: Engine, store: &mut [u8], table: &mut [u16], w: [u32; 11]) -> Engine {
     let item = Record {
         code: byte_of(w[1]),
         count: byte_of(w[2]),
         words: words_of(w),
     };
-    let k = record::store_record(store, e.held, item);
+    let k = record::store_record(store, table, e.held, item);
     io::write_all(STDOUT_FILENO, b"K");
     show_bool(k.stored);
     io::write_all(STDOUT_FILENO, b"\n");
@@ -218,10 +219,22 @@ fn poke(store: &mut [u8], at: u32, b: u8) {
     }
 }
 
-// The steps that write to the store.
-fn write(e: Engine, store: &mut [u8], w: [u32; 11]) -> Engine {
+// An entry of the table as a host sets it.
+fn enter(table: &mut [u16], place: u32, at: u16) {
+    let i = place as usize;
+    if i < table.len() {
+        table[i] = at;
+    }
+}
+
+// The steps that write to the store or to its table.
+fn write(e: Engine, store: &mut [u8], table: &mut [u16], w: [u32; 11]) -> Engine {
     if w[0] == 2 {
-        return keep(e, store, w);
+        return keep(e, store, table, w);
+    }
+    if w[0] == 18 {
+        enter(table, w[1], half_of(w[2]));
+        return e;
     }
     if w[0] == 8 {
         poke(store, w[1], byte_of(w[2]));
@@ -231,6 +244,7 @@ fn write(e: Engine, store: &mut [u8], w: [u32; 11]) -> Engine {
 
 fn run_all(text: &[u8]) {
     let mut store: [u8; 16384] = [0; 16384];
+    let mut table: [u16; 1000] = [0; 1000];
     let mut words: [u32; 11] = [0; 11];
     let mut e = Engine::fresh();
     let first = reader::next_number(text, 0);
@@ -238,8 +252,8 @@ fn run_all(text: &[u8]) {
     let mut at = first.at;
     while 0 < left {
         at = reader::next_numbers(text, at, &mut words);
-        let written = write(e, &mut store, words);
-        let acted = act(written, &store, words);
+        let written = write(e, &mut store, &mut table, words);
+        let acted = act(written, &store, &table, words);
         e = acted;
         left = left - 1;
     }

@@ -6,10 +6,10 @@ use Rattle.engine_ticks.proofs.run_all.Statement.{statement}
 use Rattle.engine_ticks.proofs.run_all.Tie as tie
 
 abbrev Inv-loop : tie.InvT-loop
-Inv-loop text store₀ words₀ e₀ left₀ at₀ store words e left at = (length store ≡ 16384) × (length words ≡ 11)
+Inv-loop text store₀ table₀ words₀ e₀ left₀ at₀ store table words e left at = (length store ≡ 16384) × (length table ≡ 1000) × (length words ≡ 11)
 
 abbrev μ-loop : tie.MeasureT-loop
-μ-loop text store₀ words₀ e₀ left₀ at₀ store words e left at = left
+μ-loop text store₀ table₀ words₀ e₀ left₀ at₀ store table words e left at = left
 
 fresh-requires : tie.Need-fresh-requires Inv-loop μ-loop
 fresh-requires c κs = search needs
@@ -29,11 +29,17 @@ next-numbers-requires c κs = search needs
 slice-aggregate-write : tie.Need-slice-aggregate-write Inv-loop μ-loop
 slice-aggregate-write c = search needs
 
+slice-aggregate-write-2 : tie.Need-slice-aggregate-write-2 Inv-loop μ-loop
+slice-aggregate-write-2 c = search needs
+
 write-requires : tie.Need-write-requires Inv-loop μ-loop
 write-requires c κs = search needs
 
 slice-aggregate-act : tie.Need-slice-aggregate-act Inv-loop μ-loop
 slice-aggregate-act c = search needs
+
+slice-aggregate-act-2 : tie.Need-slice-aggregate-act-2 Inv-loop μ-loop
+slice-aggregate-act-2 c = search needs
 
 act-requires : tie.Need-act-requires Inv-loop μ-loop
 act-requires c κs = search needs
@@ -62,8 +68,10 @@ run-all-spec =
     slice-aggregate-next-numbers
     next-numbers-requires
     slice-aggregate-write
+    slice-aggregate-write-2
     write-requires
     slice-aggregate-act
+    slice-aggregate-act-2
     act-requires
     sub-left
     loop-less

@@ -5,10 +5,10 @@ use Rattle.engine_ticks.proofs.ticks.Statement.{statement}
 use Rattle.engine_ticks.proofs.ticks.Tie as tie
 
 abbrev Inv-loop : tie.InvT-loop
-Inv-loop store n e₀ left₀ e left = 0 ≤ left
+Inv-loop store table n e₀ left₀ e left = 0 ≤ left
 
 abbrev μ-loop : tie.MeasureT-loop
-μ-loop store n e₀ left₀ e left = left
+μ-loop store table n e₀ left₀ e left = left
 
 loop-holds : tie.Need-loop-holds Inv-loop μ-loop
 loop-holds c = search needs

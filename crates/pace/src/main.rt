@@ -32,13 +32,13 @@ fn plus(a: u64, b: u64) -> u64 {
 }
 
 // Clock calls until one answers nothing, at most 100,000.
-fn run(start: Pace, store: &[u8]) -> Pace {
+fn run(start: Pace, store: &[u8], table: &[u16]) -> Pace {
     let mut board = start.board;
     let mut calls = start.calls;
     let mut sum = start.sum;
     let mut turns: u32 = 100000;
     while 0 < turns {
-        let ticked = board.clock(store);
+        let ticked = board.clock(store, table);
         let next = ticked.board;
         let answer = ticked.answer;
         board = next;
@@ -53,10 +53,10 @@ fn run(start: Pace, store: &[u8]) -> Pace {
     Pace { board, calls, sum }
 }
 
-fn receive(pace: Pace, byte: u8, store: &mut [u8]) -> Pace {
+fn receive(pace: Pace, byte: u8, store: &mut [u8], table: &mut [u16]) -> Pace {
     let mut reply = [0u8; 32];
     let board = pace.board;
-    let heard = board.receive(byte, [0u8; 4], &mut reply, store);
+    let heard = board.receive(byte, [0u8; 4], &mut reply, store, table);
     let next = heard.board;
     Pace {
         board: next,
@@ -128,7 +128,7 @@ fn convert_all(pace: Pace) -> Pace {
     }
 }
 
-fn take_byte(pace: Pace, byte: u8, store: &mut [u8], text: &mut [u8]) -> Pace {
+fn take_byte(pace: Pace, byte: u8, store: &mut [u8], table: &mut [u16], text: &mut [u8]) -> Pace {
     if byte == 0 {
         return list(pace, store, text);
     }
@@ -138,15 +138,21 @@ fn take_byte(pace: Pace, byte: u8, store: &mut [u8], text: &mut [u8]) -> Pace {
     if byte == 2 {
         return storing(pace);
     }
-    let heard = receive(pace, byte, &mut *store);
-    run(heard, store)
+    let heard = receive(pace, byte, &mut *store, &mut *table);
+    run(heard, store, table)
 }
 
-fn take_all(start: Pace, input: &[u8], store: &mut [u8], text: &mut [u8]) -> Pace {
+fn take_all(
+    start: Pace,
+    input: &[u8],
+    store: &mut [u8],
+    table: &mut [u16],
+    text: &mut [u8],
+) -> Pace {
     let mut pace = start;
     let mut i = 0;
     while i < input.len() {
-        let next = take_byte(pace, input[i], &mut *store, &mut *text);
+        let next = take_byte(pace, input[i], &mut *store, &mut *table, &mut *text);
         pace = next;
         i = i + 1;
     }
@@ -160,6 +166,7 @@ fn show(n: u64, last: &[u8]) {
 
 fn main() {
     let mut store = [0u8; 16384];
+    let mut table = [0u16; 1000];
     let mut text = io::large_buffer();
     let board = Board::fresh();
     let start = Pace {
@@ -169,7 +176,7 @@ fn main() {
     };
     let mut input = io::large_buffer();
     let n = io::read_full(STDIN_FILENO, &mut input);
-    let end = take_all(start, &input[..n], &mut store, &mut text);
+    let end = take_all(start, &input[..n], &mut store, &mut table, &mut text);
     show(end.calls, b" ");
     show(end.sum, b"\n");
 }

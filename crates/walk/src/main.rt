@@ -61,11 +61,11 @@ fn with_room(at: usize, fine: bool, out: &[u8]) -> Pen {
 }
 
 // The next portion of a run.
-fn go_on(stage: Stage, store: &[u8], out: &mut [u8]) -> Stage {
+fn go_on(stage: Stage, store: &[u8], table: &[u16], out: &mut [u8]) -> Stage {
     let pen = with_room(stage.at, stage.fine, out);
     let walk = stage.walk;
     let at = within(pen.at, out);
-    let portion = walk.go_on(store, &mut out[at..]);
+    let portion = walk.go_on(store, table, &mut out[at..]);
     let next = portion.walk;
     let end = past(at, portion.len, out);
     Stage {
@@ -77,7 +77,7 @@ fn go_on(stage: Stage, store: &[u8], out: &mut [u8]) -> Stage {
 }
 
 // The run after a byte goes on, portion by portion, until it is over or has made its clock calls.
-fn finish_run(start: Stage, store: &[u8], out: &mut [u8]) -> Stage {
+fn finish_run(start: Stage, store: &[u8], table: &[u16], out: &mut [u8]) -> Stage {
     let mut stage = start;
     let mut turns: u32 = 100000;
     while 0 < turns {
@@ -85,7 +85,7 @@ fn finish_run(start: Stage, store: &[u8], out: &mut [u8]) -> Stage {
         if walk.over | (100000 <= walk.calls) | !stage.fine {
             return stage;
         }
-        let next = go_on(stage, store, &mut *out);
+        let next = go_on(stage, store, table, &mut *out);
         stage = next;
         turns = turns - 1;
     }
@@ -93,11 +93,11 @@ fn finish_run(start: Stage, store: &[u8], out: &mut [u8]) -> Stage {
 }
 
 // One byte and the first portion of its run.
-fn begin_run(stage: Stage, byte: u8, store: &mut [u8], out: &mut [u8]) -> Stage {
+fn begin_run(stage: Stage, byte: u8, store: &mut [u8], table: &mut [u16], out: &mut [u8]) -> Stage {
     let pen = with_room(stage.at, stage.fine, out);
     let walk = stage.walk;
     let at = within(pen.at, out);
-    let portion = walk.next(byte, &mut *store, &mut out[at..]);
+    let portion = walk.next(byte, &mut *store, &mut *table, &mut out[at..]);
     let next = portion.walk;
     let end = past(at, portion.len, out);
     Stage {
@@ -109,17 +109,23 @@ fn begin_run(stage: Stage, byte: u8, store: &mut [u8], out: &mut [u8]) -> Stage 
 }
 
 // One byte with its whole run.
-fn take_byte(stage: Stage, byte: u8, store: &mut [u8], out: &mut [u8]) -> Stage {
-    let begun = begin_run(stage, byte, &mut *store, &mut *out);
+fn take_byte(stage: Stage, byte: u8, store: &mut [u8], table: &mut [u16], out: &mut [u8]) -> Stage {
+    let begun = begin_run(stage, byte, &mut *store, &mut *table, &mut *out);
     let walk = begun.walk;
     if walk.over {
         return begun;
     }
-    finish_run(begun, store, out)
+    finish_run(begun, store, table, out)
 }
 
 // All bytes of a piece of input, or those up to a run that is not over or a write that failed.
-fn take_all(start: Stage, input: &[u8], store: &mut [u8], out: &mut [u8]) -> Stage {
+fn take_all(
+    start: Stage,
+    input: &[u8],
+    store: &mut [u8],
+    table: &mut [u16],
+    out: &mut [u8],
+) -> Stage {
     let mut stage = start;
     let mut i = 0;
     while i < input.len() {
@@ -139,7 +145,7 @@ fn take_all(start: Stage, input: &[u8], store: &mut [u8], out: &mut [u8]) -> Sta
         if input.len() <= k {
             return part;
         }
-        let next = take_byte(part, input[k], &mut *store, &mut *out);
+        let next = take_byte(part, input[k], &mut *store, &mut *table, &mut *out);
         stage = next;
         i = k + 1;
     }
@@ -147,7 +153,13 @@ fn take_all(start: Stage, input: &[u8], store: &mut [u8], out: &mut [u8]) -> Sta
 }
 
 // One piece of input, or that no more follows.
-fn take_piece(stage: Stage, input: &mut [u8], store: &mut [u8], out: &mut [u8]) -> Stage {
+fn take_piece(
+    stage: Stage,
+    input: &mut [u8],
+    store: &mut [u8],
+    table: &mut [u16],
+    out: &mut [u8],
+) -> Stage {
     let got = libc::read(STDIN_FILENO, &mut *input);
     let n = io::count(got, input);
     if n == 0 {
@@ -159,17 +171,17 @@ fn take_piece(stage: Stage, input: &mut [u8], store: &mut [u8], out: &mut [u8]) 
             more: false,
         };
     }
-    take_all(stage, &input[..n], store, out)
+    take_all(stage, &input[..n], store, table, out)
 }
 
 // Everything that is read. A proved loop has to end, and nothing says that input does, so it counts its turns down from a number that no
 // run uses up.
-fn take_input(start: Stage, store: &mut [u8], out: &mut [u8]) -> Stage {
+fn take_input(start: Stage, store: &mut [u8], table: &mut [u16], out: &mut [u8]) -> Stage {
     let mut input = io::large_buffer();
     let mut stage = start;
     let mut turns = u64::MAX;
     while 0 < turns {
-        let next = take_piece(stage, &mut input, &mut *store, &mut *out);
+        let next = take_piece(stage, &mut input, &mut *store, &mut *table, &mut *out);
         stage = next;
         let walk = stage.walk;
         if !stage.more | !stage.fine | !walk.over {
@@ -196,6 +208,7 @@ fn finish(stage: Stage, out: &mut [u8]) {
 fn main() {
     let mut out = io::large_buffer();
     let mut store = [0u8; 16384];
+    let mut table = [0u16; 1000];
     let walk = Walk::new();
     let at = Walk::head(&mut out);
     let start = Stage {
@@ -204,6 +217,6 @@ fn main() {
         fine: true,
         more: true,
     };
-    let end = take_input(start, &mut store, &mut out);
+    let end = take_input(start, &mut store, &mut table, &mut out);
     finish(end, &mut out);
 }

@@ -5,10 +5,10 @@ use Rattle.pace.proofs.run.Statement.{statement}
 use Rattle.pace.proofs.run.Tie as tie
 
 abbrev Inv-loop : tie.InvT-loop
-Inv-loop store board₀ calls₀ sum₀ turns₀ board calls sum turns = turns ≤ 100000
+Inv-loop store table board₀ calls₀ sum₀ turns₀ board calls sum turns = turns ≤ 100000
 
 abbrev μ-loop : tie.MeasureT-loop
-μ-loop store board₀ calls₀ sum₀ turns₀ board calls sum turns = turns
+μ-loop store table board₀ calls₀ sum₀ turns₀ board calls sum turns = turns
 
 loop-holds : tie.Need-loop-holds Inv-loop μ-loop
 loop-holds c = search needs

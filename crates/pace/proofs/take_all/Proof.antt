@@ -1,5 +1,5 @@
--- `pace::take_all` is safe and ends. The invariant: `i` is at most the length of the input, which fits, and store and text keep their
--- lengths. The measure is what is left of the input. Assumes nothing.
+-- `pace::take_all` is safe and ends. The invariant: `i` is at most the length of the input, which fits, and store, table and text keep
+-- their lengths. The measure is what is left of the input. Assumes nothing.
 use Prim.Native.Nat.{_≤_, _<_, _-_}
 use mathlib.Core.Path.{_≡_}
 use lib.ListN.{length}
@@ -8,10 +8,10 @@ use Rattle.pace.proofs.take_all.Statement.{statement}
 use Rattle.pace.proofs.take_all.Tie as tie
 
 abbrev Inv-loop : tie.InvT-loop
-Inv-loop input store₀ text₀ pace₀ i₀ store text pace i = (i ≤ length input) × (length input < 18446744073709551616) × (length store ≡ length store₀) × (length text ≡ length text₀)
+Inv-loop input store₀ table₀ text₀ pace₀ i₀ store table text pace i = (i ≤ length input) × (length input < 18446744073709551616) × (length store ≡ length store₀) × (length table ≡ length table₀) × (length text ≡ length text₀)
 
 abbrev μ-loop : tie.MeasureT-loop
-μ-loop input store₀ text₀ pace₀ i₀ store text pace i = length input - i
+μ-loop input store₀ table₀ text₀ pace₀ i₀ store table text pace i = length input - i
 
 loop-holds : tie.Need-loop-holds Inv-loop μ-loop
 loop-holds c = search needs
@@ -37,6 +37,9 @@ same-length c = search needs
 same-length-2 : tie.Need-same-length-2 Inv-loop μ-loop
 same-length-2 c = search needs
 
+same-length-3 : tie.Need-same-length-3 Inv-loop μ-loop
+same-length-3 c = search needs
+
 returns : tie.Need-returns Inv-loop μ-loop
 returns c = search needs
 
@@ -54,4 +57,5 @@ take-all-spec =
     loop-again
     same-length
     same-length-2
+    same-length-3
     returns)

@@ -6,10 +6,10 @@ use Rattle.walk.proofs.finish_run.Statement.{statement}
 use Rattle.walk.proofs.finish_run.Tie as tie
 
 abbrev Inv-loop : tie.InvT-loop
-Inv-loop store out₀ stage₀ turns₀ out stage turns = length out ≡ length out₀
+Inv-loop store table out₀ stage₀ turns₀ out stage turns = length out ≡ length out₀
 
 abbrev μ-loop : tie.MeasureT-loop
-μ-loop store out₀ stage₀ turns₀ out stage turns = turns
+μ-loop store table out₀ stage₀ turns₀ out stage turns = turns
 
 loop-holds : tie.Need-loop-holds Inv-loop μ-loop
 loop-holds c = search needs

@@ -1,5 +1,5 @@
--- `walk::take_all` is safe and ends. The invariant: `i` is at most the length of the input, which fits, and store and buffer keep their
--- lengths. The measure is what is left of the input. Assumes nothing.
+-- `walk::take_all` is safe and ends. The invariant: `i` is at most the length of the input, which fits, and store, table and buffer keep
+-- their lengths. The measure is what is left of the input. Assumes nothing.
 use Prim.Native.Nat.{_≤_, _<_, _-_}
 use mathlib.Core.Path.{_≡_}
 use native.Mathlib.Omega.{arith}
@@ -9,10 +9,10 @@ use Rattle.walk.proofs.take_all.Statement.{statement}
 use Rattle.walk.proofs.take_all.Tie as tie
 
 abbrev Inv-loop : tie.InvT-loop
-Inv-loop input store₀ out₀ stage₀ i₀ store out stage i = (i ≤ length input) × (length input < 18446744073709551616) × (length store ≡ length store₀) × (length out ≡ length out₀)
+Inv-loop input store₀ table₀ out₀ stage₀ i₀ store table out stage i = (i ≤ length input) × (length input < 18446744073709551616) × (length store ≡ length store₀) × (length table ≡ length table₀) × (length out ≡ length out₀)
 
 abbrev μ-loop : tie.MeasureT-loop
-μ-loop input store₀ out₀ stage₀ i₀ store out stage i = length input - i
+μ-loop input store₀ table₀ out₀ stage₀ i₀ store table out stage i = length input - i
 
 loop-holds : tie.Need-loop-holds Inv-loop μ-loop
 loop-holds c = search needs
@@ -22,6 +22,9 @@ same-length c = search needs
 
 same-length-2 : tie.Need-same-length-2 Inv-loop μ-loop
 same-length-2 c = search needs
+
+same-length-3 : tie.Need-same-length-3 Inv-loop μ-loop
+same-length-3 c = search needs
 
 returns : tie.Need-returns Inv-loop μ-loop
 returns c = search needs
@@ -41,11 +44,14 @@ feed-requires c κs = search needs
 past-requires : tie.Need-past-requires Inv-loop μ-loop
 past-requires c κs = search needs
 
-same-length-3 : tie.Need-same-length-3 Inv-loop μ-loop
-same-length-3 c = search needs
-
 same-length-4 : tie.Need-same-length-4 Inv-loop μ-loop
 same-length-4 c = search needs
+
+same-length-5 : tie.Need-same-length-5 Inv-loop μ-loop
+same-length-5 c = search needs
+
+same-length-6 : tie.Need-same-length-6 Inv-loop μ-loop
+same-length-6 c = search needs
 
 returns-2 : tie.Need-returns-2 Inv-loop μ-loop
 returns-2 c = search needs
@@ -57,21 +63,24 @@ take-byte-requires : tie.Need-take-byte-requires Inv-loop μ-loop
 take-byte-requires c κs = search needs
 
 add-i : tie.Need-add-i Inv-loop μ-loop
-add-i c = omega (arith, c .before .before .before .before .before .before .before .before .if2 .left, c .before .before .before .before .before .before .before .before .before .before .before .before .before .before .before .before .before .before .loop .inv .1)
+add-i c = omega (arith, c .before .before .before .before .before .before .before .before .before .before .before .if2 .left, c .before .before .before .before .before .before .before .before .before .before .before .before .before .before .before .before .before .before .before .before .before .loop .inv .1)
 
 loop-less : tie.Need-loop-less Inv-loop μ-loop
 loop-less c = search needs
 
 loop-again : tie.Need-loop-again Inv-loop μ-loop
 loop-again c =
-    let v = c .before .before .before .before .before .before .before .before .before .before .before .before .before .before .before .before .before .before .loop .inv in
-    (omega (arith, c .before .before .before .before .before .before .before .before .if2 .left), v .1, omega (arith, v .2), omega (arith, v .3))
+    let v = c .before .before .before .before .before .before .before .before .before .before .before .before .before .before .before .before .before .before .before .before .before .loop .inv in
+    (omega (arith, c .before .before .before .before .before .before .before .before .before .before .before .if2 .left), v .1, omega (arith, v .2), omega (arith, v .3), omega (arith, v .4))
 
-same-length-5 : tie.Need-same-length-5 Inv-loop μ-loop
-same-length-5 c = search needs
+same-length-7 : tie.Need-same-length-7 Inv-loop μ-loop
+same-length-7 c = search needs
 
-same-length-6 : tie.Need-same-length-6 Inv-loop μ-loop
-same-length-6 c = search needs
+same-length-8 : tie.Need-same-length-8 Inv-loop μ-loop
+same-length-8 c = search needs
+
+same-length-9 : tie.Need-same-length-9 Inv-loop μ-loop
+same-length-9 c = search needs
 
 returns-3 : tie.Need-returns-3 Inv-loop μ-loop
 returns-3 c = search needs
@@ -85,20 +94,23 @@ take-all-spec =
     loop-holds
     same-length
     same-length-2
+    same-length-3
     returns
     sub-feed
     part-feed-start
     part-feed-end
     feed-requires
     past-requires
-    same-length-3
     same-length-4
+    same-length-5
+    same-length-6
     returns-2
     shared-slice-read-take-byte
     take-byte-requires
     add-i
     loop-less
     loop-again
-    same-length-5
-    same-length-6
+    same-length-7
+    same-length-8
+    same-length-9
     returns-3)

@@ -13,6 +13,10 @@ NUMBERS = {1: 2, 3: 4, 7: 8}  # of a movement, by the axes
 # what stands in a line: `store` are the bytes that it gives, and those behind them are 0
 Part = namedtuple("Part", "used records axes store")
 
+# what is lent: the bytes of both stores, and the entries of the first's table
+Lent = namedtuple("Lent", "first second table")
+WHOLE = Lent(ROOM, ROOM, MANY)
+
 
 # ---- 01: records as bytes, and back
 
@@ -82,6 +86,15 @@ def is_accepted(records):
 
 # ---- 02, §4 and §6
 
+def starts(part):
+    """Where each record of a program starts: it takes four bytes, and four for each of its numbers."""
+    store, found, at = part.store.ljust(part.used + 4, b"\0"), [], 0
+    while at < part.used:
+        found.append(at)
+        at += 4 + 4 * store[at + 3]
+    return found
+
+
 class Join:
     def empty(self, part):
         return part.records == 0
@@ -117,6 +130,19 @@ class Join:
         """The bytes of both."""
         return first.store[: first.used] + second.store[: second.used]
 
+    def table(self, first, second):
+        """Where each record starts: the first's where they were, the second's behind the first's bytes."""
+        return [*starts(first), *(first.used + at for at in starts(second))]
+
+    def stores_wrong(self, lent):
+        return "102" if (lent.first, lent.second) != (ROOM, ROOM) else ""
+
+    def table_wrong(self, lent):
+        return "104" if lent.table != MANY else ""
+
+    def lent_wrong(self, lent):
+        return self.stores_wrong(lent) or self.table_wrong(lent)
+
     def axes_wrong(self, first, second):
         return "3" if not (self.same_axes(first, second) and self.allowed(self.axes(first, second))) else ""
 
@@ -134,27 +160,15 @@ class Join:
     def result(self, first, second):
         return Part(first.used + second.used, first.records + second.records, self.axes(first, second), self.put(first, second))
 
-    def starts(self, first, second):
-        """The table's entries: where each record of both starts, by the numbers that each has."""
-        joined, starts = self.result(first, second), [0]
-        for _ in range(joined.records):
-            count = joined.store[starts[-1] + 3 : starts[-1] + 4]
-            starts.append(starts[-1] + 4 + 4 * sum(count))
-        return starts[:-1]
-
-    def answer(self, first, second):
-        refusals = [refusal for refusal in (rule(self, first, second) for rule in self.order) if refusal]
-        return refusals[0] if refusals else f"0 {fields(self.result(first, second))} {entries(self.starts(first, second))}"
-
-    def lent(self, lengths, first, second):
-        """The answer where the two stores and the table have these lengths."""
-        *stores, table = lengths
-        return "102" if stores != [ROOM, ROOM] else "104" if table != MANY else self.answer(first, second)
-
-
-def entries(starts):
-    return ",".join(map(str, starts)) or "-"
+    def answer(self, first, second, lent=WHOLE):
+        refusals = [self.lent_wrong(lent), *(rule(self, first, second) for rule in self.order)]
+        joined = f"0 {fields(self.result(first, second))} {entries(self.table(first, second))}"
+        return next((refusal for refusal in refusals if refusal), joined)
 
 
 def fields(part):
     return f"{part.used} {part.records} {part.axes} {part.store.hex() or '-'}"
+
+
+def entries(table):
+    return ",".join(map(str, table)) or "-"

@@ -1,7 +1,7 @@
 """Wrong readings of the requests (02, §4 and §6), each with one clause of the rule changed, and whether joins tell them from it: for
 tests/vectors/joins.py.
 """
-from join_rule import MANY, NUMBERS, ROOM, Join, is_accepted, repeated, targets
+from join_rule import MANY, NUMBERS, ROOM, WHOLE, Join, is_accepted, repeated, starts, targets
 
 OF_EACH = 2
 
@@ -136,20 +136,67 @@ class RoomBeforeAxes(Join):
     order = (Join.room_wrong, Join.axes_wrong, Join.programs_wrong)
 
 
-class StartsOfTheNext(Join):
-    def starts(self, first, second):
-        return super().starts(first, second)[1:] + [first.used + second.used]
+class FirstStoreAlone(Join):
+    def stores_wrong(self, lent):
+        return super().stores_wrong(lent._replace(second=ROOM))
 
 
-class StartsOfTheSecondAlone(Join):
-    def starts(self, first, second):
-        return super().starts(first, second)[first.records :]
+class SecondStoreAlone(Join):
+    def stores_wrong(self, lent):
+        return super().stores_wrong(lent._replace(first=ROOM))
 
 
-class SecondFromItsOwnFront(Join):
-    def starts(self, first, second):
-        starts = super().starts(first, second)
-        return starts[: first.records] + [start - first.used for start in starts[first.records :]]
+class LongerStores(Join):
+    def stores_wrong(self, lent):
+        return "102" if min(lent.first, lent.second) < ROOM else ""
+
+
+class LongerTables(Join):
+    def table_wrong(self, lent):
+        return "104" if lent.table < MANY else ""
+
+
+class TableThatHolds(Join):
+    def answer(self, first, second, lent=WHOLE):
+        holds = first.records + second.records <= lent.table
+        return super().answer(first, second, lent._replace(table=MANY) if holds else lent)
+
+
+class TableBeforeStores(Join):
+    def lent_wrong(self, lent):
+        return self.table_wrong(lent) or self.stores_wrong(lent)
+
+
+class LentLast(Join):
+    def answer(self, first, second, lent=WHOLE):
+        told = super().answer(first, second)
+        return super().answer(first, second, lent) if told.startswith("0 ") else told
+
+
+class TableLast(Join):
+    def answer(self, first, second, lent=WHOLE):
+        told = super().answer(first, second, lent._replace(table=MANY))
+        return super().answer(first, second, lent) if told.startswith("0 ") else told
+
+
+class EntriesOfTheFirst(Join):
+    def table(self, first, second):
+        return starts(first)
+
+
+class EntriesOfTheSecond(Join):
+    def table(self, first, second):
+        return [65535] * len(starts(first)) + super().table(first, second)[len(starts(first)) :]
+
+
+class EntriesNotMoved(Join):
+    def table(self, first, second):
+        return starts(first) + starts(second)
+
+
+class EndPlaceToo(Join):
+    def table(self, first, second):
+        return [*super().table(first, second), first.used + second.used]
 
 
 def tell_apart(rows):

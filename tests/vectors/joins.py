@@ -1,33 +1,35 @@
 """Vectors of joins (02, §4 and §6), worked out apart from the code: a part of tests/vectors/ask.py, which writes them.
 
 A line is `join` and two programs, each its bytes in use, its records, its axes and the bytes of its store as hexadecimal digits,
-`-` for none. Its answer is 0, the joined program in the same form and the entries of its table, or the refusal alone: 3, G or 6. A line
-`lend` has the lengths of both stores and of the table in front; its answer may be 102 or 104 too. A line that cannot be read is
-answered `?`.
+`-` for none. Its answer is 0 and the joined program in the same form, with the entries of its table behind it, parted by commas, `-`
+for none; or the refusal alone: 3, G or 6. A line `lend` has the lengths of both stores and of the table in front of the programs, and
+may be refused 102 or 104 too. A line that cannot be read is answered `?`.
 
 The answers are those of `Join` in tests/vectors/join_rule.py. The script stops if the result of a join is not accepted itself, or if
 too few of the lines tell a wrong reading of tests/vectors/join_slips.py from the rule.
 """
 import itertools
 
-from join_rule import MANY, NUMBERS, ROOM, Join, Part, fields, is_accepted, read, stored
+from join_rule import MANY, NUMBERS, ROOM, WHOLE, Join, Part, fields, is_accepted, read, stored
 from join_slips import tell_apart
 from sheet import Draw
 
 
 # ---- lines
 
-def line(first, second):
-    return f"join {fields(first)} {fields(second)}"
+def line(first, second, lent=None):
+    asked = "join" if lent is None else f"lend {lent.first} {lent.second} {lent.table}"
+    return f"{asked} {fields(first)} {fields(second)}"
 
 
-def expected(first, second):
+def expected(first, second, lent=WHOLE):
     """The answer. What the request promises holds of it: the result is accepted; and of what is refused for its programs, one of them
     is not, or the two together."""
     rule = Join()
-    answer, axes = rule.answer(first, second), rule.axes(first, second)
+    answer, axes = rule.answer(first, second, lent), rule.axes(first, second)
     if answer.startswith("0"):
         assert is_accepted(read(rule.result(first, second), axes))
+        assert len(rule.table(first, second)) == rule.result(first, second).records
     elif answer == "G":
         one, other = read(first, axes), read(second, axes)
         assert None in (one, other) or not all(map(is_accepted, (one, other, one + other)))
@@ -272,6 +274,33 @@ def orders():
     yield many._replace(axes=3), part_of(*[FLAT] * 798)  # 3, and 1,001 records
 
 
+# ---- what is lent
+
+def lendings():
+    """Stores and a table of other lengths: alone, together, and where another refusal fits too."""
+    yield SHORT, OTHER, WHOLE
+    yield NONE, NONE, WHOLE
+    for size in (24, ROOM - 1, ROOM + 1):
+        yield SHORT, OTHER, WHOLE._replace(first=size)
+        yield SHORT, OTHER, WHOLE._replace(second=size)
+        yield SHORT, OTHER, WHOLE._replace(first=size, second=size)
+    yield SHORT._replace(store=b""), OTHER, WHOLE._replace(first=0)
+    yield SHORT, OTHER._replace(store=b""), WHOLE._replace(second=0)
+    yield NONE, NONE, WHOLE._replace(first=0, second=0, table=0)
+    for entries in (0, 1, 5, MANY - 1, MANY + 1):
+        yield SHORT, OTHER, WHOLE._replace(table=entries)
+        yield NONE, NONE, WHOLE._replace(table=entries)
+    for first, second, entries in ((ROOM - 1, ROOM, MANY - 1), (ROOM, ROOM + 1, MANY + 1), (ROOM + 1, ROOM - 1, 0)):
+        yield SHORT, OTHER, WHOLE._replace(first=first, second=second, table=entries)
+    for parts in ((SHORT, OTHER._replace(axes=3)), (part_of(*CLAMP), part_of(*ROW)), (part_of(*[FLAT] * 501), part_of(*[SOON] * 500))):
+        yield *parts, WHOLE
+        yield *parts, WHOLE._replace(second=ROOM - 1)
+        yield *parts, WHOLE._replace(table=MANY - 1)
+    for size in (16, ROOM, ROOM + 1):  # as many bytes as the store has
+        yield SHORT._replace(store=SHORT.store.ljust(size, b"\0")), OTHER, WHOLE._replace(first=size)
+    yield OTHER, SHORT._replace(store=SHORT.store.ljust(ROOM + 1, b"\0")), WHOLE._replace(second=ROOM + 1)
+
+
 # ---- at random
 
 def thrown(draw):
@@ -305,34 +334,11 @@ def drawn(draw):
             yield parts
 
 
-# ---- other lengths
-
-RIGHT = (ROOM, ROOM, MANY)
-LENGTHS = [RIGHT, (ROOM - 1, ROOM, MANY), (ROOM, ROOM - 1, MANY), (ROOM + 1, ROOM, MANY), (ROOM, ROOM + 1, MANY), (0, 0, 0), (40, 60, MANY),
-           (ROOM, ROOM, MANY - 1), (ROOM, ROOM, MANY + 1), (ROOM, ROOM, 0), (ROOM, ROOM, 1), (ROOM - 1, ROOM, 0), (ROOM, ROOM + 1, MANY - 1)]
-
-
-def lent(lengths, first, second):
-    return "lend " + " ".join(map(str, lengths)) + f" {fields(first)} {fields(second)}"
-
-
-def lendings():
-    """102 and 104 before the others, and beside a join that is right: lengths and programs."""
-    wrong_axes, spoiled = (SHORT._replace(axes=3), OTHER), (part_of(SEND, used=7), OTHER)
-    entering, crowded = (part_of(*CLAMP), part_of(*ROW)), (part_of(*[FLAT] * 501), part_of(*[SOON] * 500))
-    small = NONE, NONE
-    for lengths in LENGTHS:
-        for pair in (small,) if min(lengths[:2]) < 40 else (wrong_axes, spoiled, entering, (SHORT, OTHER), small):
-            yield lengths, pair
-        if min(lengths[:2]) > ROOM - 2:
-            yield lengths, crowded
-    yield (16, 32, MANY), (part_of(SEND, FLAT), part_of(SOON, ASK, FLAT))
-
-
 def vectors():
     for kind in (worked_examples, axes_of_two, axes_of_empty, faults, unreadable_programs, odd_fields, rule_of_the_two, full, orders):
         yield from kind()
     yield from drawn(Draw(20140504))
+    yield from lendings()
 
 
 # ---- other ways to write a number, and lines that cannot be read
@@ -358,15 +364,35 @@ def part():
     for words, said in forms():
         rows.append((f"join {words} {fields(OTHER)}", expected(said, OTHER)))
         rows.append((f"join {fields(OTHER)} {words}", expected(OTHER, said)))
-    rows += [(lent(lengths, *pair), Join().lent(lengths, *pair)) for lengths, pair in lendings()]
     return rows
 
 
-def with_word(at, word):
+def with_word(at, word, question=QUESTION):
     """The question with another word in the place of one of its fields, from 1."""
-    words = QUESTION.split(" ")
+    words = question.split(" ")
     words[at] = word
     return " ".join(words)
+
+
+def unreadable_lendings():
+    """Lengths that are missing, wrong or too large, and more bytes than a store has."""
+    question = line(SHORT, OTHER, WHOLE)
+    words = question.split(" ")
+    for count in range(1, len(words)):
+        yield " ".join(words[:count])
+    for word in ("Lend", "LEND", "lends", "len", "lend,", "join"):
+        yield with_word(0, word, question)
+    for at, most in ((1, ROOM + 1), (2, ROOM + 1), (3, MANY + 1)):
+        for word in (str(most + 1), "-1", str(int(words[at]) + 2**16), "", "-", "1e3", "+1"):
+            yield with_word(at, word, question)
+    for at, word in ((4, "65536"), (6, "256"), (7, "0"), (8, "-1"), (10, "256"), (11, "--")):
+        yield with_word(at, word, question)
+    for at, size in ((1, 15), (1, 0), (2, 23), (2, 0)):
+        yield with_word(at, str(size), question)
+    yield with_word(7, "00" * (ROOM + 1), question)
+    yield with_word(1, str(ROOM + 1), with_word(7, "00" * (ROOM + 2), question))
+    yield question + " 0"
+    yield question.replace("lend ", "lend 16384 ")
 
 
 def unreadable():
@@ -394,17 +420,4 @@ def unreadable():
         yield QUESTION + " " + more
     yield f"join 8 1 0 {words[4]} 8 1 5 d72b"[:-1]  # 3, if it could be read
     yield QUESTION.replace(" ", ",")
-    yield from unlent()
-
-
-def unlent():
-    """The same of lines that say the lengths."""
-    words = lent(RIGHT, SHORT, OTHER).split(" ")
-    for count in (1, 2, 3, 4, 5, 8, 11):
-        yield " ".join(words[:count])
-    for at, word in ((0, "lent"), (1, "16386"), (2, "16386"), (3, "1002"), (1, "-1"), (2, "-1"), (3, "-1"), (1, "65536"), (3, "x"), (2, ""), (3, "1e3")):
-        yield " ".join(words[:at] + [word] + words[at + 1 :])
-    yield " ".join(words) + " 0"
-    for lengths in ((15, ROOM, MANY), (ROOM, 23, MANY), (0, 24, MANY)):  # more bytes than the store has
-        yield lent(lengths, SHORT, OTHER)
-    yield lent((ROOM, ROOM, MANY), SHORT._replace(store=bytes(ROOM + 1)), OTHER)
+    yield from unreadable_lendings()

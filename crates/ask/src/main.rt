@@ -29,6 +29,9 @@ fn answer(line: &[u8]) -> bool {
     if check::same(&line[..end], b"join") {
         return joins::answer(line, end);
     }
+    if check::same(&line[..end], b"lend") {
+        return joins::lend(line, end);
+    }
     show::unread()
 }
 

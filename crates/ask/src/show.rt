@@ -16,8 +16,9 @@ fn put_at(text: &mut [u8], at: usize, b: u8) {
     }
 }
 
-// A number behind the text so far, with a space before it; answers where the text goes on, which is where it was if there is no room.
-fn put_behind(text: &mut [u8], at: usize, v: i32) -> usize
+// A number behind the text so far, with a space or a comma before it; answers where the text goes on, which is where it was if there is no
+// room.
+fn put_behind(text: &mut [u8], at: usize, before: u8, v: i32) -> usize
     requires { ⌜ at ≤ length (now text) ⌝ }
     ensures { λ r. ⌜ r ≤ length (now (text .entry)) ⌝ }
 {
@@ -26,7 +27,7 @@ fn put_behind(text: &mut [u8], at: usize, v: i32) -> usize
     }
     let from = at + 1;
     let word = count::word_of(v < 0, reader::magnitude(v));
-    put_at(&mut *text, at, b' ');
+    put_at(&mut *text, at, before);
     let k = count::put_word(&mut text[from..], word);
     if k <= 11 {
         return from + k;
@@ -50,10 +51,10 @@ fn write_line(text: &mut [u8], at: usize) -> bool {
 // A refusal, or 0 and the numbers delivered. A chain has at most 1,000, of at most eleven bytes and a space before each.
 pub(crate) fn chained(refusal: u16, steps: &[i32]) -> bool {
     let mut text = [0u8; 12100];
-    let mut at = put_behind(&mut text, 0, refusal as i32);
+    let mut at = put_behind(&mut text, 0, b' ', refusal as i32);
     let mut i = 0;
     while i < steps.len() {
-        let next = put_behind(&mut text, at, steps[i]);
+        let next = put_behind(&mut text, at, b' ', steps[i]);
         at = next;
         i = i + 1;
     }
@@ -114,6 +115,27 @@ fn put_bytes(text: &mut [u8], at: usize, bytes: &[u8]) -> usize
     from + 2 * n
 }
 
+// Entries of a table behind the text so far, parted by commas, with a space before them, or `-` for none; answers where the text goes on.
+fn put_entries(text: &mut [u8], from: usize, entries: &[u16]) -> usize
+    requires { ⌜ from ≤ length (now text) ⌝ }
+    ensures { λ r. ⌜ r ≤ length (now (text .entry)) ⌝ }
+{
+    if entries.len() == 0 {
+        return put_bytes(text, from, b"");
+    }
+    let mut at = from;
+    let mut before = b' ';
+    let mut i = 0;
+    while i < entries.len() {
+        let entry = entries[i];
+        let next = put_behind(&mut *text, at, before, entry as i32);
+        at = next;
+        before = b',';
+        i = i + 1;
+    }
+    at
+}
+
 // The refusal of a join: its character, or the number of any other.
 pub(crate) fn refused(refusal: u16) -> bool {
     if refusal == 51 {
@@ -128,13 +150,14 @@ pub(crate) fn refused(refusal: u16) -> bool {
     chained(refusal, &[])
 }
 
-// 0 and the joined program, whose bytes in use are lent: at most 16,384 of them.
-pub(crate) fn joined(held: Held, bytes: &[u8]) -> bool {
-    let mut text = [0u8; 32832];
-    let refusal = put_behind(&mut text, 0, 0);
-    let used = put_behind(&mut text, refusal, held.used as i32);
-    let records = put_behind(&mut text, used, held.records as i32);
-    let axes = put_behind(&mut text, records, held.axes as i32);
-    let end = put_bytes(&mut text, axes, bytes);
+// 0 and the joined program, whose bytes in use are lent, at most 16,384 of them, and entries of its table, at most 1,000.
+pub(crate) fn joined(held: Held, bytes: &[u8], entries: &[u16]) -> bool {
+    let mut text = [0u8; 38848];
+    let refusal = put_behind(&mut text, 0, b' ', 0);
+    let used = put_behind(&mut text, refusal, b' ', held.used as i32);
+    let records = put_behind(&mut text, used, b' ', held.records as i32);
+    let axes = put_behind(&mut text, records, b' ', held.axes as i32);
+    let part = put_bytes(&mut text, axes, bytes);
+    let end = put_entries(&mut text, part, entries);
     write_line(&mut text, end)
 }

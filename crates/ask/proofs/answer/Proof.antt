@@ -44,11 +44,27 @@ answer-requires-2 c κs = search needs
 returns-3 : tie.Need-returns-3
 returns-3 c = search needs
 
-unread-requires-2 : tie.Need-unread-requires-2
-unread-requires-2 c κs = search needs
+slice-aggregate-same-5 : tie.Need-slice-aggregate-same-5
+slice-aggregate-same-5 c =
+    sym (length-take-le _ _ (c .before .before .before .before .before .before .before .before .before .end-of .ensures .1))
+
+slice-aggregate-same-6 : tie.Need-slice-aggregate-same-6
+slice-aggregate-same-6 c = search needs
+
+same-requires-3 : tie.Need-same-requires-3
+same-requires-3 c κs = search needs
+
+lend-requires : tie.Need-lend-requires
+lend-requires c κs = search needs
 
 returns-4 : tie.Need-returns-4
 returns-4 c = search needs
+
+unread-requires-2 : tie.Need-unread-requires-2
+unread-requires-2 c κs = search needs
+
+returns-5 : tie.Need-returns-5
+returns-5 c = search needs
 
 pub answer-spec : {M : Type 1} → statement M
 answer-spec =
@@ -67,5 +83,10 @@ answer-spec =
     same-requires-2
     answer-requires-2
     returns-3
+    slice-aggregate-same-5
+    slice-aggregate-same-6
+    same-requires-3
+    lend-requires
+    returns-4
     unread-requires-2
-    returns-4)
+    returns-5)

@@ -3,6 +3,7 @@ mod host;
 mod quiet;
 mod script;
 mod show;
+mod table;
 
 use board::Board;
 use host::board_with;
@@ -23,18 +24,25 @@ use show::show_mark;
 use show::show_state;
 use show::show_ticked;
 use show::within;
+use table::enter;
+use table::entries_of;
+use table::fill;
+use table::look;
 
-// The usual store and reply buffer.
+// The usual store, table and reply buffer.
 const STORE: usize = 16384;
+
+const TABLE: usize = 1000;
 
 const REPLY: usize = 32;
 
-// Where a script has come to: the board, the input ports, the bytes of the store and the reply buffer that the next call is lent, the line
-// being read and its number, whether a run is over, and whether input may follow.
+// Where a script has come to: the board, the input ports, the bytes of the store, the entries of the table and the bytes of the reply
+// buffer that the next call is lent, the line being read and its number, whether a run is over, and whether input may follow.
 pub(crate) struct Play {
     pub board: Board,
     pub ports: [u8; 4],
     pub store: usize,
+    pub table: usize,
     pub reply: usize,
     pub row: Row,
     pub number: u64,
@@ -48,55 +56,58 @@ fn with_board(play: Play, board: Board) -> Play {
     next
 }
 
-fn lending(play: Play, store: usize, reply: usize) -> Play {
+fn lending(play: Play, store: usize, table: usize, reply: usize) -> Play {
     let mut next = play;
     next.store = store;
+    next.table = table;
     next.reply = reply;
     next
 }
 
 // A call was made: the next one is lent what is usual.
 pub(crate) fn called(play: Play, board: Board) -> Play {
-    lending(with_board(play, board), STORE, REPLY)
+    lending(with_board(play, board), STORE, TABLE, REPLY)
 }
 
 // A byte is received. The store is the first 16,384 bytes of the space. A store of another length is the first bytes of it too: a call
 // that refuses its store leaves it alone.
-fn hear(play: Play, byte: u8, reply: &mut [u8], space: &mut [u8]) -> Play {
+fn hear(play: Play, byte: u8, reply: &mut [u8], space: &mut [u8], table: &mut [u16]) -> Play {
     let board = play.board;
     let ports = play.ports;
     let n = within(play.store, space);
-    let heard = board.receive(byte, ports, &mut *reply, &mut space[0..n]);
+    let k = entries_of(play.table, table);
+    let heard = board.receive(byte, ports, &mut *reply, &mut space[0..n], &mut table[0..k]);
     show_heard(heard.refusal, reply, heard.len);
     let next = heard.board;
     called(play, next)
 }
 
-fn receive(play: Play, byte: u8, space: &mut [u8]) -> Play {
+fn receive(play: Play, byte: u8, space: &mut [u8], table: &mut [u16]) -> Play {
     if play.reply == REPLY {
         let mut usual = [0u8; 32];
-        return hear(play, byte, &mut usual, space);
+        return hear(play, byte, &mut usual, space, table);
     }
     let mut other = io::large_buffer();
     let n = within(play.reply, &other);
-    hear(play, byte, &mut other[0..n], space)
+    hear(play, byte, &mut other[0..n], space, table)
 }
 
-fn clock(play: Play, space: &[u8]) -> Play {
+fn clock(play: Play, space: &[u8], table: &[u16]) -> Play {
     let board = play.board;
     let n = within(play.store, space);
-    let ticked = board.clock(&space[0..n]);
+    let k = entries_of(play.table, table);
+    let ticked = board.clock(&space[0..n], &table[0..k]);
     let answer = ticked.answer;
     show_ticked(ticked.refusal, answer);
     let next = ticked.board;
     called(play, next)
 }
 
-fn clocks(start: Play, n: u32, space: &[u8]) -> Play {
+fn clocks(start: Play, n: u32, space: &[u8], table: &[u16]) -> Play {
     let mut play = start;
     let mut left = n;
     while 0 < left {
-        let next = clock(play, space);
+        let next = clock(play, space, table);
         play = next;
         left = left - 1;
     }
@@ -182,7 +193,7 @@ fn ended(play: Play) -> Play {
     next
 }
 
-// A line that makes no call and leaves the store's bytes.
+// A line that makes no call and leaves store and table.
 fn prepare(play: Play, letter: u8, row: Row) -> Play {
     let words = row.words;
     let n = word_of(words[1]);
@@ -191,48 +202,52 @@ fn prepare(play: Play, letter: u8, row: Row) -> Play {
         b'H' => set_field(play, row.name, words[2]),
         b'I' => set_ports(play, words),
         b'K' => set_held(play, words),
-        b'M' => lending(play, n as usize, play.reply),
+        b'M' => lending(play, n as usize, play.table, play.reply),
         b'N' => {
             show_mark(n);
             play
         }
-        b'R' => lending(play, play.store, n as usize),
+        b'R' => lending(play, play.store, play.table, n as usize),
         b'S' => {
             show_state(play.board);
             play
         }
+        b'U' => lending(play, play.store, n as usize, play.reply),
         _ => wrong(play),
     }
 }
 
 // One line.
-fn act(play: Play, row: Row, space: &mut [u8]) -> Play {
+fn act(play: Play, row: Row, space: &mut [u8], table: &mut [u16]) -> Play {
     let words = row.words;
     let n = word_of(words[1]);
     let letter = row.letter();
     match letter {
-        b'B' => receive(play, byte_of(words[1]), space),
-        b'C' => clocks(play, n, space),
+        b'B' => receive(play, byte_of(words[1]), space, table),
+        b'C' => clocks(play, n, space, table),
+        b'F' => fill(play, space, table),
         b'L' => list(play, space),
-        b'Q' => run(play, n, space),
+        b'Q' => run(play, n, space, table),
+        b'T' => enter(play, table, n as usize, half_of(words[2])),
+        b'V' => look(play, table, n as usize),
         b'W' => poke(play, space, n as usize, byte_of(words[2])),
         _ => prepare(play, letter, row),
     }
 }
 
 // The line that was read, and the next one begins.
-fn end_line(play: Play, space: &mut [u8]) -> Play {
+fn end_line(play: Play, space: &mut [u8], table: &mut [u16]) -> Play {
     let row = play.row;
-    let done = act(play, row.closed(), space);
+    let done = act(play, row.closed(), space, table);
     let mut next = done;
     next.row = Row::new();
     next.number = following(done.number);
     next
 }
 
-fn take_byte(play: Play, b: u8, space: &mut [u8]) -> Play {
+fn take_byte(play: Play, b: u8, space: &mut [u8], table: &mut [u16]) -> Play {
     if b == b'\n' {
-        return end_line(play, space);
+        return end_line(play, space, table);
     }
     let row = play.row;
     let mut next = play;
@@ -241,14 +256,14 @@ fn take_byte(play: Play, b: u8, space: &mut [u8]) -> Play {
 }
 
 // All bytes of a piece of input.
-fn take_all(start: Play, input: &[u8], space: &mut [u8]) -> Play {
+fn take_all(start: Play, input: &[u8], space: &mut [u8], table: &mut [u16]) -> Play {
     let mut play = start;
     let mut i = 0;
     while i < input.len() {
         if !play.more {
             return play;
         }
-        let next = take_byte(play, input[i], &mut *space);
+        let next = take_byte(play, input[i], &mut *space, &mut *table);
         play = next;
         i = i + 1;
     }
@@ -256,7 +271,7 @@ fn take_all(start: Play, input: &[u8], space: &mut [u8]) -> Play {
 }
 
 // One piece of input, or that no more follows.
-fn take_piece(play: Play, input: &mut [u8], space: &mut [u8]) -> Play {
+fn take_piece(play: Play, input: &mut [u8], space: &mut [u8], table: &mut [u16]) -> Play {
     let got = libc::read(STDIN_FILENO, &mut *input);
     let n = io::count(got, input);
     if n == 0 {
@@ -264,12 +279,12 @@ fn take_piece(play: Play, input: &mut [u8], space: &mut [u8]) -> Play {
         next.more = false;
         return next;
     }
-    take_all(play, &input[..n], space)
+    take_all(play, &input[..n], space, table)
 }
 
 // Everything that is read. A proved loop has to end, and nothing says that input does, so it counts its turns down from a number that no
 // run uses up.
-fn take_input(start: Play, space: &mut [u8]) -> Play {
+fn take_input(start: Play, space: &mut [u8], table: &mut [u16]) -> Play {
     let mut input = io::large_buffer();
     let mut play = start;
     let mut turns = u64::MAX;
@@ -277,7 +292,7 @@ fn take_input(start: Play, space: &mut [u8]) -> Play {
         if !play.more {
             return play;
         }
-        let next = take_piece(play, &mut input, &mut *space);
+        let next = take_piece(play, &mut input, &mut *space, &mut *table);
         play = next;
         turns = turns - 1;
     }
@@ -285,12 +300,12 @@ fn take_input(start: Play, space: &mut [u8]) -> Play {
 }
 
 // A last line without a line feed.
-fn finish(play: Play, space: &mut [u8]) {
+fn finish(play: Play, space: &mut [u8], table: &mut [u16]) {
     let row = play.row;
     if (row.fields == 0) & (row.packed == 0) {
         return;
     }
-    end_line(play, space);
+    end_line(play, space, table);
 }
 
 fn start() -> Play {
@@ -300,6 +315,7 @@ fn start() -> Play {
         board,
         ports: [0; 4],
         store: STORE,
+        table: TABLE,
         reply: REPLY,
         row,
         number: 1,
@@ -310,6 +326,7 @@ fn start() -> Play {
 
 fn main() {
     let mut space = io::large_buffer();
-    let end = take_input(start(), &mut space);
-    finish(end, &mut space);
+    let mut table = [0u16; 2000];
+    let end = take_input(start(), &mut space, &mut table);
+    finish(end, &mut space, &mut table);
 }

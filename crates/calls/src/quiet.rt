@@ -6,6 +6,7 @@ use crate::show::show_named;
 use crate::show::show_point;
 use crate::show::show_ticked;
 use crate::show::within;
+use crate::table::entries_of;
 use board::Board;
 use engine::Answer;
 use engine::Job;
@@ -89,12 +90,13 @@ fn show_over(over: bool) -> bool {
 }
 
 // One call of a run, and whether the run is over with it.
-fn step(play: Play, space: &[u8]) -> Play {
+fn step(play: Play, space: &[u8], table: &[u16]) -> Play {
     let board = play.board;
     let engine = board.engine;
     let before = engine.run;
     let n = within(play.store, space);
-    let ticked = board.clock(&space[0..n]);
+    let k = entries_of(play.table, table);
+    let ticked = board.clock(&space[0..n], &table[0..k]);
     let answer = ticked.answer;
     let next = ticked.board;
     let over = is_nothing(answer);
@@ -105,10 +107,11 @@ fn step(play: Play, space: &[u8]) -> Play {
 }
 
 // Whether a run that was not over in its calls is over now.
-fn looked(play: Play, space: &[u8]) -> Play {
+fn looked(play: Play, space: &[u8], table: &[u16]) -> Play {
     let board = play.board;
     let n = within(play.store, space);
-    let ticked = board.clock(&space[0..n]);
+    let k = entries_of(play.table, table);
+    let ticked = board.clock(&space[0..n], &table[0..k]);
     let answer = ticked.answer;
     let over = is_nothing(answer);
     let mut done = called(play, board);
@@ -117,23 +120,23 @@ fn looked(play: Play, space: &[u8]) -> Play {
 }
 
 // Clock calls until one answers nothing, at most so many.
-fn steps(start: Play, n: u32, space: &[u8]) -> Play {
+fn steps(start: Play, n: u32, space: &[u8], table: &[u16]) -> Play {
     let mut play = start;
     let mut left = n;
     while 0 < left {
-        let next = step(play, space);
+        let next = step(play, space, table);
         play = next;
         if play.over {
             return play;
         }
         left = left - 1;
     }
-    looked(play, space)
+    looked(play, space, table)
 }
 
 // The calls of `Q`, and whether they were enough.
-pub(crate) fn run(play: Play, n: u32, space: &[u8]) -> Play {
-    let done = steps(play, n, space);
+pub(crate) fn run(play: Play, n: u32, space: &[u8], table: &[u16]) -> Play {
+    let done = steps(play, n, space, table);
     show_over(done.over);
     done
 }

@@ -179,6 +179,19 @@ pub(crate) fn show_listing(refusal: u16, text: &[u8], n: usize) -> bool {
     }
 }
 
+// A filling of the table: its refusal, or 0.
+pub(crate) fn show_filled(refusal: u16) -> bool {
+    if refusal == 71 {
+        return io::write_all(STDOUT_FILENO, b"F G\n");
+    }
+    show_with(b"F ", refusal as u32)
+}
+
+// An entry of the table.
+pub(crate) fn show_value(start: u16) -> bool {
+    show_with(b"V ", start as u32)
+}
+
 pub(crate) fn show_job(job: Job) -> bool {
     match job {
         Job::Idle => io::write_all(STDOUT_FILENO, b" job Idle"),

@@ -5,10 +5,10 @@ use Rattle.calls.proofs.clocks.Statement.{statement}
 use Rattle.calls.proofs.clocks.Tie as tie
 
 abbrev Inv-loop : tie.InvT-loop
-Inv-loop n space play₀ left₀ play left = 0 ≤ left
+Inv-loop n space table play₀ left₀ play left = 0 ≤ left
 
 abbrev μ-loop : tie.MeasureT-loop
-μ-loop n space play₀ left₀ play left = left
+μ-loop n space table play₀ left₀ play left = left
 
 loop-holds : tie.Need-loop-holds Inv-loop μ-loop
 loop-holds c = search needs

@@ -1,8 +1,8 @@
--- The calls with their refusals (01, "Calls"; 02 §6): 101, 102, 103, 104 in this order; a refused call returns the state given, with no reply or the
--- answer nothing, and writes to no buffer.
+-- The calls with their refusals (01, "Calls"; 02 §6): 101, 102, 103, 104 in this order; a refused call returns the state given, with no
+-- reply or the answer nothing, and writes to no buffer.
 use Prim.Native.Nat.{ℕ}
-use mathlib.Core.Bool.{Bool, true, false, not}
-use mathlib.Core.List.{List, [], _∷_, _++_}
+use mathlib.Core.Bool.{false, not}
+use mathlib.Core.List.{List, _++_}
 use lib.Dec.{ltb, eqb}
 use lib.IntN.{ℤ, pos}
 use lib.ListN.{length, drop}
@@ -11,7 +11,6 @@ use Rattle.count.specs.Pick.{pick}
 use Rattle.count.specs.Numbers.{full, value}
 use Rattle.motion.specs.declared.Counters.{Counters}
 use Rattle.motion.specs.Next.{pulseOf}
-use Rattle.record.specs.declared.Listed.{Listed}
 use Rattle.record.specs.Memory.{Memory, storeFits, tableFits}
 use Rattle.record.specs.Table.{fetchOf}
 use Rattle.record.specs.Listing.{Telling, telling, listOf}

@@ -1,7 +1,7 @@
 -- The board's state, what a byte comes to, and the test of 103 (01, "Calls").
 use Prim.Native.Nat.{ℕ, _+_}
 use mathlib.Core.Bool.{Bool, true, false, _&&_}
-use mathlib.Core.List.{List, [], _∷_}
+use mathlib.Core.List.{List}
 use lib.Dec.{leb, ltb}
 use lib.ListN.{take, set, replicate}
 use Rattle.count.specs.Sizes.{lineBytes}

@@ -1,23 +1,20 @@
 -- The outcomes of `run`, case by case. Assumes nothing.
 use Prim.Native.Nat.{ℕ}
-use mathlib.Core.Path.{_≡_, refl, ap, sym, _∙_}
+use mathlib.Core.Path.{_≡_, ap, sym, _∙_}
 use mathlib.Core.Bool.{Bool, true, false, not}
-use mathlib.Core.List.{List, [], _++_}
-use lib.Dec.{eqb}
-use lib.ListN.{length, drop}
+use mathlib.Core.List.{List}
+use lib.ListN.{length}
 use borrow.Author.Tests.{eq-eqb, ne-eqb}
-use Rattle.count.specs.Pick.{pick}
 use Rattle.record.specs.Memory.{Memory, RightMemory}
 use Rattle.engine.specs.declared.Engine.{Engine}
 use Rattle.board.specs.declared.Board.{Board}
 use Rattle.board.specs.State.{sound}
-use Rattle.course.specs.declared.Ran.{Ran}
 use Rattle.course.specs.declared.Went.{Went}
 use Rattle.course.specs.Run.{runsNow, Course, course, allowed, RunOutcome, didRun, ran, runOutcome}
 use Rattle.course.specs.work.Work.{stood}
-use Rattle.course.specs.work.Machine.{Left, Way, leftBy}
+use Rattle.course.specs.work.Machine.{Left, leftBy}
 use Rattle.course.specs.work.Going.{goWay, wentOf}
-use Rattle.course.proofs.laws.Boards.{withEngine, onBoard, course-is-go, stands}
+use Rattle.course.proofs.laws.Boards.{withEngine, course-is-go, stands}
 
 module _ (limit : ℕ) (b : Board) (m : Memory) (out : List ℕ) where
   pub refused-102 : (length (m .store) ≡ 16384 → ⊥) → didRun (stood 102 b) out ≡ runOutcome limit b m out

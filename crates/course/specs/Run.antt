@@ -7,7 +7,6 @@ use Rattle.count.specs.Pick.{pick}
 use Rattle.record.specs.Memory.{Memory, storeFits, tableFits}
 use Rattle.engine.specs.Tick.{runsOf}
 use Rattle.board.specs.declared.Board.{Board}
-use Rattle.board.specs.declared.Ticked.{Ticked}
 use Rattle.board.specs.State.{sound}
 use Rattle.board.specs.Calls.{clocking}
 use Rattle.course.specs.declared.Ran.{Ran}

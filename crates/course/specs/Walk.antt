@@ -9,7 +9,7 @@ use Rattle.count.specs.Pick.{pick}
 use Rattle.count.specs.Text.{Written, wrote}
 use Rattle.record.specs.Memory.{Memory, memory, storeFits, tableFits}
 use Rattle.board.specs.declared.Board.{Board}
-use Rattle.board.specs.State.{Said, sound}
+use Rattle.board.specs.State.{sound}
 use Rattle.board.specs.Receive.{hearing}
 use Rattle.board.specs.Calls.{fresh}
 use Rattle.course.specs.declared.Walk.{Walk}

@@ -1,9 +1,8 @@
 // A run of clock calls on a board, with its refusals.
 ghost use mathlib.Core.Path.{_≡_};
 ghost use Prim.Native.Nat.{_/_, min};
-ghost use lib.ListN.{length};
 ghost use Rattle.record.specs.Memory.{memory};
-ghost use Rattle.course.specs.Run.{runsNow, allowed, didRun, runOutcome};
+ghost use Rattle.course.specs.Run.{runsNow, didRun, runOutcome};
 ghost use Rattle.course.specs.work.Work.{stood};
 use super::Ran;
 use super::going::go;

@@ -16,9 +16,8 @@ use Rattle.board.proofs.Board.clock.Kinds as clockKinds
 use Rattle.board.proofs.Board.clock.Reads as clock
 use Rattle.record.specs.Memory.{Memory}
 use Rattle.board.specs.declared.Board.{Board}
-use Rattle.board.specs.declared.Received.{Received}
 use Rattle.board.specs.declared.Ticked.{Ticked}
-use Rattle.board.specs.Calls.{Lent, Outcome, did, receiving, clocking}
+use Rattle.board.specs.Calls.{Lent, Outcome, receiving, clocking}
 use Rattle.promise.specs.Machine.{Event, byte as heard, clock as timed}
 
 -- ---- what a contract allows of one call

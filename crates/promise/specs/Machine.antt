@@ -1,16 +1,15 @@
 -- A machine: anything that hears bytes and clock calls and that a host can read as a board. The demands speak of any machine; ours is
 -- the one that the definitions of the board and of its runs make.
-use Prim.Native.Nat.{ℕ, _+_}
+use Prim.Native.Nat.{ℕ}
 use mathlib.Core.List.{List, [], _∷_}
 use Rattle.count.specs.Paper.{Paper}
 use Rattle.engine.specs.State.{paper}
 use Rattle.record.specs.Memory.{Memory}
 use Rattle.record.specs.Listing.{Telling}
 use Rattle.board.specs.declared.Board.{Board}
-use Rattle.board.specs.declared.Received.{Received}
 use Rattle.board.specs.declared.Ticked.{Ticked}
 use Rattle.board.specs.Calls.{Lent, Outcome, receiving, clocking, listing, fresh}
-use Rattle.course.specs.Run.{Course, course}
+use Rattle.course.specs.Run.{course}
 
 -- what hearing a byte comes to beside the next state: the length of the reply, the refusal's number or 0, and what was lent afterwards
 pub record Heard : Type 0 where

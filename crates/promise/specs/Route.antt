@@ -29,7 +29,7 @@ use Rattle.board.specs.Calls.{Lent}
 use Rattle.promise.specs.Machine.{Machine, Event, afterAll}
 use Rattle.promise.specs.Demands.{idles}
 use Rattle.promise.specs.Steps.{Each}
-use Rattle.promise.specs.Stop.{Step, Lending, receive, call, Elsewhere, isOwn, rests, Place, boardAt, ahead}
+use Rattle.promise.specs.Stop.{Step, receive, call, Elsewhere, isOwn, rests, Place, boardAt, ahead}
 
 -- the one memory is altered by nobody else
 abbrev pub Alone : Step → Type 0

@@ -1,7 +1,7 @@
 -- Storing a record (01, "Lines", reply 6; "Calls", the paragraph under the table; 02 §6): it is written at the end of the part in use, its
 -- start into its entry of the table, and nothing else changes; reply 6 if it would exceed 1,000 records or 16,384 bytes.
 use Prim.Native.Nat.{ℕ, _+_}
-use mathlib.Core.List.{List, _++_}
+use mathlib.Core.List.{_++_}
 use mathlib.Core.Bool.{Bool, true, false, _&&_}
 use lib.ListN.{length, take, drop, set}
 use lib.Dec.{leb}

@@ -17,7 +17,7 @@ use Rattle.board.specs.State.{Said}
 use Rattle.board.specs.Receive.{hearing}
 use Rattle.course.specs.declared.Walk.{Walk}
 use Rattle.course.specs.Text.{replyText}
-use Rattle.course.specs.Run.{runsNow, Course, noCalls, course, allowed}
+use Rattle.course.specs.Run.{runsNow, Course, course, allowed}
 use Rattle.course.specs.Walk.{noPorts, most, Done, done, walk, further, ready, nextDone, onDone}
 use Rattle.course.proofs.Portions.{ready-parts, went-on}
 use Rattle.course.proofs.Bytes.{went-next}

@@ -1,18 +1,15 @@
 -- Portions compose: two runs in a row are one run of the sum of what each was allowed, and the portions of a walk end to end are the
 -- whole output, whatever the buffers' lengths. Assumes nothing.
-use Prim.Native.Nat.{ℕ, zero, suc, _+_, _-_, _≤_, _<_, min}
+use Prim.Native.Nat.{ℕ, zero, suc, _+_, _-_, _≤_}
 use mathlib.Core.Path.{_≡_, refl, sym, ap, _∙_}
-use mathlib.Core.Bool.{Bool, true, false, not, _&&_}
-use mathlib.Core.List.{List, [], _∷_, _++_, append-assoc, append-nil}
+use mathlib.Core.Bool.{Bool, true, false}
+use mathlib.Core.List.{List, _++_, append-assoc}
 use native.Mathlib.Omega.{arith}
-use lib.ListN.{length, drop}
-use Rattle.count.specs.Pick.{pick}
 use Rattle.record.specs.Memory.{Memory}
 use Rattle.board.specs.declared.Board.{Board}
-use Rattle.board.specs.Calls.{clocking, fresh}
-use Rattle.course.specs.declared.Walk.{Walk}
-use Rattle.course.specs.Text.{answerText, replyText, headText, limitText, endText}
-use Rattle.course.specs.Run.{runsNow, Course, noCalls, then, course, allowed}
+use Rattle.board.specs.Calls.{clocking}
+use Rattle.course.specs.Text.{answerText}
+use Rattle.course.specs.Run.{runsNow, Course, noCalls, then, course}
 
 -- one run and another that goes on from it
 abbrev pub joins : Course → Course → Course

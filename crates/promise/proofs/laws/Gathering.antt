@@ -20,7 +20,7 @@ use Rattle.board.proofs.laws.Fair.{line-sound}
 use Rattle.promise.specs.Machine.{ours}
 use Rattle.promise.specs.Demands.{idles, stores, waits, ticks, Host, Sent, after, sent}
 use Rattle.promise.specs.Steps.{Each}
-use Rattle.promise.specs.Spaces.{Gathers, silence}
+use Rattle.promise.specs.Spaces.{Gathers}
 use Rattle.promise.proofs.laws.KeepsCalls.{isRight, right-store, right-table, right-is, keeps-quiet}
 
 -- ---- one byte

@@ -29,7 +29,7 @@ use Rattle.board.specs.declared.Board.{Board}
 use Rattle.board.specs.State.{board, textOf, gathered, withLine, Said, said, sound}
 use Rattle.board.specs.Direct.{directSaid}
 use Rattle.board.specs.Storing.{storedBy, storedSaid}
-use Rattle.board.specs.Receive.{earBy, earOf, isStoring, returned, gathering, ordinary, hearing}
+use Rattle.board.specs.Receive.{earBy, earOf, isStoring, returned, gathering, hearing}
 use Rattle.board.proofs.laws.Hears.{sound-engine}
 use Rattle.promise.specs.Machine.{ours}
 use Rattle.promise.specs.Demands.{isIdle, idles, stores, ticks, Host, Sent, after, sent}

@@ -17,14 +17,13 @@ use Rattle.engine.specs.State.{ceased, resetOf, heard}
 use Rattle.board.specs.declared.Line.{Line}
 use Rattle.board.specs.declared.Board.{Board}
 use Rattle.board.specs.declared.Ticked.{Ticked}
-use Rattle.board.specs.State.{board, noLine, sound, Said, said}
+use Rattle.board.specs.State.{board, noLine, Said, said}
 use Rattle.board.specs.Receive.{holdsBy, endsBy, earBy, earOf, stopped, broken, resetSaid, ordinary, gathering, hearing}
 use Rattle.board.specs.Calls.{clocking, fresh}
-use Rattle.board.proofs.laws.Laws.{fresh-sound, hearing-sound, clocking-sound}
 use Rattle.promise.specs.Machine.{ours, Event, next, afterAll}
 use Rattle.promise.specs.Stop.{call, own, restsBy, rests, RunsClear}
 use Rattle.promise.proofs.laws.KeepsCalls.{by-call}
-use Rattle.promise.proofs.laws.KeepsOn.{event-kept, all-kept, all-sound}
+use Rattle.promise.proofs.laws.KeepsOn.{event-kept, all-kept}
 use Rattle.promise.proofs.laws.StopBoard.{Clear, ClearIf, Fit, clear-of, Held, left, held-byte}
 use Rattle.promise.proofs.laws.StopQuiet.{quiet-byte}
 use Rattle.promise.proofs.laws.StopOne.{one}

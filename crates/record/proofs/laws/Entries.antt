@@ -2,24 +2,20 @@
 use Prim.Native.Nat.{ℕ, zero, suc, _+_, _-_, _<_, _≤_}
 use mathlib.Core.Path.{_≡_, refl, ap, sym, _∙_}
 use mathlib.Core.List.{List, [], _∷_, _++_}
-use mathlib.Core.Bool.{Bool, true, false, _&&_}
-use native.Mathlib.Numerals.{sub-one, add-one}
+use mathlib.Core.Bool.{Bool, true, false}
 use native.Mathlib.Omega.{arith}
 use borrow.Author.Tests.{ltb-true, ltb-false}
 use lib.Dec.{ltb}
-use lib.ListN.{length, getD, take, drop, set, length-append, length-set, length-drop, List·getD-append}
-use lib.Seq.{length-take-le, take-all, drop-drop, drop-cons, getD-set-same, getD-set-other, paste}
-use Rattle.count.proofs.laws.Lists.{rest}
+use lib.ListN.{length, getD, drop, set, length-append, length-set, length-drop, List·getD-append}
+use lib.Seq.{length-take-le, getD-set-same, getD-set-other}
 use Rattle.record.specs.declared.Held.{Held}
 use Rattle.record.specs.declared.Record.{Record}
-use Rattle.record.specs.declared.Fetched.{Fetched}
 use Rattle.record.specs.declared.Spot.the-variants as spot
 use Rattle.record.specs.Memory.{Memory, memory}
-use Rattle.record.specs.Bytes.{Fetch, Got, End, Wrong, Below, lengthOf, front}
-use Rattle.record.specs.Places.{inUse, answered, Records, are, none-are, onto, then, recordsFrom, recordsOf, isList}
+use Rattle.record.specs.Bytes.{Below, lengthOf}
+use Rattle.record.specs.Places.{inUse, Records, are, recordsOf}
 use Rattle.record.specs.Table.{TableTrue, startsFrom, startsOf, filled}
 use Rattle.record.specs.Keep.{storeOf}
-use Rattle.record.specs.work.Writing.{listIn}
 use Rattle.record.proofs.laws.Right.{RightOne}
 use Rattle.record.proofs.laws.Stored.{readable-list, stored-list}
 use Rattle.record.proofs.laws.Tables.{startOf, walk-is-start, start-end}

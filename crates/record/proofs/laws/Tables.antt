@@ -2,27 +2,26 @@
 -- front. The table is true of an empty store, after every stored record, and once it is filled (02 §6). Assumes nothing.
 use Prim.Native.Nat.{ℕ, zero, suc, _+_, _-_, _<_, _≤_}
 use mathlib.Core.Path.{_≡_, refl, ap, sym, _∙_}
-use mathlib.Core.List.{List, [], _∷_, _++_}
+use mathlib.Core.List.{List, [], _∷_}
 use mathlib.Core.Bool.{Bool, true, false}
 use native.Mathlib.Omega.{arith}
 use borrow.Author.Tests.{lt-ltb, le-ltb, ltb-true, ltb-false, eq-eqb, ne-eqb, eqb-true, eqb-false}
 use lib.Dec.{ltb, eqb}
-use lib.ListN.{length, getD, take, drop, set, length-append, length-set, List·getD-append}
-use lib.Seq.{length-take-le, drop-drop, getD-set-same, getD-set-other}
+use lib.ListN.{length, getD, drop}
+use lib.Seq.{drop-drop}
 use Rattle.count.specs.Pick.{pick}
 use Rattle.record.specs.declared.Held.{Held}
 use Rattle.record.specs.declared.Record.{Record}
 use Rattle.record.specs.declared.Spot.{Spot}
 use Rattle.record.specs.declared.Spot.the-variants as spot
-use Rattle.record.specs.Memory.{Memory, memory}
-use Rattle.record.specs.Bytes.{Fetch, Got, End, Wrong, Below, made, encode, lengthOf, front}
-use Rattle.record.specs.Places.{inUse, recordAt, past, spotFrom, walkTo, Records, are, none-are, onto, then, recordsFrom, recordsOf, isList, readableOf, encodeAll}
-use Rattle.record.specs.Table.{entryAt, spotOf, recordFrom, fetchOf, TableTrue, startsFrom, startsOf, filled}
-use Rattle.record.specs.Keep.{storeOf}
+use Rattle.record.specs.Memory.{Memory}
+use Rattle.record.specs.Bytes.{Fetch, Got, End, Wrong, Below, made, lengthOf, front}
+use Rattle.record.specs.Places.{inUse, recordAt, past, spotFrom, walkTo, Records, are, none-are, onto, then, recordsFrom, recordsOf, isList, readableOf}
+use Rattle.record.specs.Table.{entryAt, spotOf, recordFrom, fetchOf, TableTrue}
 use Rattle.record.proofs.laws.Below.{below-take, below-drop}
-use Rattle.record.proofs.laws.Right.{RightOne, right-long, front-right-one}
+use Rattle.record.proofs.laws.Right.{RightOne, front-right-one}
 use Rattle.record.proofs.laws.Walk.{endsAt, list-walk}
-use Rattle.record.proofs.laws.Stored.{AllRight, Reading, Appended, readable-list, stored-list}
+use Rattle.record.proofs.laws.Stored.{AllRight}
 
 -- ---- a place of a readable store is an element of its list
 

@@ -5,15 +5,18 @@ use mathlib.Core.Path.{_≡_}
 use mathlib.Core.Bool.{true}
 use mathlib.Core.List.{List}
 use Rattle.record.specs.declared.Held.{Held}
+use Rattle.record.specs.declared.Record.{Record}
 use Rattle.record.specs.Memory.{Memory, memory, RightMemory}
 use Rattle.record.specs.Bytes.{Below}
-use Rattle.record.specs.Places.{walkTo, readableOf}
+use Rattle.record.specs.Places.{walkTo, recordsOf, readableOf}
+use Rattle.record.specs.Places.Records.{are}
 use Rattle.record.specs.Table.{spotOf, TableTrue, fillOf}
+use Rattle.program.specs.Program.{accepted}
 use Rattle.board.specs.Calls.{lent}
 use Rattle.promise.specs.Machine.{Machine}
 use Rattle.promise.specs.Steps.{Each, reached, Along}
 use Rattle.promise.specs.Stop.{Step, boardAt, last}
-use Rattle.promise.specs.Route.{Alone}
+use Rattle.promise.specs.Route.{Alone, visits, Route, Started}
 use Rattle.promise.specs.Join.{Joiner}
 
 -- the part in use, and the memory that holds it
@@ -61,5 +64,11 @@ module _ (m : Machine) (join : Joiner) where
     -- from the first state on, whatever bytes and clock calls come, and however they are lent
     pub steps : (mem : Memory) (es : List Step) → RightMemory mem → Below 256 (mem .store) → Each Alone es
         → Kept (part (boardAt m (last m (m .first, mem) es) .engine .held) (last m (m .first, mem) es .1))
+    -- so an accepted program that is then started goes its route, and its table need not be asked for
+    pub routes : (mem : Memory) (es fs : List Step) (l : List Record) → RightMemory mem → Below 256 (mem .store) → Each Alone es → Each Alone fs
+        → Started m (boardAt m (last m (m .first, mem) es) .engine .held) (last m (m .first, mem) es)
+        → accepted (boardAt m (last m (m .first, mem) es) .engine .held) (last m (m .first, mem) es .1 .store) ≡ true
+        → recordsOf (boardAt m (last m (m .first, mem) es) .engine .held) (last m (m .first, mem) es .1 .store) ≡ are l
+        → Route l (visits m (last m (m .first, mem) es) fs)
     -- FINDING BY THE TABLE IS THE WALK, for every place and the end place
     pub finds : (p : Part) → Kept p → (place : ℕ) → spotOf (p .held) (p .memory) place ≡ walkTo (p .held) (p .memory .store) place

@@ -38,6 +38,7 @@ use Rattle.promise.specs.Steps.{Each, reached, Along}
 use Rattle.promise.specs.Stop.{Step, receive, call, own, other, Place, ahead, last}
 use Rattle.promise.specs.Route.{Alone}
 use Rattle.promise.specs.Table.{Part, part, Kept, Use, hears, ticks, joins, after, Fitting, TableRequested}
+use Rattle.promise.proofs.laws.RouteSteps.{ours-routes}
 use Rattle.promise.proofs.laws.KeepsCalls.{fits-right, calm, kept, by-call, elsewhere-byte, elsewhere-call}
 use Rattle.promise.proofs.laws.KeepsStored.{none-kept, byte-on}
 
@@ -160,11 +161,15 @@ unfolding reached
 steps-kept q [] k a = k
 steps-kept q (e ∷ es) k (a, rest) = steps-kept (ahead ours q e) es (step-kept q e k a) rest
 
+from-first : (mem : Memory) (es : List Step) → RightMemory mem → Below 256 (mem .store) → Each Alone es → At (last ours (fresh, mem) es)
+from-first mem es n b a = steps-kept (fresh, mem) es (none-kept nothingHeld mem refl refl n b) a
+
 pub ours-table : TableRequested ours joinOf
 ours-table = record {
   first = λ mem n b. none-kept nothingHeld mem refl refl n b;
   filled = filled-kept;
   history = history-kept;
-  steps = λ mem es n b a. steps-kept (fresh, mem) es (none-kept nothingHeld mem refl refl n b) a;
+  steps = from-first;
+  routes = λ mem es fs l n b a c s acc recs. ours-routes _ l (last ours (fresh, mem) es) fs s acc recs (from-first mem es n b a .table) c;
   finds = λ p k place. find-is-walk (p .held) (p .memory) (k .readable) (k .table) place;
 }

@@ -12,7 +12,9 @@ use Rattle.count.proofs.laws.Truth.{never, and-parts, and-false}
 use Rattle.record.specs.declared.Held.{Held}
 use Rattle.record.specs.declared.Record.{Record}
 use Rattle.record.specs.Bytes.{Fetch, Got, End, Wrong, front, lengthOf, isRight}
-use Rattle.record.specs.Places.{inUse, Records, are, none-are, onto, then, recordsFrom, recordsOf}
+use Rattle.record.specs.work.Writing.{listIn}
+use Rattle.record.proofs.laws.Fills.{counts}
+use Rattle.record.specs.Places.{inUse, Records, are, none-are, onto, then, recordsFrom, recordsOf, isList}
 use Rattle.record.proofs.laws.Walk.{front-stands}
 use Rattle.program.specs.declared.Verdict.the-variants.{Sound}
 use Rattle.program.specs.Program.{recordIn, verdictOn, verdictOf, isSound, passes, axesSet, sized, passing, accepted}
@@ -49,29 +51,9 @@ sound-accepted h s a u l v = computed h s a u l ∙ ap isSound v
 
 -- ---- a readable store has as many records as it says
 
-abbrev Counted : ℕ → Records → Type 0
-Counted k (are l) = length l ≡ k
-Counted k none-are = Unit
-
-counted-onto : (k : ℕ) (r : Record) (x : Records) → Counted k x → Counted (suc k) (onto r x)
-counted-onto k r (are l) e = ap suc e
-counted-onto k r none-are e = tt
-
-counted-then : (axes k : ℕ) (s : List ℕ) (x : Fetch) → ((t : List ℕ) → Counted k (recordsFrom axes k t))
-    → Counted (suc k) (then x (λ r. recordsFrom axes k (drop (lengthOf r) s)))
-counted-then axes k s (Got r) f = counted-onto k r (recordsFrom axes k (drop (lengthOf r) s)) (f (drop (lengthOf r) s))
-counted-then axes k s End f = tt
-counted-then axes k s Wrong f = tt
-
-counted : (axes k : ℕ) (s : List ℕ) → Counted k (recordsFrom axes k s)
-unfolding recordsFrom
-counted axes zero [] = refl
-counted axes zero (b ∷ s) = tt
-counted axes (suc k) s = counted-then axes k s (front axes s) (counted axes k)
-
 pub records-count : (h : Held) (s : List ℕ) (l : List Record) → recordsOf h s ≡ are l → length l ≡ h .records
 unfolding recordsOf
-records-count h s l e = subst (Counted (h .records)) e (counted (h .axes) (h .records) (inUse h s))
+records-count h s l e = sym (ap (λ (x : Records). length (listIn x)) e) ∙ counts (h .axes) (h .records) (inUse h s) (ap isList e)
 
 -- ---- every record of a readable store is right
 

@@ -18,12 +18,9 @@ use Rattle.record.specs.Table.{TableTrue, startsFrom, startsOf, filled}
 use Rattle.record.specs.Keep.{storeOf}
 use Rattle.record.proofs.laws.Right.{RightOne}
 use Rattle.record.proofs.laws.Stored.{readable-list, stored-list}
-use Rattle.record.proofs.laws.Tables.{startOf, walk-is-start, start-end}
+use Rattle.record.proofs.laws.Tables.{startOf, at-of, walk-is-start, start-end}
 
 -- ---- of a readable store: entry i is the bytes of the records before it
-
-at-of : (a n : ℕ) → spot.At a ≡ spot.At n → a ≡ n
-at-of a n e = cc
 
 module _ (h : Held) (m : Memory) (l : List Record) (e : recordsOf h (m .store) ≡ are l) where
   pub true-starts : TableTrue h m → (i : ℕ) → i < h .records → getD (m .table) i 0 ≡ startOf l i

@@ -102,7 +102,8 @@ count-by axes k s (Got r) e f = onto-count r k (recordsFrom axes k (drop (length
 count-by axes k s End e f = absurd (let z : _≡_ {A = ℕ} 0 1 = cc in omega arith)
 count-by axes k s Wrong e f = absurd (let z : _≡_ {A = ℕ} 0 1 = cc in omega arith)
 
-counts : (axes k : ℕ) (s : List ℕ) → isList (recordsFrom axes k s) ≡ true → length (listIn (recordsFrom axes k s)) ≡ k
+-- a readable part has as many records as it says
+pub counts : (axes k : ℕ) (s : List ℕ) → isList (recordsFrom axes k s) ≡ true → length (listIn (recordsFrom axes k s)) ≡ k
 unfolding recordsFrom
 counts axes zero [] e = refl
 counts axes zero (x ∷ s) e = absurd (let z : _≡_ {A = ℕ} 0 1 = cc in omega arith)

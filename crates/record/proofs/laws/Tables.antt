@@ -96,7 +96,7 @@ right-element axes (r ∷ l) (suc place) g h = right-element axes l place (g .1)
 
 -- ---- the walk to a place of a readable store
 
-at-of : (a n : ℕ) → spot.At a ≡ spot.At n → a ≡ n
+pub at-of : (a n : ℕ) → spot.At a ≡ spot.At n → a ≡ n
 at-of a n e = cc
 
 ends-so : (x : Spot) (n : ℕ) → true ≡ endsAt n x → x ≡ spot.At n

@@ -1,5 +1,5 @@
 -- The places of a readable store: where each record starts, what stands there, and that finding one by a true table is the walk from the
--- front. The table is true of an empty store, after every stored record, and once it is filled (02 §6). Assumes nothing.
+-- front. When the table is true is said in Entries. Assumes nothing.
 use Prim.Native.Nat.{ℕ, zero, suc, _+_, _-_, _<_, _≤_}
 use mathlib.Core.Path.{_≡_, refl, ap, sym, _∙_}
 use mathlib.Core.List.{List, [], _∷_}
@@ -21,7 +21,6 @@ use Rattle.record.specs.Table.{entryAt, spotOf, recordFrom, fetchOf, Tab
 use Rattle.record.proofs.laws.Below.{below-take, below-drop}
 use Rattle.record.proofs.laws.Right.{RightOne, front-right-one}
 use Rattle.record.proofs.laws.Walk.{endsAt, list-walk}
-use Rattle.record.proofs.laws.Stored.{AllRight}
 
 -- ---- a place of a readable store is an element of its list
 
@@ -88,11 +87,6 @@ walk-start axes k s at zero l h e = ap (λ (n : ℕ). spot.At n) (omega arith)
 walk-start axes zero s at (suc p) l h e = absurd (omega arith)
 walk-start axes (suc k) s at (suc p) l h e =
     start-by axes k s at p (front axes (drop at s)) l e (λ a m. walk-start axes k s a p m (omega arith))
-
-pub right-element : (axes : ℕ) (l : List Record) (place : ℕ) → AllRight axes l → place < length l → RightOne axes (element l place)
-right-element axes [] place g h = absurd (omega arith)
-right-element axes (r ∷ l) zero g h = g .0
-right-element axes (r ∷ l) (suc place) g h = right-element axes l place (g .1) (omega arith)
 
 -- ---- the walk to a place of a readable store
 

@@ -1,5 +1,5 @@
--- The ranges that lines and records ask of their numbers (01, "Lines": both tables and the paragraph under the second).
-use mathlib.Core.Bool.{Bool, true, false, _&&_}
+-- The ranges that lines and records ask of their numbers (01, "Lines": both tables and the paragraph under the second; 02, §3 for circles).
+use mathlib.Core.Bool.{Bool, true, false, not, _&&_, _||_}
 use mathlib.Core.List.{List}
 use Prim.Native.Nat.{ℕ, _/_, _%_}
 use lib.Dec.{eqb}
@@ -83,3 +83,32 @@ rightSpeeds axes l =
     pick (eqb axes 1) (inSpeed (nth l 1))
     (pick (eqb axes 3) (inSpeed (nth l 1) && inSpeed (nth l 3))
     (pick (eqb axes 7) (inSpeed (nth l 1) && inSpeed (nth l 3) && inSpeed (nth l 5) && inSpeed (nth l 7)) false))
+
+-- ---- the numbers of circles (02, §3, sentences 1, 2, 8 and 10, and the refusals)
+
+-- a plane: 0 to 2
+unfoldable pub inPlane : ℤ → Bool
+inPlane z = within (pos 0) (pos 2) z
+
+-- a direction: 0 or -1
+unfoldable pub inDirection : ℤ → Bool
+inDirection z = within (negsuc 0) (pos 0) z
+
+-- an arc length: 0 to 8,388,607
+unfoldable pub inArc : ℤ → Bool
+inArc z = within (pos 0) (pos 8388607) z
+
+-- a start: -4,000,000 to 4,000,000
+unfoldable pub inStart : ℤ → Bool
+inStart z = within (negsuc 3999999) (pos 4000000) z
+
+-- which way an axis goes: 1 or -1
+unfoldable pub inWay : ℤ → Bool
+inWay z = within (pos 1) (pos 1) z || within (negsuc 0) (negsuc 0) z
+
+-- arc length, speed, D, the start on both axes and their two ways: each in its range, and the start not at the centre
+unfoldable pub rightArc : List ℕ → Bool
+rightArc l =
+    inArc (nth l 0) && in24 (nth l 2)
+    && (inStart (nth l 3) && inStart (nth l 4) && not (inZero (nth l 3) && inZero (nth l 4)))
+    && (inWay (nth l 5) && inWay (nth l 6))

@@ -1,7 +1,7 @@
 // The ranges that lines and records ask of a number, each on a word.
 ghost use mathlib.Core.Path.{_≡_};
 ghost use Rattle.count.specs.Numbers.{signed, in24};
-ghost use Rattle.count.specs.Ranges.{inSpeed, inOffset, inBack, inLoop, inDelay, inCharacter, inSwitch, inPort, inByte, inZero};
+ghost use Rattle.count.specs.Ranges.{inSpeed, inOffset, inBack, inLoop, inDelay, inCharacter, inSwitch, inPort, inByte, inZero, inPlane, inDirection, inArc, inStart, inWay};
 
 pub fn is_24(w: u32) -> bool
     ensures { λ r. ⌜ r ≡ in24 (signed w) ⌝ }
@@ -67,4 +67,34 @@ pub fn is_zero(w: u32) -> bool
     ensures { λ r. ⌜ r ≡ inZero (signed w) ⌝ }
 {
     w <= 0
+}
+
+pub fn is_plane(w: u32) -> bool
+    ensures { λ r. ⌜ r ≡ inPlane (signed w) ⌝ }
+{
+    w <= 2
+}
+
+pub fn is_direction(w: u32) -> bool
+    ensures { λ r. ⌜ r ≡ inDirection (signed w) ⌝ }
+{
+    (w <= 0) | (4294967295 <= w)
+}
+
+pub fn is_arc(w: u32) -> bool
+    ensures { λ r. ⌜ r ≡ inArc (signed w) ⌝ }
+{
+    w <= 8388607
+}
+
+pub fn is_start(w: u32) -> bool
+    ensures { λ r. ⌜ r ≡ inStart (signed w) ⌝ }
+{
+    (w <= 4000000) | (4290967296 <= w)
+}
+
+pub fn is_way(w: u32) -> bool
+    ensures { λ r. ⌜ r ≡ inWay (signed w) ⌝ }
+{
+    ((1 <= w) & (w <= 1)) | (4294967295 <= w)
 }

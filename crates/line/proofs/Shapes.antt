@@ -85,6 +85,9 @@ by-letter letter.Output b s = refl
 by-letter letter.Store b s = refl
 by-letter letter.Empty b s = refl
 by-letter letter.Start b s = refl
+by-letter letter.Plane b s = refl
+by-letter letter.Direction b s = refl
+by-letter letter.Circle b s = refl
 
 -- ---- a line while storing
 

@@ -1,4 +1,4 @@
--- The shape of a line (01, "Lines": paragraph 1, the table of lines, and the paragraph under it).
+-- The shape of a line (01, "Lines": paragraph 1, the table of lines, and the paragraph under it; 02, §3 for e, f and y).
 use Prim.Native.Nat.{ℕ}
 use mathlib.Core.List.{List, [], _∷_, map}
 use lib.ListN.{length}
@@ -32,7 +32,8 @@ letterOf b =
     (pick (eqb b (ch "n")) letter.Origin (pick (eqb b (ch "N")) letter.Zero (pick (eqb b (ch "z")) letter.Three
     (pick (eqb b (ch "P")) letter.Position (pick (eqb b (ch "b")) letter.Input (pick (eqb b (ch "B")) letter.Output
     (pick (eqb b (ch "i")) letter.Store (pick (eqb b (ch "k")) letter.Empty
-    (pick (eqb b (ch "S")) letter.Start (pick (eqb b (ch "s")) letter.Start letter.Wrong)))))))))))))
+    (pick (eqb b (ch "S")) letter.Start (pick (eqb b (ch "s")) letter.Start
+    (pick (eqb b (ch "e")) letter.Plane (pick (eqb b (ch "f")) letter.Direction (pick (eqb b (ch "y")) letter.Circle letter.Wrong))))))))))))))))
 
 -- the line's letter, how many numbers it has and the first eight of them as words; a wrong shape has none
 abbrev pub direct : Letter → Numbers → Direct
@@ -53,6 +54,9 @@ byLetter letter.Output b s = direct letter.Output (behind s)
 byLetter letter.Store b s = direct letter.Store (behind s)
 byLetter letter.Empty b s = direct letter.Empty (behind s)
 byLetter letter.Start b s = direct letter.Start (behind s)
+byLetter letter.Plane b s = direct letter.Plane (behind s)
+byLetter letter.Direction b s = direct letter.Direction (behind s)
+byLetter letter.Circle b s = direct letter.Circle (behind s)
 
 unfoldable pub afterAddress : List ℕ → Direct
 afterAddress [] = direct letter.Wrong wrong
@@ -65,12 +69,13 @@ directOf (a ∷ b ∷ s) = pick (eqb a (ch "@")) (pick (eqb b (ch "0")) (afterAd
 
 -- ---- a line while storing: a code, then its numbers; `9` alone ends storing
 
--- the codes, and no other: 0 m n z 3 5 1 2 for a record, 9 for the end
+-- the codes, and no other: 0 m n z 3 5 1 2 e f y for a record, 9 for the end
 unfoldable pub codeOf : ℕ → Code
 codeOf b =
     pick (eqb b (ch "0")) (code.Record b) (pick (eqb b (ch "m")) (code.Record b) (pick (eqb b (ch "n")) (code.Record b) (pick (eqb b (ch "z")) (code.Record b)
     (pick (eqb b (ch "3")) (code.Record b) (pick (eqb b (ch "5")) (code.Record b) (pick (eqb b (ch "1")) (code.Record b) (pick (eqb b (ch "2")) (code.Record b)
-    (pick (eqb b (ch "9")) code.End code.Wrong))))))))
+    (pick (eqb b (ch "e")) (code.Record b) (pick (eqb b (ch "f")) (code.Record b) (pick (eqb b (ch "y")) (code.Record b)
+    (pick (eqb b (ch "9")) code.End code.Wrong)))))))))))
 
 abbrev pub stored : Code → Numbers → Stored
 stored k (are l) = record { code = k; count = length l; words = pad 8 (map word l) }
@@ -103,6 +108,9 @@ letterPaper letter.Output = says (ch "B") []
 letterPaper letter.Store = says (ch "i") []
 letterPaper letter.Empty = says (ch "k") []
 letterPaper letter.Start = says (ch "S") []
+letterPaper letter.Plane = says (ch "e") []
+letterPaper letter.Direction = says (ch "f") []
+letterPaper letter.Circle = says (ch "y") []
 
 abbrev pub codePaper : Code → Paper
 codePaper code.Wrong = says (ch "5") []

@@ -21,7 +21,7 @@ fn wrong_stored() -> Stored
     }
 }
 
-// The codes, and no other: 0 m n z 3 5 1 2 for a record, 9 for the end.
+// The codes, and no other: 0 m n z 3 5 1 2 e f y for a record, 9 for the end.
 fn code_of(b: u8) -> Code
     ensures { λ r. ⌜ r ≡ codeOf b ⌝ }
 {
@@ -34,6 +34,9 @@ fn code_of(b: u8) -> Code
         b'5' => Code::Record(b),
         b'1' => Code::Record(b),
         b'2' => Code::Record(b),
+        b'e' => Code::Record(b),
+        b'f' => Code::Record(b),
+        b'y' => Code::Record(b),
         b'9' => Code::End,
         _ => Code::Wrong,
     }

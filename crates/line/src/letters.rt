@@ -38,6 +38,9 @@ fn letter_of(b: u8) -> Letter
         b'k' => Letter::Empty,
         b'S' => Letter::Start,
         b's' => Letter::Start,
+        b'e' => Letter::Plane,
+        b'f' => Letter::Direction,
+        b'y' => Letter::Circle,
         _ => Letter::Wrong,
     }
 }
@@ -60,6 +63,9 @@ fn is_lettered(letter: Letter) -> bool
         Letter::Store => true,
         Letter::Empty => true,
         Letter::Start => true,
+        Letter::Plane => true,
+        Letter::Direction => true,
+        Letter::Circle => true,
     }
 }
 

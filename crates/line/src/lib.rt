@@ -22,6 +22,9 @@ pub enum Letter {
     Store,
     Empty,
     Start,
+    Plane,
+    Direction,
+    Circle,
 }
 
 // A line outside storing: how many numbers it has, and the first eight of them as words.

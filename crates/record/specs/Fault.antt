@@ -1,6 +1,6 @@
 -- What a record's code asks of its numbers under given axes, and what is wrong with them: replies 5, 7, 3, 1 and D in this order (01,
--- "Lines": the paragraph on storing, the table of replies, and the paragraph under it). Order is by kind, not by place: all ranges
--- before all speeds.
+-- "Lines": the paragraph on storing, the table of replies, and the paragraph under it; 02, §3 for circles). Order is by kind, not by place:
+-- all ranges before all speeds.
 use Prim.Native.Nat.{ℕ}
 use mathlib.Core.List.{List}
 use mathlib.Core.Bool.{Bool, true, false, not, _&&_, _||_}
@@ -9,7 +9,7 @@ use lib.IntN.{ℤ, pos}
 use Rattle.count.specs.Chars.{ch}
 use Rattle.count.specs.Pick.{pick}
 use Rattle.count.specs.Numbers.{within}
-use Rattle.count.specs.Ranges.{inOffset, inBack, inLoop, inDelay, inCharacter, inSwitch, inZero, nth, rightCount, rightDistances, rightSpeeds}
+use Rattle.count.specs.Ranges.{inOffset, inBack, inLoop, inDelay, inCharacter, inSwitch, inZero, inSpeed, inPlane, inDirection, nth, rightCount, rightDistances, rightSpeeds, rightArc}
 
 -- ---- a row: is it known at all (5), and what holds of its numbers under the axes: how many they are (7), an axes value (3), the others
 -- (1), the speeds (D)
@@ -68,7 +68,21 @@ character axes l = inCharacter (nth l 0)
 abbrev pub characterOffset : ℕ → List ℕ → Bool
 characterOffset axes l = inCharacter (nth l 0) && inOffset (nth l 1)
 
--- ---- the table: `0` and `m` movement, `n` origin, `z` 3D, `3` loop or jump, `5` delay, `1` character sent, `2` character waited for
+-- a plane, a direction; and a circle's numbers: which way its axes go at the start, and whether its plane is set, is asked when it is run
+abbrev pub plane : ℕ → List ℕ → Bool
+plane axes l = inPlane (nth l 0)
+
+abbrev pub direction : ℕ → List ℕ → Bool
+direction axes l = inDirection (nth l 0)
+
+abbrev pub arc : ℕ → List ℕ → Bool
+arc axes l = rightArc l
+
+abbrev pub arcSpeed : ℕ → List ℕ → Bool
+arcSpeed axes l = inSpeed (nth l 1)
+
+-- ---- the table: `0` and `m` movement, `n` origin, `z` 3D, `3` loop or jump, `5` delay, `1` character sent, `2` character waited for,
+-- `e` plane, `f` direction, `y` circle
 
 abbrev pub asks : ℕ → Asks
 asks code =
@@ -79,7 +93,10 @@ asks code =
     (pick (eqb code (ch "3")) (asking (just 2) any loopOrJump any)
     (pick (eqb code (ch "5")) (asking (just 1) any delay any)
     (pick (eqb code (ch "1")) (asking (just 1) any character any)
-    (pick (eqb code (ch "2")) (asking (just 2) any characterOffset any) unknown)))))))
+    (pick (eqb code (ch "2")) (asking (just 2) any characterOffset any)
+    (pick (eqb code (ch "e")) (asking (just 1) any plane any)
+    (pick (eqb code (ch "f")) (asking (just 1) any direction any)
+    (pick (eqb code (ch "y")) (asking (just 7) any arc arcSpeed) unknown))))))))))
 
 -- its columns
 unfoldable pub isCode : ℕ → Bool

@@ -20,7 +20,10 @@ fn is_code(code: u8) -> bool
             | (code == b'3')
             | (code == b'5')
             | (code == b'1')
-            | (code == b'2'))
+            | (code == b'2')
+            | (code == b'e')
+            | (code == b'f')
+            | (code == b'y'))
 }
 
 // 7: whether a record of this code, which is one, has this many numbers.
@@ -33,6 +36,9 @@ fn count_right(axes: u8, code: u8, n: usize) -> bool
     }
     if (code == b'3') | (code == b'2') {
         return n == 2;
+    }
+    if code == b'y' {
+        return n == 7;
     }
     n == 1
 }
@@ -74,16 +80,22 @@ fn ranges_right(axes: u8, code: u8, words: [u32; 8]) -> bool
         b'5' => count::is_delay(words[0]),
         b'1' => count::is_character(words[0]),
         b'2' => count::is_character(words[0]) & count::is_offset(words[1]),
+        b'e' => count::is_plane(words[0]),
+        b'f' => count::is_direction(words[0]),
+        b'y' => count::right_arc(words),
         _ => true,
     }
 }
 
-// D: whether every speed of a movement is one.
+// D: whether every speed of a movement or a circle is one.
 fn speeds_right(axes: u8, code: u8, words: [u32; 8]) -> bool
     ensures { λ r. ⌜ r ≡ speedsRight axes code words ⌝ }
 {
     if is_movement(code) {
         return count::right_speeds(axes, words);
+    }
+    if code == b'y' {
+        return count::is_speed(words[1]);
     }
     true
 }

@@ -64,3 +64,6 @@ lettered letter.Output = true
 lettered letter.Store = true
 lettered letter.Empty = true
 lettered letter.Start = true
+lettered letter.Plane = true
+lettered letter.Direction = true
+lettered letter.Circle = true

@@ -21,6 +21,11 @@ use Rattle.count.proofs.ranges.is_switch.Reads as is-switch
 use Rattle.count.proofs.ranges.is_port.Reads as is-port
 use Rattle.count.proofs.ranges.is_byte.Reads as is-byte
 use Rattle.count.proofs.ranges.is_zero.Reads as is-zero
+use Rattle.count.proofs.ranges.is_plane.Reads as is-plane
+use Rattle.count.proofs.ranges.is_direction.Reads as is-direction
+use Rattle.count.proofs.ranges.is_arc.Reads as is-arc
+use Rattle.count.proofs.ranges.is_start.Reads as is-start
+use Rattle.count.proofs.ranges.is_way.Reads as is-way
 use Rattle.count.proofs.text.put_report.Reads as put-report
 use Rattle.count.proofs.text.put_byte.Reads as put-byte
 use Rattle.count.proofs.text.put_word.Reads as put-word
@@ -29,6 +34,7 @@ use Rattle.count.proofs.text.put_place.Reads as put-place
 use Rattle.count.proofs.movement.right_count.Reads as right-count
 use Rattle.count.proofs.movement.right_distances.Reads as right-distances
 use Rattle.count.proofs.movement.right_speeds.Reads as right-speeds
+use Rattle.count.proofs.arcs.right_arc.Reads as right-arc
 
 pub in-range-one : (κs : _) (a : _) (r r′ : _) (s s′ : _) → in-range.Post κs a r s → in-range.Post κs a r′ s′ → r ≡ r′
 in-range-one κs a r r′ s s′ p q = p ∙ sym q
@@ -84,6 +90,21 @@ is-byte-one κs a r r′ s s′ p q = p ∙ sym q
 pub is-zero-one : (κs : _) (a : _) (r r′ : _) (s s′ : _) → is-zero.Post κs a r s → is-zero.Post κs a r′ s′ → r ≡ r′
 is-zero-one κs a r r′ s s′ p q = p ∙ sym q
 
+pub is-plane-one : (κs : _) (a : _) (r r′ : _) (s s′ : _) → is-plane.Post κs a r s → is-plane.Post κs a r′ s′ → r ≡ r′
+is-plane-one κs a r r′ s s′ p q = p ∙ sym q
+
+pub is-direction-one : (κs : _) (a : _) (r r′ : _) (s s′ : _) → is-direction.Post κs a r s → is-direction.Post κs a r′ s′ → r ≡ r′
+is-direction-one κs a r r′ s s′ p q = p ∙ sym q
+
+pub is-arc-one : (κs : _) (a : _) (r r′ : _) (s s′ : _) → is-arc.Post κs a r s → is-arc.Post κs a r′ s′ → r ≡ r′
+is-arc-one κs a r r′ s s′ p q = p ∙ sym q
+
+pub is-start-one : (κs : _) (a : _) (r r′ : _) (s s′ : _) → is-start.Post κs a r s → is-start.Post κs a r′ s′ → r ≡ r′
+is-start-one κs a r r′ s s′ p q = p ∙ sym q
+
+pub is-way-one : (κs : _) (a : _) (r r′ : _) (s s′ : _) → is-way.Post κs a r s → is-way.Post κs a r′ s′ → r ≡ r′
+is-way-one κs a r r′ s s′ p q = p ∙ sym q
+
 -- the first parameter, `text: &mut [u8]`, as it is left
 abbrev put-report-text : {X A : Type 0} → X × A → X
 put-report-text s = s .0
@@ -127,3 +148,6 @@ right-distances-one κs a r r′ s s′ p q = p ∙ sym q
 
 pub right-speeds-one : (κs : _) (a : _) (r r′ : _) (s s′ : _) → right-speeds.Post κs a r s → right-speeds.Post κs a r′ s′ → r ≡ r′
 right-speeds-one κs a r r′ s s′ p q = p ∙ sym q
+
+pub right-arc-one : (κs : _) (a : _) (r r′ : _) (s s′ : _) → right-arc.Post κs a r s → right-arc.Post κs a r′ s′ → r ≡ r′
+right-arc-one κs a r r′ s s′ p q = p ∙ sym q

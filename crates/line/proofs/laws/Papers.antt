@@ -31,4 +31,5 @@ module _ (b : ℕ) where
   unfolding codeOf
   code-character =
       or (eqb b 48) _ (or (eqb b 109) _ (or (eqb b 110) _ (or (eqb b 122) _
-      (or (eqb b 51) _ (or (eqb b 53) _ (or (eqb b 49) _ (or (eqb b 50) _ (end (eqb b 57) refl))))))))
+      (or (eqb b 51) _ (or (eqb b 53) _ (or (eqb b 49) _ (or (eqb b 50) _
+      (or (eqb b 101) _ (or (eqb b 102) _ (or (eqb b 121) _ (end (eqb b 57) refl)))))))))))

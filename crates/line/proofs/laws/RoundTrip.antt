@@ -192,12 +192,13 @@ joined-back (z ∷ y ∷ l) h = unspaced (shown z) (44 ∷ joined (y ∷ l)) z (
 
 -- ---- a record's line
 
--- the eight codes of a record
+-- the codes of a record
 pub record-codes :
     (codeOf 48 ≡ code.Record 48) × (codeOf 109 ≡ code.Record 109) × (codeOf 110 ≡ code.Record 110) × (codeOf 122 ≡ code.Record 122)
     × (codeOf 51 ≡ code.Record 51) × (codeOf 53 ≡ code.Record 53) × (codeOf 49 ≡ code.Record 49) × (codeOf 50 ≡ code.Record 50)
+    × (codeOf 101 ≡ code.Record 101) × (codeOf 102 ≡ code.Record 102) × (codeOf 121 ≡ code.Record 121)
 unfolding codeOf
-record-codes = (refl, refl, refl, refl, refl, refl, refl, refl)
+record-codes = (refl, refl, refl, refl, refl, refl, refl, refl, refl, refl, refl)
 
 -- a record's line, code and numbers with commas, is that record's code and its numbers
 pub stored-back : (c : ℕ) (l : List ℤ) → codeOf c ≡ code.Record c → Short l → storedOf (c ∷ joined l) ≡ stored (code.Record c) (are l)
@@ -222,4 +223,5 @@ pub code-own : (b d : ℕ) → codeOf b ≡ code.Record d → d ≡ b
 unfolding codeOf
 code-own b d h =
     own-by (eqb b 48) b d _ (own-by (eqb b 109) b d _ (own-by (eqb b 110) b d _ (own-by (eqb b 122) b d _
-    (own-by (eqb b 51) b d _ (own-by (eqb b 53) b d _ (own-by (eqb b 49) b d _ (own-by (eqb b 50) b d _ (end-by (eqb b 57) b d)))))))) h
+    (own-by (eqb b 51) b d _ (own-by (eqb b 53) b d _ (own-by (eqb b 49) b d _ (own-by (eqb b 50) b d _
+    (own-by (eqb b 101) b d _ (own-by (eqb b 102) b d _ (own-by (eqb b 121) b d _ (end-by (eqb b 57) b d))))))))))) h

@@ -2,6 +2,7 @@
 -- arguments, each is the other. Assumes nothing.
 use mathlib.Core.Path.{_≡_, sym, _∙_}
 use Rattle.motion.proofs.route.plan.Reads as plan
+use Rattle.motion.proofs.steps.step_to.Reads as step-to
 use Rattle.motion.proofs.Move.next.Reads as next
 use Rattle.motion.proofs.Move.within.Reads as within
 use Rattle.motion.proofs.Move.beat.Reads as beat
@@ -14,6 +15,9 @@ use Rattle.motion.proofs.Move.resting.Reads as resting
 
 pub plan-one : (κs : _) (a : _) (r r′ : _) (s s′ : _) → plan.Post κs a r s → plan.Post κs a r′ s′ → r ≡ r′
 plan-one κs a r r′ s s′ p q = p ∙ sym q
+
+pub step-to-one : (κs : _) (a : _) (r r′ : _) (s s′ : _) → step-to.Post κs a r s → step-to.Post κs a r′ s′ → r ≡ r′
+step-to-one κs a r r′ s s′ p q = p ∙ sym q
 
 pub next-one : (κs : _) (a : _) (r r′ : _) (s s′ : _) → next.Post κs a r s → next.Post κs a r′ s′ → r ≡ r′
 next-one κs a r r′ s s′ p q = p ∙ sym q

@@ -8,5 +8,6 @@ pub mod Whole
 pub mod Within
 pub mod Room
 pub mod ThreeD
+pub mod Steps
 pub mod Beats
 pub mod Papers

@@ -1,4 +1,5 @@
 pub mod Phase
+pub mod Pulse
 pub mod Plan
 pub mod Next
 pub mod Sound

@@ -3,8 +3,10 @@ mod phase;
 mod pulse;
 mod route;
 mod sound;
+mod steps;
 
 pub use route::plan;
+pub use steps::step_to;
 
 // The positions, origins or resting points of the three axes, as counts.
 pub struct Counters {
@@ -24,6 +26,12 @@ pub struct Signs {
     pub x: Sign,
     pub y: Sign,
     pub z: Sign,
+}
+
+// The counters after one pulse, or that one of them would leave 24 bits.
+pub enum Moved {
+    To(Counters),
+    Outside,
 }
 
 // A movement: where it starts, its three resting points and speeds, the phase, and the pulses made in it.

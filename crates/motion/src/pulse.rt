@@ -57,7 +57,7 @@ fn add_pulse(c: &mut Counters, s: Signs)
 }
 
 // The counters lent to `add_pulse`, and handed back.
-fn with_pulse(c: Counters, s: Signs) -> Counters
+pub(crate) fn with_pulse(c: Counters, s: Signs) -> Counters
     requires { ⌜ hasRoom c s ⌝ }
     ensures { λ r. ⌜ r ≡ movedAll c s ⌝ }
 {

@@ -1,0 +1,4 @@
+pub mod Rule
+pub mod Arc
+pub mod Plan
+pub mod Sound

@@ -1,5 +1,5 @@
 // Circles: which way the axes of a plane go, the next pulse of an arc, its plan, and what 103 asks of one under way.
-mod arc;
+mod beats;
 mod plan;
 mod rule;
 mod sound;

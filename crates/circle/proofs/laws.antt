@@ -1,1 +1,2 @@
 pub mod Roots
+pub mod Square

@@ -1,2 +1,5 @@
 pub mod Roots
 pub mod Square
+pub mod Rules
+pub mod Arcs
+pub mod Beats

@@ -3,3 +3,4 @@ pub mod Square
 pub mod Rules
 pub mod Arcs
 pub mod Beats
+pub mod Bends

@@ -79,7 +79,7 @@ not-same a b e = by (ltb a b) (ltb b a) refl refl
     by false true p q = omega (arith, ltb-true b a q)
     by false false p q = absurd (eqb-false a b e (omega (arith, ltb-false a b p, ltb-false b a q)))
 
-apart-of : (a b c d : ℕ) → not (eqb a c && eqb b d) ≡ true → 0 < far a c + far b d
+pub apart-of : (a b c d : ℕ) → not (eqb a c && eqb b d) ≡ true → 0 < far a c + far b d
 apart-of a b c d h = by (eqb a c) (eqb b d) refl refl
   where
     by : (s t : Bool) → eqb a c ≡ s → eqb b d ≡ t → 0 < far a c + far b d

@@ -79,7 +79,7 @@ module _ (q : Asked) (i : In24 (q .at)) where
 -- ---- speeds
 
 -- a word's speed
-speed-word : (w : ℕ) → inSpeed (signed w) ≡ true → speedRight w ≡ true
+pub speed-word : (w : ℕ) → inSpeed (signed w) ≡ true → speedRight w ≡ true
 unfolding inSpeed
 speed-word w e = sym (within-up 30 10000 w (omega arith)) ∙ e
 

@@ -1,5 +1,5 @@
 #!/usr/bin/env python3
-"""Lines and what each of them says, worked out from the sentences of 01, "Lines", and of 02 §8, and not from the code.
+"""Lines and what each of them says, worked out from the sentences of 01, "Lines", and of 02 §3 and §8, and not from the code.
 
 Writes crates/line_shapes/stdin and crates/line_shapes/stdout. Each line of stdin is `D ` (a line outside storing) or `S ` (a line
 while storing) and the line's bytes as hexadecimal pairs; each line of stdout is the letter's or code's number (53, the reply 5,
@@ -14,11 +14,12 @@ NUMBER = rb"-?[0-9]{1,8}"
 NUMBERS = NUMBER + rb"(?:,\x20?" + NUMBER + rb")*"
 # behind the letter or code: nothing, or a space or none and then numbers; so no space ends a line
 BEHIND = rb"(?:\x20?(" + NUMBERS + rb"))?"
-# outside storing `@0` and a letter, of which three may be small; the axes follow `@0` without a letter or a space
-LETTER = re.compile(rb"@0([AaMmSsnNzPbBik])" + BEHIND)
+# outside storing `@0` and a letter, of which three may be small; the axes follow `@0` without a letter or a space; e, f and y (02 §3) are
+# small here and while storing
+LETTER = re.compile(rb"@0([AaMmSsnNzPbBikefy])" + BEHIND)
 AXES = re.compile(rb"@0(" + NUMBERS + rb")")
 # while storing a code takes the place of `@0` and the letter; `9` is the end line if it stands alone
-CODE = re.compile(rb"([0mnz3512])" + BEHIND)
+CODE = re.compile(rb"([0mnz3512efy])" + BEHIND)
 
 
 def said(kind, numbers):
@@ -63,6 +64,11 @@ DIRECT = [
     (b"@0n1, 2", "n", [1, 2]), (b"@0N 1, 2", "N", [1, 2]), (b"@0z1, 1", "z", [1, 1]), (b"@0b0, 0", "b", [0, 0]),
     (b"@0i0, 0", "i", [0, 0]), (b"@0k0, 0", "k", [0, 0]), (b"@0s0, 0", "S", [0, 0]),
     (b"@0A1,2,3,4,5,6,7,8, 9", "A", [1, 2, 3, 4, 5, 6, 7, 8, 9]), (b"@0A1, 2, 3, 4, 5, 6, 7, 8", "A", [1, 2, 3, 4, 5, 6, 7, 8]),
+    (b"@0e0", "e", [0]), (b"@0e 2", "e", [2]), (b"@0e3", "e", [3]), (b"@0e-1", "e", [-1]), (b"@0e", "e", []), (b"@0e0, 1", "e", [0, 1]),
+    (b"@0f0", "f", [0]), (b"@0f-1", "f", [-1]), (b"@0f -1", "f", [-1]), (b"@0f1", "f", [1]), (b"@0f", "f", []), (b"@0f0,0", "f", [0, 0]),
+    (b"@0y4,600,0,2,0,-1,1", "y", [4, 600, 0, 2, 0, -1, 1]), (b"@0y 4, 600, 0, 2, 0, -1, 1", "y", [4, 600, 0, 2, 0, -1, 1]),
+    (b"@0y8388607,10000,-8388608,-4000000,4000000,1,1", "y", [8388607, 10000, -8388608, -4000000, 4000000, 1, 1]),
+    (b"@0y", "y", []), (b"@0y4,600,0,2,0,-1", "y", [4, 600, 0, 2, 0, -1]), (b"@0y4,600,0,2,0,-1,1,0,9", "y", [4, 600, 0, 2, 0, -1, 1, 0, 9]),
 ]
 STORED = [
     (b"9", "9", []), (b"0", "0", []), (b"m", "m", []), (b"n", "n", []), (b"z", "z", []), (b"3", "3", []), (b"5", "5", []),
@@ -78,6 +84,10 @@ STORED = [
     (b"0 -3, 600, -1, 900, 5, 30, -5, 10000", "0", [-3, 600, -1, 900, 5, 30, -5, 10000]), (b"m0, -0", "m", [0, 0]),
     (b"m 8388607, 00000030", "m", [8388607, 30]), (b"z0, 0", "z", [0, 0]), (b"5 1, 1", "5", [1, 1]), (b"133, 1", "1", [33, 1]),
     (b"0 1,2,3,4,5,6,7,8, 9", "0", [1, 2, 3, 4, 5, 6, 7, 8, 9]),
+    (b"e0", "e", [0]), (b"e 2", "e", [2]), (b"e-1", "e", [-1]), (b"e", "e", []), (b"e1, 1", "e", [1, 1]),
+    (b"f0", "f", [0]), (b"f -1", "f", [-1]), (b"f-1", "f", [-1]), (b"f", "f", []), (b"f0,0", "f", [0, 0]),
+    (b"y4,600,0,2,0,-1,1", "y", [4, 600, 0, 2, 0, -1, 1]), (b"y 4, 600,0, 2,0, -1,1", "y", [4, 600, 0, 2, 0, -1, 1]), (b"y", "y", []),
+    (b"y0,30,8388607,4000000,-4000000,-1,-1", "y", [0, 30, 8388607, 4000000, -4000000, -1, -1]), (b"y1,2,3,4,5,6,7,8", "y", [1, 2, 3, 4, 5, 6, 7, 8]),
 ]
 # By hand: lines whose shape is wrong.
 NO_DIRECT = [
@@ -94,6 +104,8 @@ NO_DIRECT = [
     b"@0A3, +600", b"@0A3, 6 00", b"@0A3, 123456789", b"@0A3, -123456789", b"@0A3, x", b"@0P, ", b"@0P,", b"@01 ,3", b"@01 , 3",
     b"@01,  3", b"@01, ", b"@01, 3 ", b"@01, ,3", b"@01,\t3", b"@01,\xa03", b"@01,- 3", b"@0 1, 3", b"@0, 7", b"@0B0 ,255", b"@0B0,  255",
     b"@0A1, 2, 3, 4, 5, 6, 7, 8, ", b"@0A1,2,3,4,5,6,7,8,  9", b"@0A1,2,3,4,5,6,7,8 ,9", b"@0A1,2,3,4,5,6,7,8, 9 ", b"3 25, -1",
+    b"@0E0", b"@0F0", b"@0F-1", b"@0Y4,600,0,2,0,-1,1", b"@0Y", b"@0e ", b"@0f-", b"@0e0 ", b"@0f  0", b"@0y ", b"@0y4,600,0,2,0,-1,1,",
+    b"@0y4,600,0,2,0,-1 ,1", b"@0y4,600,0,2,0,+1,1", b"@0ef", b"@ye", b"e0", b"y4,600,0,2,0,-1,1",
 ]
 NO_STORED = [
     b"", b" ", b"9 ", b"91", b"9,", b"9 1", b"99", b"9-1", b"9\n", b"M3,600", b"N1", b"A3,600", b"a3,600", b"Z1", b"@0P", b"@09", b"@0z1",
@@ -105,6 +117,8 @@ NO_STORED = [
     b"3 25, - 1", b"3 25, -", b"3 25, --1", b"3 25, +1", b"3 2 5, -1", b"3 25, 123456789", b"3 25, -123456789", b"9, ", b"9, 1", b"9 , 1",
     b"2 33 ,1", b"233,  1", b"0 3, 600, 1, 900 ", b"0 3, 600, 1 ,900", b"0 3, 600,  1, 900", b"m3,  600", b"m3 ,600", b"0, 1", b"@01, 3",
     b"0 1,2,3,4,5,6,7,8,  9", b"0 1,2,3,4,5,6,7,8 ,9", b"0 1,2,3,4,5,6,7,8, ", b" 3 25, -1",
+    b"E0", b"F0", b"F-1", b"Y4,600,0,2,0,-1,1", b"Y", b"e ", b"f-", b"e0 ", b"f  0", b"y ", b"y,4,600", b"y4,600,0,2,0,-1,1,", b"y4,600,0,2,0,-1 ,1",
+    b"y4,600,0,2,0,+1,1", b"ef", b"@0e0", b"@0y4,600,0,2,0,-1,1", b"9e", b"0y",
 ]
 
 
@@ -115,7 +129,7 @@ def next_number(seed):
 
 def damaged(lines, many, seed):
     """Each line with one byte more, less or other, by a fixed sequence."""
-    odd = b" ,-0123456789@AMSPnzbBik\x00\n\x7f\x80\xac\xb5\xfc"
+    odd = b" ,-0123456789@AMSPnzbBikefyEFY\x00\n\x7f\x80\xac\xb5\xfc"
     out = []
     for turn in range(many):
         seed = next_number(seed)

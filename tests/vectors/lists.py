@@ -1,5 +1,6 @@
 #!/usr/bin/env python3
-"""Writes crates/record_lists/stdin and stdout: stores, and their listings by 01, "Store", worked out apart from the code.
+"""Writes crates/record_lists/stdin and stdout: stores, and their listings by 01, "Store", with the records of 02 §3, worked out apart from the
+code.
 
     python3 tests/vectors/lists.py            writes both files
     python3 tests/vectors/lists.py --check    compares them with what it would write
@@ -16,6 +17,7 @@ import sys
 ROOT = os.path.dirname(os.path.dirname(os.path.dirname(os.path.abspath(__file__))))
 FOLDER = os.path.join(ROOT, "crates", "record_lists")
 LOW, HIGH = -8388608, 8388607
+FAR = 4000000  # a circle's start, on either axis
 
 # Numbers whose four bytes hold the mark 0xD7 0x2B: at their start, in their middle, and with a code byte behind the mark.
 MARK = 0x2BD7
@@ -82,6 +84,22 @@ STORES = [
     # the store just full: at 1,000 records, at 16,384 bytes; what has no room is left out
     (7, [times(999, "5", 9), one("z", 1), one("n", 7)]),
     (7, [times(454, "0", LOW, 10000, LOW, 10000, LOW, 10000, LOW, 10000), times(4, "5", 0), one("5", 65535), one("z", 1)]),
+    # plane, direction and circle: each value that has no range, the ends of each range, and the two axes of a start apart
+    (7, [one("e", 0), one("e", 1), one("e", 2), one("f", 0), one("f", -1)]),
+    (7, [
+        one("y", 0, 30, LOW, FAR, FAR, 1, 1),
+        one("y", HIGH, 10000, HIGH, -FAR, -FAR, -1, -1),
+        one("y", 4, 600, 0, 2, 0, -1, 1),
+        one("y", 1, 31, -1, 0, 1, 1, -1),
+        one("y", 10, 9999, 1, -1, 0, -1, -1),
+        one("y", 999999, 1000, -1000000, 0, -FAR, 1, 1),
+        one("y", 0, 30, 0, 1, 0, 1, 1, spare=(5,)),
+    ]),
+    # they are right under any axes, as a switch is
+    *((axes, [one("e", 2), one("f", -1), one("y", 3, 400, 0, -5, 5, 1, -1), one("z", 1)]) for axes in (0, 1, 3, 8)),
+    # a circle's numbers that hold the mark's bytes, and 512 of them in a store
+    (7, [one("y", MARK_AND_FIVE, 43, MARK_BELOW_ZERO, MARK, -MARK_INSIDE, 1, -1), one("e", 1), one("y", MARK, 215, MARK, MARK_INSIDE, MARK, -1, 1)]),
+    (7, [times(511, "y", 1, 30, 0, 1, 1, 1, -1), one("y", HIGH, 10000, LOW, -FAR, -FAR, -1, -1), one("e", 0), one("f", 0)]),
     # not readable: one number, count, code or axis that is wrong
     (7, [one("5", 65536)]),
     (7, [one("5", -1)]),
@@ -111,6 +129,20 @@ STORES = [
     (7, [one("M", 0, 30, 0, 30, 0, 30, 0, 30)]),
     (0, [one("0", 0, 30)]),
     (2, [one("0", 0, 30)]),
+    # the same of a plane, a direction and a circle
+    *((7, [one("f", 0), one("e", plane), one("z", 0)]) for plane in (3, -1, 48, LOW)),
+    *((7, [one("e", 0), one("f", way), one("z", 0)]) for way in (1, -2, 48, HIGH)),
+    *((7, [one("y", arc, 600, 0, 2, 0, -1, 1)]) for arc in (-1, HIGH + 1)),
+    *((7, [one("y", 4, v, 0, 2, 0, -1, 1)]) for v in (29, 10001, -30, 0)),
+    *((7, [one("y", 4, 600, d, 2, 0, -1, 1)]) for d in (LOW - 1, HIGH + 1)),
+    *((7, [one("y", 4, 600, 0, *start, -1, 1)]) for start in ((FAR + 1, 0), (-FAR - 1, 0), (0, FAR + 1), (0, -FAR - 1), (0, 0), (HIGH, LOW))),
+    *((7, [one("y", 4, 600, 0, 2, 0, *ways)]) for ways in ((0, 1), (1, 0), (2, 1), (1, -2), (-1, 3), (0, 0))),
+    *((7, [one(code)]) for code in "efy"),
+    *((7, [one(code, 0, 0)]) for code in "ef"),
+    (7, [one("y", 4, 600, 0, 2, 0, -1)]),
+    (7, [one("y", 4, 600, 0, 2, 0, -1, 1, 0)]),
+    *((7, [one(code, 0)]) for code in "EF"),
+    (7, [one("Y", 4, 600, 0, 2, 0, -1, 1)]),
 ]
 
 
@@ -125,6 +157,10 @@ def right(axes, code, numbers):
             and all(30 <= v <= 10000 for v in speeds)
             and not (code == "m" and axes == 7 and distances[3] != 0)
         )
+    if code in ("e", "f"):
+        return len(numbers) == 1 and numbers[0] in ((0, 1, 2) if code == "e" else (0, -1))
+    if code == "y":
+        return len(numbers) == 7 and right_circle(*numbers)
     if code not in {"n": 1, "z": 1, "5": 1, "1": 1, "3": 2, "2": 2} or len(numbers) != (2 if code in "32" else 1):
         return False
     first, last = numbers[0], numbers[-1]
@@ -136,6 +172,12 @@ def right(axes, code, numbers):
         "2": 33 <= first <= 126 and -32768 <= last <= 32767,
         "3": -32768 <= last <= (32767 if first == 0 else -1) and 0 <= first <= 32767,
     }[code]
+
+
+def right_circle(arc, speed, d, first, second, *ways):
+    """02 §3: the arc's pulses, the speed, D, a start that is not the centre, and a way of 1 or -1 for each axis."""
+    start = abs(first) <= FAR and abs(second) <= FAR and (first, second) != (0, 0)
+    return 0 <= arc <= HIGH and 30 <= speed <= 10000 and LOW <= d <= HIGH and start and set(ways) <= {1, -1}
 
 
 def encoded(code, numbers):

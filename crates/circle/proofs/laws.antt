@@ -1,1 +1,3 @@
+pub mod Roots
+pub mod Square
 pub mod Work

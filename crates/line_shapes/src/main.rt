@@ -45,6 +45,9 @@ fn letter_number(letter: Letter) -> u64 {
         Letter::Store => 105,
         Letter::Empty => 107,
         Letter::Start => 83,
+        Letter::Plane => 101,
+        Letter::Direction => 102,
+        Letter::Circle => 121,
     }
 }
 

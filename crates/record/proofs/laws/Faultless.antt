@@ -45,7 +45,7 @@ right-faultless axes r e = fault-none axes (r .code) (r .count) (r .words) (eqb-
 
 -- ---- a fact of every byte: of each code, and of a byte that is none
 
--- the eight tests, none of which holds
+-- the tests, none of which holds
 pub record NoCode (c : ℕ) : Type 0 where
   pub not-0 : eqb c 48 ≡ false
   pub not-m : eqb c 109 ≡ false
@@ -55,10 +55,13 @@ pub record NoCode (c : ℕ) : Type 0 where
   pub not-5 : eqb c 53 ≡ false
   pub not-1 : eqb c 49 ≡ false
   pub not-2 : eqb c 50 ≡ false
+  pub not-e : eqb c 101 ≡ false
+  pub not-f : eqb c 102 ≡ false
+  pub not-y : eqb c 121 ≡ false
 
 -- a byte that is no code has no row
 pub row-none : (c : ℕ) → NoCode c → asks c ≡ unknown
-row-none c n = rw (n .not-0, n .not-m, n .not-n, n .not-z, n .not-3, n .not-5, n .not-1, n .not-2)
+row-none c n = rw (n .not-0, n .not-m, n .not-n, n .not-z, n .not-3, n .not-5, n .not-1, n .not-2, n .not-e, n .not-f, n .not-y)
 
 module _ (P : ℕ → Type 0) (c : ℕ) where
   pub one-byte : (k : ℕ) → P k → (eqb c k ≡ false → P c) → P c
@@ -68,15 +71,16 @@ module _ (P : ℕ → Type 0) (c : ℕ) where
       by true e = subst P (sym (eqb-true c k e)) p
       by false e = f e
 
-  pub by-byte : P 48 → P 109 → P 110 → P 122 → P 51 → P 53 → P 49 → P 50 → (NoCode c → P c) → P c
-  by-byte p48 p109 p110 p122 p51 p53 p49 p50 f =
+  pub by-byte : P 48 → P 109 → P 110 → P 122 → P 51 → P 53 → P 49 → P 50 → P 101 → P 102 → P 121 → (NoCode c → P c) → P c
+  by-byte p48 p109 p110 p122 p51 p53 p49 p50 p101 p102 p121 f =
       one-byte 48 p48 (λ a. one-byte 109 p109 (λ b. one-byte 110 p110 (λ d. one-byte 122 p122 (λ e. one-byte 51 p51 (λ g. one-byte 53 p53 (λ h.
-      one-byte 49 p49 (λ i. one-byte 50 p50 (λ j. f (record { not-0 = a; not-m = b; not-n = d; not-z = e; not-3 = g; not-5 = h; not-1 = i; not-2 = j })))))))))
+      one-byte 49 p49 (λ i. one-byte 50 p50 (λ j. one-byte 101 p101 (λ k. one-byte 102 p102 (λ l. one-byte 121 p121 (λ m.
+      f (record { not-0 = a; not-m = b; not-n = d; not-z = e; not-3 = g; not-5 = h; not-1 = i; not-2 = j; not-e = k; not-f = l; not-y = m }))))))))))))
 
-  pub by-code : isCode c ≡ true → P 48 → P 109 → P 110 → P 122 → P 51 → P 53 → P 49 → P 50 → P c
+  pub by-code : isCode c ≡ true → P 48 → P 109 → P 110 → P 122 → P 51 → P 53 → P 49 → P 50 → P 101 → P 102 → P 121 → P c
   unfolding isCode
-  by-code e p48 p109 p110 p122 p51 p53 p49 p50 =
-      by-byte p48 p109 p110 p122 p51 p53 p49 p50
+  by-code e p48 p109 p110 p122 p51 p53 p49 p50 p101 p102 p121 =
+      by-byte p48 p109 p110 p122 p51 p53 p49 p50 p101 p102 p121
       (λ n. never (sym (ap (λ (a : Asks). a .known) (row-none c n)) ∙ e))
 
 -- ---- one of two tests, and a number within a range

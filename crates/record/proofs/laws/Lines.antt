@@ -12,7 +12,7 @@ use lib.Seq.{take-suc}
 use Rattle.count.specs.Numbers.{within, signed}
 use Rattle.count.specs.Ranges.{inSpeed, nth}
 use Rattle.count.specs.Text.{decimal, digits, shown}
-use Rattle.count.proofs.laws.Digits.{decimal-more, decimal-long}
+use Rattle.count.proofs.laws.Digits.{decimal-more, decimal-long, digits-small}
 use Rattle.count.proofs.laws.Words.{length-pad}
 use Rattle.count.proofs.laws.Truth.{and-parts}
 use Rattle.record.specs.declared.Held.{Held}
@@ -24,7 +24,7 @@ use Rattle.record.specs.Bytes.{Below}
 use Rattle.record.proofs.laws.Right.{RightOne, right-long}
 use Rattle.record.proofs.laws.Stored.{AllRight, readable-list}
 use Rattle.record.proofs.laws.Faultless.{right-faultless}
-use Rattle.record.proofs.laws.Shapes.{Shape, one, two, four, eight, shape}
+use Rattle.record.proofs.laws.Shapes.{Shape, Way, one, two, four, eight, seven, way-short, shape}
 
 -- ---- a number's text
 
@@ -52,6 +52,15 @@ speed-five (pos n) e =
     let p = and-parts (leZ (pos 30) (pos n)) (leZ (pos n) (pos 10000)) e in
     digits-five n (omega (arith, leb-true n 10000 (p .1)))
 speed-five (negsuc n) e = absurd (let z : _≡_ {A = ℕ} 0 1 = cc in omega arith)
+
+way-two : (z : ℤ) → Way z → length (shown z) ≤ 2
+unfolding shown
+way-two (pos n) e =
+    let h = way-short (pos n) e in
+    rw (digits-small n (omega arith)) (omega arith)
+way-two (negsuc n) e =
+    let h = way-short (negsuc n) e in
+    rw (digits-small (suc n) (omega arith)) (omega arith)
 
 -- ---- the numbers' text, a comma counted to each
 
@@ -107,6 +116,15 @@ fits n w (eight e a b c d f g h i) =
     let u = speed-five (nth w 5) g in
     let v = shown-eight (nth w 6) h in
     let x = speed-five (nth w 7) i in
+    rw e record { ratio = omega arith; line = omega arith }
+fits n w (seven e a b c d f g h) =
+    let p = shown-eight (nth w 0) a in
+    let q = speed-five (nth w 1) b in
+    let r = shown-eight (nth w 2) c in
+    let s = shown-eight (nth w 3) d in
+    let t = shown-eight (nth w 4) f in
+    let u = way-two (nth w 5) g in
+    let v = way-two (nth w 6) h in
     rw e record { ratio = omega arith; line = omega arith }
 
 module _ (axes : ℕ) (r : Record) (g : RightOne axes r) where

@@ -1,8 +1,9 @@
--- How many numbers a right record has, and of what size: a movement's distances and speeds, or one or two numbers. Assumes nothing.
+-- How many numbers a right record has, and of what size: a movement's distances and speeds, a circle's seven, or one or two numbers.
+-- Assumes nothing.
 use Prim.Native.Nat.{ℕ, _<_}
 use mathlib.Core.Path.{_≡_}
 use mathlib.Core.List.{List}
-use mathlib.Core.Bool.{Bool, true, false, _&&_}
+use mathlib.Core.Bool.{Bool, true, false, not, _&&_}
 use mathlib.Core.Logic.{_⊎_, inl, inr}
 use native.Mathlib.Omega.{arith}
 use borrow.Author.Tests.{eqb-true}
@@ -11,17 +12,20 @@ use lib.IntN.{ℤ, pos, negsuc}
 use lib.Signed.{mag}
 use Rattle.count.specs.Pick.{pick}
 use Rattle.count.specs.Numbers.{within, in24}
-use Rattle.count.specs.Ranges.{inSpeed, inOffset, inBack, inLoop, inDelay, inCharacter, inSwitch, inZero, nth, rightCount, rightZ2, rightDistances, rightSpeeds}
+use Rattle.count.specs.Ranges.{inSpeed, inOffset, inBack, inLoop, inDelay, inCharacter, inSwitch, inZero, inPlane, inDirection, inArc, inStart, inWay, nth, rightCount, rightZ2, rightDistances, rightSpeeds, rightArc}
 use Rattle.count.proofs.laws.Truth.{never, and-parts}
 use Rattle.record.specs.Fault.{countRight, axesRight, loopRight, rangesRight, speedsRight}
 use Rattle.record.proofs.laws.Faultless.{Faultless, either, by-code, within-mag}
 
--- a number of at most seven digits, and a speed
+-- a number of at most seven digits, a speed, and which way an axis goes
 abbrev pub Seven : ℤ → Type 0
 Seven z = mag z < 9999999
 
 abbrev pub Fast : ℤ → Type 0
 Fast z = inSpeed z ≡ true
+
+abbrev pub Way : ℤ → Type 0
+Way z = inWay z ≡ true
 
 pub data Shape (n : ℕ) (w : List ℕ) : Type 0 where
   one : n ≡ 1 → Seven (nth w 0) → Shape n w
@@ -30,6 +34,8 @@ pub data Shape (n : ℕ) (w : List ℕ) : Type 0 where
   four : n ≡ 4 → Seven (nth w 0) → Fast (nth w 1) → Seven (nth w 2) → Fast (nth w 3) → Shape n w
   eight : n ≡ 8 → Seven (nth w 0) → Fast (nth w 1) → Seven (nth w 2) → Fast (nth w 3) → Seven (nth w 4) → Fast (nth w 5) → Seven (nth w 6)
       → Fast (nth w 7) → Shape n w
+  -- a circle's: arc length, speed, D, the start and the two ways
+  seven : n ≡ 7 → Seven (nth w 0) → Fast (nth w 1) → Seven (nth w 2) → Seven (nth w 3) → Seven (nth w 4) → Way (nth w 5) → Way (nth w 6) → Shape n w
 
 -- ---- each range
 
@@ -65,6 +71,22 @@ loop-seven x y e = by (either _ _ e)
         let q = and-parts (inZero x) (inOffset y) p in
         (in-seven (pos 0) (pos 0) x (omega arith) (omega arith) (q .0), offset-seven y (q .1))
 
+-- one digit
+pub way-short : (z : ℤ) → Way z → mag z < 9
+unfolding inWay
+way-short z e = by (either _ _ e)
+  where
+    by : (within (pos 1) (pos 1) z ≡ true) ⊎ (within (negsuc 0) (negsuc 0) z ≡ true) → mag z < 9
+    by (inl p) = within-mag (pos 1) (pos 1) z 9 (omega arith) (omega arith) p
+    by (inr p) = within-mag (negsuc 0) (negsuc 0) z 9 (omega arith) (omega arith) p
+
+pub way-seven : (z : ℤ) → Way z → Seven z
+way-seven z e = omega (arith, way-short z e)
+
+start-seven : (z : ℤ) → inStart z ≡ true → Seven z
+unfolding inStart
+start-seven z e = in-seven (negsuc 3999999) (pos 4000000) z (omega arith) (omega arith) e
+
 -- ---- every code
 
 module _ (w : List ℕ) where
@@ -92,14 +114,26 @@ module _ (w : List ℕ) where
   unfolding rightCount rightDistances rightSpeeds
   movement axes n absolute p q r = movement-by (eqb axes 1) (eqb axes 3) (eqb axes 7) n absolute p q r
 
+  circle : (n : ℕ) → n ≡ 7 → rightArc w ≡ true → inSpeed (nth w 1) ≡ true → Shape n w
+  unfolding rightArc inArc
+  circle n e q r =
+      let a = and-parts (inArc (nth w 0) && in24 (nth w 2) && (inStart (nth w 3) && inStart (nth w 4) && not (inZero (nth w 3) && inZero (nth w 4)))) (inWay (nth w 5) && inWay (nth w 6)) q in
+      let b = and-parts (inArc (nth w 0) && in24 (nth w 2)) (inStart (nth w 3) && inStart (nth w 4) && not (inZero (nth w 3) && inZero (nth w 4))) (a .0) in
+      let l = and-parts (inArc (nth w 0)) (in24 (nth w 2)) (b .0) in
+      let p = and-parts (inStart (nth w 3) && inStart (nth w 4)) (not (inZero (nth w 3) && inZero (nth w 4))) (b .1) in
+      let s = and-parts (inStart (nth w 3)) (inStart (nth w 4)) (p .0) in
+      let d = and-parts (inWay (nth w 5)) (inWay (nth w 6)) (a .1) in
+      seven e (in-seven (pos 0) (pos 8388607) (nth w 0) (omega arith) (omega arith) (l .0)) r (far-seven (nth w 2) (l .1)) (start-seven (nth w 3) (s .0))
+      (start-seven (nth w 4) (s .1)) (d .0) (d .1)
+
   abbrev ShapeAs : ℕ → ℕ → ℕ → Type 0
   ShapeAs axes n code = countRight axes code n ≡ true → axesRight axes code w ≡ true → rangesRight axes code w ≡ true → speedsRight axes code w ≡ true → Shape n w
 
-  -- A RIGHT RECORD HAS ONE OF FOUR SHAPES
+  -- A RIGHT RECORD HAS ONE OF FIVE SHAPES
   pub shape : (axes code n : ℕ) → Faultless axes code n w → Shape n w
-  unfolding countRight axesRight rangesRight speedsRight inSwitch inDelay inCharacter
+  unfolding countRight axesRight rangesRight speedsRight inSwitch inDelay inCharacter inPlane inDirection
   shape axes code n f =
-      by-code (ShapeAs axes n) code (f .code-so) relative target origin switch loop delay send wait (f .count-so) (f .axes-so) (f .ranges-so) (f .speeds-so)
+      by-code (ShapeAs axes n) code (f .code-so) relative target origin switch loop delay send wait plane direction arc (f .count-so) (f .axes-so) (f .ranges-so) (f .speeds-so)
     where
       relative : ShapeAs axes n 48
       relative p q r s = movement axes n false p r s
@@ -130,3 +164,12 @@ module _ (w : List ℕ) where
       wait p q r s =
           let h = and-parts (inCharacter (nth w 0)) (inOffset (nth w 1)) r in
           two (eqb-true n 2 p) (in-seven (pos 33) (pos 126) (nth w 0) (omega arith) (omega arith) (h .0)) (offset-seven (nth w 1) (h .1))
+
+      plane : ShapeAs axes n 101
+      plane p q r s = one (eqb-true n 1 p) (in-seven (pos 0) (pos 2) (nth w 0) (omega arith) (omega arith) r)
+
+      direction : ShapeAs axes n 102
+      direction p q r s = one (eqb-true n 1 p) (in-seven (negsuc 0) (pos 0) (nth w 0) (omega arith) (omega arith) r)
+
+      arc : ShapeAs axes n 121
+      arc p q r s = circle n (eqb-true n 7 p) r s

@@ -52,6 +52,21 @@ array-read-is-offset c = search needs
 is-offset-requires : tie.Need-is-offset-requires
 is-offset-requires c κs = search needs
 
+array-read-is-plane : tie.Need-array-read-is-plane
+array-read-is-plane c = search needs
+
+is-plane-requires : tie.Need-is-plane-requires
+is-plane-requires c κs = search needs
+
+array-read-is-direction : tie.Need-array-read-is-direction
+array-read-is-direction c = search needs
+
+is-direction-requires : tie.Need-is-direction-requires
+is-direction-requires c κs = search needs
+
+right-arc-requires : tie.Need-right-arc-requires
+right-arc-requires c κs = search needs
+
 returns : tie.Need-returns
 unfolding rangesRight
 returns c = simp (c .before .match .keys1, c .right-distances .ensures)
@@ -81,9 +96,24 @@ unfolding rangesRight
 returns-7 c = simp (c .before .before .match .keys7, c .is-offset .ensures, c .before .is-character2 .ensures)
 
 returns-8 : tie.Need-returns-8
-returns-8 c =
+unfolding rangesRight
+returns-8 c = simp (c .before .match .keys8, c .is-plane .ensures)
+
+returns-9 : tie.Need-returns-9
+unfolding rangesRight
+returns-9 c = simp (c .before .match .keys9, c .is-direction .ensures)
+
+returns-10 : tie.Need-returns-10
+unfolding rangesRight
+returns-10 c = simp (c .before .match .keys10, c .right-arc .ensures)
+
+returns-11 : tie.Need-returns-11
+returns-11 c =
     sym
     (ranges-none _ _ _
+    (ne-eqb _ _ (c .match .rest .0 .0 .0 .0 .0 .0 .0 .0 .0 .1))
+    (ne-eqb _ _ (c .match .rest .0 .0 .0 .0 .0 .0 .0 .0 .1))
+    (ne-eqb _ _ (c .match .rest .0 .0 .0 .0 .0 .0 .0 .1))
     (ne-eqb _ _ (c .match .rest .0 .0 .0 .0 .0 .0 .1))
     (ne-eqb _ _ (c .match .rest .0 .0 .0 .0 .0 .1))
     (ne-eqb _ _ (c .match .rest .0 .0 .0 .0 .1))
@@ -111,6 +141,11 @@ ranges-right-spec =
     is-character-requires-2
     array-read-is-offset
     is-offset-requires
+    array-read-is-plane
+    is-plane-requires
+    array-read-is-direction
+    is-direction-requires
+    right-arc-requires
     returns
     returns-2
     returns-3
@@ -118,4 +153,7 @@ ranges-right-spec =
     returns-5
     returns-6
     returns-7
-    returns-8)
+    returns-8
+    returns-9
+    returns-10
+    returns-11)

@@ -1,0 +1,4 @@
+pub mod Next
+pub mod Plan
+pub mod Sound
+pub mod work

@@ -1,3 +1,4 @@
 pub mod Roots
 pub mod Square
 pub mod Work
+pub mod Papers

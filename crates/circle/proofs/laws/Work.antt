@@ -8,9 +8,8 @@ use lib.Dec.{ltb, leb, eqb}
 use lib.ListN.{getD}
 use borrow.Author.Tests.{lt-ltb, le-ltb, le-leb, lt-leb, ltb-true, leb-true}
 use Rattle.count.specs.Pick.{pick}
-use Rattle.count.specs.Numbers.{half, full, far, signed, word, within}
+use Rattle.count.specs.Numbers.{half, full, far, in24, signed, word, within}
 use Rattle.count.specs.Ranges.{nth, inArc, inZero, inWay, inStart, inSpeed, rightArc}
-use Rattle.count.specs.Numbers.{in24}
 use Rattle.count.proofs.laws.Laws.{signed-low, signed-high, within-up}
 use Rattle.count.proofs.laws.Truth.{and-left, and-right}
 use Rattle.motion.specs.declared.Counters.{Counters}
@@ -20,7 +19,6 @@ use Rattle.motion.specs.declared.Moved.the-variants as moved
 use Rattle.motion.specs.declared.Beat.{Beat}
 use Rattle.motion.specs.declared.Beaten.{Beaten}
 use Rattle.motion.specs.declared.Beaten.the-variants as beat
-use Rattle.motion.specs.declared.Look.{Look}
 use Rattle.motion.specs.declared.Look.the-variants as look
 use Rattle.motion.specs.Phase.{signValue}
 use Rattle.motion.specs.Pulse.{stepTo}
@@ -34,7 +32,7 @@ use Rattle.circle.specs.declared.Arc.{Arc}
 use Rattle.circle.specs.declared.Bent.{Bent}
 use Rattle.circle.specs.declared.Bent.the-variants.{Going, Refused}
 use Rattle.circle.specs.Rule.{onPlane, rests, firstOnly, secondOnly, shifted, off, moveOf}
-use Rattle.circle.specs.Arc.{arcSigns, countedPair, nextMark, beatTo, arcBeat, withMade}
+use Rattle.circle.specs.Arc.{arcSigns, countedPair, beatTo, arcBeat, withMade}
 use Rattle.circle.specs.Plan.{planeSet, startOf, firstWays, waysFit, centreOf, hasRoom, arcFrom, goingBy, bendOf}
 use Rattle.circle.specs.Sound.{startSound, pointSound, arcUnderWay, arcLook}
 

@@ -1,6 +1,5 @@
 -- `circle::Arc::beat_in` meets its contract. Assumes nothing.
 use borrow.Author.Needs.{needs}
-use mathlib.Core.Path.{sym, _∙_}
 use borrow.Author.Tests.{not-true, not-false}
 use Rattle.circle.proofs.laws.Work.{beat-past, beat-out, beat-parts, beat-none, beat-to}
 use Rattle.circle.proofs.Arc.beat_in.Statement.{statement}

@@ -1,6 +1,5 @@
 -- `circle::Arc::sound` meets its contract. Assumes nothing.
 use borrow.Author.Needs.{needs}
-use mathlib.Core.Path.{sym, _∙_}
 use borrow.Author.Tests.{not-true, not-false}
 use Rattle.circle.proofs.laws.Work.{under-not, under-by, under-start}
 use Rattle.circle.proofs.Arc.sound.Statement.{statement}

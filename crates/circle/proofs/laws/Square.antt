@@ -125,7 +125,7 @@ module _ (n reach : ℕ) (c p : Pair) (high : n < reach * reach) (l : Lies reach
       by (suc r) h = omega arith
 
   -- along an axis of the plane there is one move
-  only-second : (x s : Sign) → Side (c .first) (p .first) x → rests x ≡ false → Side (c .second) (p .second) Rest → rests s ≡ false → Goes reach c p (ways Rest s)
+  pub only-second : (x s : Sign) → Side (c .first) (p .first) x → rests x ≡ false → Side (c .second) (p .second) Rest → rests s ≡ false → Goes reach c p (ways Rest s)
   only-second x s h e g f =
       let t = step-off reach (c .second) (p .second) s k away g f in
       record {
@@ -137,7 +137,7 @@ module _ (n reach : ℕ) (c p : Pair) (high : n < reach * reach) (l : Lies reach
         one = sym (ap not f);
       }
 
-  only-first : (y s : Sign) → Side (c .second) (p .second) y → rests y ≡ false → Side (c .first) (p .first) Rest → rests s ≡ false → Goes reach c p (ways s Rest)
+  pub only-first : (y s : Sign) → Side (c .second) (p .second) y → rests y ≡ false → Side (c .first) (p .first) Rest → rests s ≡ false → Goes reach c p (ways s Rest)
   only-first y s h e g f =
       let t = step-off reach (c .first) (p .first) s l away g f in
       record {

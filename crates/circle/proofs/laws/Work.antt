@@ -8,7 +8,7 @@ use lib.Dec.{ltb, leb, eqb}
 use lib.ListN.{getD}
 use borrow.Author.Tests.{lt-ltb, le-ltb, le-leb, lt-leb, ltb-true, leb-true}
 use Rattle.count.specs.Pick.{pick}
-use Rattle.count.specs.Numbers.{half, full, far, in24, signed, word, within}
+use Rattle.count.specs.Numbers.{full, in24, signed, word, within}
 use Rattle.count.specs.Ranges.{nth, inArc, inZero, inWay, inStart, inSpeed, rightArc}
 use Rattle.count.proofs.laws.Laws.{signed-low, signed-high, within-up}
 use Rattle.count.proofs.laws.Truth.{and-left, and-right}
@@ -145,16 +145,6 @@ arc-starts l t =
     let s : a && b && n ≡ true = and-right m (a && b && n) (and-left (m && (a && b && n)) (inWay (nth l 5) && inWay (nth l 6)) t) in
     let d = and-left (a && b) n s in
     (and-left a b d, and-right a b d)
-
-pub start-small : (s : Pair) → startSound s ≡ true → (s .first < full) × (s .second < full)
-unfolding startSound
-start-small s t =
-    let a = leb (far half (s .first)) 4000000 in
-    let b = leb (far half (s .second)) 4000000 in
-    let d = and-left (a && b) (not (eqb (s .first) half && eqb (s .second) half)) t in
-    let e : far half (s .first) ≤ 4000000 = leb-true (far half (s .first)) 4000000 (and-left a b d) in
-    let f : far half (s .second) ≤ 4000000 = leb-true (far half (s .second)) 4000000 (and-right a b d) in
-    (omega arith, omega arith)
 
 -- ---- the plan
 

@@ -4,7 +4,6 @@ mod pulse;
 
 use circle::Arc;
 use motion::Move;
-
 pub use planned::circle;
 pub use planned::plan;
 

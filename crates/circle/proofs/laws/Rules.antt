@@ -13,7 +13,6 @@ use Rattle.circle.proofs.laws.Square.{Side, side-is, Lies, Goes, only-f
 
 module _ (n reach : ℕ) (c p : Pair) (high : n < reach * reach) (l : Lies reach (c .first) (p .first)) (k : Lies reach (c .second) (p .second))
     (apart : 0 < far (c .first) (p .first) + far (c .second) (p .second)) where
-
   goes-by : (d : Direction) (x y : Sign) → Side (c .first) (p .first) x → Side (c .second) (p .second) y → Goes reach c p (moveOf n c p (turning d x y))
   unfolding moveOf
   goes-by d Rest Rest h g = absurd (omega arith)

@@ -1,4 +1,4 @@
-"""The rule of joins (02, §4 and §6) and what of 01 it rests on, worked out apart from the code, for tests/vectors/joins.py.
+"""The rule of joins (02, §4 and §6) and what of 01 and of 02, §3 it rests on, worked out apart from the code, for tests/vectors/joins.py.
 
 A program is a list of records, each a list of its code and its numbers. What a loop repeats is a set of places, and by these sets a
 program is accepted or not. Each clause of the request is a method of `Join`.
@@ -39,11 +39,19 @@ def is_right(axes, code, numbers):
         return in_range(0, numbers[0], 32767) and in_range(-32768, numbers[1], -1 if numbers[0] else 32767)
     if code == "2" and len(numbers) == 2:
         return in_range(33, numbers[0], 126) and in_range(-32768, numbers[1], 32767)
-    if code not in ("n", "z", "5", "1") or len(numbers) != 1:
+    if code == "y" and len(numbers) == 7:
+        return is_circle(*numbers)
+    if code not in ("n", "z", "5", "1", "e", "f") or len(numbers) != 1:
         return False
     (number,) = numbers
-    low, high = {"n": (1, 7), "z": (0, 1), "5": (0, 65535), "1": (33, 126)}[code]
+    low, high = {"n": (1, 7), "z": (0, 1), "5": (0, 65535), "1": (33, 126), "e": (0, 2), "f": (-1, 0)}[code]
     return in_range(low, number, high) and (code != "n" or number | axes == axes)
+
+
+def is_circle(arc, speed, unused, x, y, *ways):
+    """Its numbers: the two starts are not both 0, and the two ways are 1 or -1."""
+    return (in_range(0, arc, 2**23 - 1) and in_range(30, speed, 10000) and in_range(-(2**23), unused, 2**23 - 1)
+            and in_range(-4000000, x, 4000000) and in_range(-4000000, y, 4000000) and bool(x or y) and all(way * way == 1 for way in ways))
 
 
 def read(part, axes):

@@ -66,6 +66,7 @@ WAY, HOLE, AGAIN = ["0", 4, 800, 6, 800, 0, 300, 0, 300], ["0", 5, 800, 0, 800, 
 ROW, DRILL = (HOLE, AGAIN), (WAY, HOLE, AGAIN)  # a row's loop starts with its first record
 SHORT, OTHER = part_of(SEND, FLAT), part_of(SOON, ASK, FLAT)
 NONE = part_of()
+SLOT = (["e", 1], ["f", -1], ["y", 40, 600, 0, 20, -10, 1, 1])
 
 
 def worked_examples():
@@ -79,6 +80,10 @@ def worked_examples():
     yield part_of(*ROW), part_of(*CLAMP)
     for axes in (1, 3, 7):
         yield part_of(move(axes, 3), ["n", 1], axes=axes), part_of(["z", 1], ["m", *move(axes, -5, 7)[1:]], axes=axes)
+    for axes in (1, 3, 7):  # circles, whatever the axes
+        yield part_of(*SLOT, axes=axes), part_of(*SLOT[::-1], loop(2, -3), axes=axes)
+        yield part_of(*SLOT, jump(1), axes=axes), part_of(SLOT[2], jump(-1), axes=axes)
+    yield part_of(*CLAMP), part_of(*SLOT, loop(3, -3))
     mark = 0x2BD7  # its bytes, in numbers
     yield part_of(["5", mark], ["0", 0x352BD7, 30, -mark, 30, 0x2BD700, 30, 0, 30]), part_of(["1", 43], ["3", mark, -1], ["2", 43, 1])
 
@@ -155,6 +160,11 @@ def spoilt():
     yield part_of(["m", 1, 600, 1, 600, 1, 600, 1, 600])
     for record in (["5", 65536], ["1", 32], ["1", 127], ["2", 32, 1], ["3", 32768, -1], ["3", 1, 0], ["3", -1, 0], ["z", 2], ["n", 0], ["n", 8]):
         yield part_of(SEND, record)
+    for record in (["e", 3], ["e", -1], ["f", 1], ["f", -2], ["e"], ["f", 0, 0], ["E", 0], SLOT[2][:-1], [*SLOT[2], 1], [*SLOT[2][:-1], 0]):
+        yield part_of(SEND, record)
+    for at, number in ((1, -1), (1, 2**23), (2, 29), (3, 2**23), (4, 4000001), (5, -4000001), (6, 2)):
+        yield part_of(SEND, [*SLOT[2][:at], number, *SLOT[2][at + 1 :]])
+    yield part_of(["y", 40, 600, 0, 0, 0, 1, 1])
     for record in (["9"], ["5"], ["5", 0, 0], ["0", 1, 600], [*WAY[:-1], 29], [*WAY[:-1], 10001], ["0", 2**23, *WAY[2:]]):
         yield part_of(SEND, record)
 

@@ -1,5 +1,6 @@
 #!/usr/bin/env python3
-"""Programs for the check at `9` and for runs (01, "Running a program", paragraph 2), worked out apart from the code.
+"""Programs for the check at `9` and for runs (01, "Running a program", paragraph 2; 02 §3 for the records of circles), worked out apart from
+the code.
 
     python3 tests/vectors/programs.py            writes crates/program_checks/stdin and crates/program_checks/stdout
     python3 tests/vectors/programs.py --check    compares them with what it would write
@@ -54,7 +55,21 @@ def right(axes, code, numbers):
         if number == 0:
             return within(-32768, offset, 32767)
         return within(1, number, 32767) and within(-32768, offset, -1)
+    if code == "e":
+        return len(numbers) == 1 and within(0, numbers[0], 2)
+    if code == "f":
+        return len(numbers) == 1 and within(-1, numbers[0], 0)
+    if code == "y":
+        return len(numbers) == 7 and right_circle(numbers)
     return False
+
+
+def right_circle(numbers):
+    """Arc length, speed, D, the start on both axes, not the centre, and a direction of 1 or -1 for each."""
+    arc, speed, d, start, ways = numbers[0], numbers[1], numbers[2], numbers[3:5], numbers[5:]
+    if not (within(0, arc, 8388607) and within(30, speed, 10000) and within(-8388608, d, 8388607)):
+        return False
+    return any(start) and all(within(-4000000, s, 4000000) for s in start) and all(abs(w) == 1 for w in ways)
 
 
 def encoded(records):
@@ -197,6 +212,12 @@ DELAY = ("5", [3])
 MOVE1 = ("0", [10, 600])
 MOVE3 = ("m", [10, 600, -5, 900])
 MOVE7 = ("0", [1, 600, 2, 600, 3, 600, 4, 600])
+PLANE = ("e", [2])
+TURN = ("f", [-1])
+CIRCLE = ("y", [4, 600, 0, 2, 0, -1, 1])
+# numbers that would lead far away, were their record a jump, a wait or a loop
+JUMPLIKE = ("y", [0, 9999, 0, -3, 3, 1, 1])
+LOOPLIKE = ("y", [65, 30, -1, -1, -1, -1, -1])
 
 
 def faults_at_their_edges():
@@ -306,6 +327,58 @@ def stores():
     case([("5", [0x2BD7]), loop(1, -1), ("5", [0xD7]), jump(0x2B - 0x2B)])
 
 
+def circles():
+    """Records of circles: passed as any other, whatever their numbers, and held by ranges as any other."""
+    rows = (PLANE, TURN, CIRCLE), (JUMPLIKE, LOOPLIKE, TURN), (("e", [0]), JUMPLIKE, ("f", [0]))
+    for row in rows:
+        case([*row])
+        case([*row, loop(2, -3)])
+        case([*row, loop(2, -4)])
+        case([row[0], row[1], loop(1, -1), row[2], loop(1, -2)])
+        case([row[0], loop(1, -1), row[1], loop(1, -1), row[2], loop(1, -5)])
+        for make in (jump, wait):
+            case([make(2), *row])
+            case([make(4), *row])
+            case([make(5), *row])
+            case([*row, make(-3)])
+            case([*row, make(-4)])
+            case([row[0], make(1), row[1], loop(1, -1), row[2]])
+            case([row[0], make(2), row[1], row[2], loop(1, -4)])
+    for depth in (7, 8):
+        case([CIRCLE] + [loop(1, -k) for k in range(1, depth + 1)])
+    for axes in (0, 1, 2, 3, 7, 8):
+        case([PLANE, TURN, CIRCLE], axes=axes)
+    # a store full of circles, and one with a jump over them all
+    case([CIRCLE] * 512)
+    case([CIRCLE] * 511 + [jump(-511), X])
+
+
+def circles_out_of_range():
+    """Each number of a plane, a direction and a circle at both ends of its range and one past them, and other counts."""
+    def changed(at, number):
+        return ("y", CIRCLE[1][:at] + [number] + CIRCLE[1][at + 1 :])
+
+    for code, numbers in (("e", (-1, 0, 2, 3)), ("f", (-2, -1, 0, 1))):
+        for number in numbers:
+            case([X, (code, [number]), SEND])
+        case([(code, [])])
+        case([(code, [0, 0])])
+    ends = (-1, 0, 8388607, 8388608), (29, 30, 10000, 10001), (-8388609, -8388608, 8388607, 8388608)
+    ends += ((-4000001, -4000000, 4000000, 4000001),) * 2 + ((-2, -1, 1, 2, 0),) * 2
+    for at, numbers in enumerate(ends):
+        for number in numbers:
+            case([changed(at, number)])
+    for first, second in ((0, 0), (0, 1), (0, -4000000), (-1, 0), (4000000, -4000000)):
+        case([("y", [4, 600, 0, first, second, 1, -1])])
+    for count in (0, 1, 2, 6, 8):
+        case([("y", (CIRCLE[1] + [1])[:count])])
+    for code in "EFY":
+        case([(code, {"E": [0], "F": [-1], "Y": CIRCLE[1]}[code])])
+    # a byte of a mark, a code, a count and a number
+    for at, byte in ((8, 0), (10, 0x59), (10, 0x65), (11, 8), (15, 0x80), (23, 0x7F), (32, 0), (36, 0)):
+        case([PLANE, CIRCLE, SEND], spoil={at: byte})
+
+
 def full():
     # 1,000 records: 124 times seven nested loops with a record in front, then jumps to the end
     block = [X] + [loop(1, -k) for k in range(1, 8)]
@@ -405,8 +478,8 @@ class Dice:
         return (self.state >> 33) % n
 
 
-def thrown(dice, most, loops):
-    """A program at random; of ten records about so many are loops. Most offsets stay inside, or leave it by one."""
+def thrown(dice, most, loops, plain):
+    """A program at random; of ten records about so many are loops. Most offsets stay inside, or leave it by one. The others are plain."""
     size = 3 + dice.roll(most - 2)
     records = []
     for p in range(size):
@@ -418,16 +491,16 @@ def thrown(dice, most, loops):
             to = dice.roll(size + 1) if dice.roll(6) else (-1, size + 1)[dice.roll(2)]
             records.append((jump, wait)[dice.roll(2)](to - p))
         else:
-            records.append((X, SEND, DELAY)[dice.roll(3)])
+            records.append(plain[dice.roll(len(plain))])
     return records
 
 
-def at_random(seed, most, loops, letters, each):
+def at_random(seed, most, loops, letters, each, plain=(X, SEND, DELAY)):
     """Programs at random until there are so many for each named letter, with two letters or more among the faults; 0 stands for none."""
     dice = Dice(seed)
     room = dict.fromkeys(letters, each)
     while any(room.values()):
-        records = thrown(dice, most, loops)
+        records = thrown(dice, most, loops, plain)
         found = faults(records)
         named = verdict(records)[0]
         several = len({letter for _, letter in found}) > 1
@@ -440,6 +513,7 @@ def random_programs():
     at_random(1, 9, 4, "0abce", 10)
     at_random(2, 24, 3, "abce", 6)
     at_random(3, 26, 7, "d", 12)
+    at_random(4, 12, 4, "0abce", 3, (PLANE, TURN, CIRCLE, JUMPLIKE, LOOPLIKE))
 
 
 def far_ends():
@@ -470,6 +544,8 @@ def main():
     ranges_below_zero()
     random_programs()
     far_ends()
+    circles()
+    circles_out_of_range()
     made = {
         "stdin": "".join("%s\n%s\n" % (head, data) for head, data, _ in CASES),
         "stdout": "".join("%s\n" % line for _, _, line in CASES),

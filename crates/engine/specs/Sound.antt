@@ -4,7 +4,8 @@ use mathlib.Core.Bool.{Bool, true, _&&_, _||_}
 use lib.Dec.{leb, eqb}
 use Rattle.count.specs.Sizes.{storeBytes, mostRecords}
 use Rattle.motion.specs.declared.Counters.{Counters}
-use Rattle.motion.specs.Sound.{counted, underWay}
+use Rattle.motion.specs.Sound.{counted}
+use Rattle.travel.specs.Sound.{underWay}
 use Rattle.engine.specs.declared.Job.{Job}
 use Rattle.engine.specs.declared.Job.the-variants as job
 use Rattle.engine.specs.declared.Engine.{Engine}
@@ -13,7 +14,7 @@ use Rattle.engine.specs.declared.Engine.{Engine}
 abbrev pub axesKnown : ℕ → Bool
 axesKnown a = eqb a 0 || eqb a 1 || eqb a 3 || eqb a 7
 
--- a movement under way, direct or of a program
+-- a movement or an arc under way, direct or of a program
 abbrev pub jobSound : Job → Counters → Bool
 jobSound (job.Direct m) at = underWay m at
 jobSound (job.Moving m) at = underWay m at

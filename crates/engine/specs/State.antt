@@ -1,4 +1,5 @@
--- The engine's state and what lines and control codes do to it (01, "Lines", table of lines; "Running a program", last paragraph).
+-- The engine's state and what lines and control codes do to it (01, "Lines", table of lines; "Running a program", last paragraph; 02, §3 for
+-- circles).
 use Prim.Native.Nat.{ℕ}
 use mathlib.Core.Bool.{Bool, false}
 use mathlib.Core.List.{List, [], _∷_}
@@ -10,12 +11,17 @@ use Rattle.count.specs.Paper.{Paper, says}
 use Rattle.count.specs.Numbers.{half}
 use Rattle.count.specs.Ranges.{names}
 use Rattle.motion.specs.declared.Counters.{Counters}
-use Rattle.motion.specs.declared.Move.{Move}
-use Rattle.motion.specs.declared.Planned.{Planned}
-use Rattle.motion.specs.declared.Planned.the-variants as planned
 use Rattle.motion.specs.Phase.{signValue}
-use Rattle.motion.specs.Plan.{asked, planOf}
-use Rattle.motion.specs.Next.{leftOf}
+use Rattle.motion.specs.Plan.{asked}
+use Rattle.circle.specs.declared.Plane.{Plane}
+use Rattle.circle.specs.declared.Direction.{Direction}
+use Rattle.circle.specs.declared.Circling.{Circling}
+use Rattle.circle.specs.Plan.{circling, atFirst}
+use Rattle.travel.specs.declared.Travel.{Travel}
+use Rattle.travel.specs.declared.Planned.{Planned}
+use Rattle.travel.specs.declared.Planned.the-variants as planned
+use Rattle.travel.specs.Next.{leftOf}
+use Rattle.travel.specs.Plan.{planOf, circleOf}
 use Rattle.record.specs.declared.Held.{Held}
 use Rattle.program.specs.declared.Loops.{Loops}
 use Rattle.program.specs.Onward.{noLoops}
@@ -40,22 +46,25 @@ paper answer.Nothing = says 5 []
 -- ---- one field made anew, the others kept
 
 abbrev pub withAt : Engine → Counters → Engine
-withAt e c = record { axes = e .axes; at = c; origin = e .origin; three = e .three; output = e .output; held = e .held; run = e .run }
+withAt e c = record { axes = e .axes; at = c; origin = e .origin; three = e .three; circling = e .circling; output = e .output; held = e .held; run = e .run }
 
 abbrev pub withOrigin : Engine → Counters → Engine
-withOrigin e c = record { axes = e .axes; at = e .at; origin = c; three = e .three; output = e .output; held = e .held; run = e .run }
+withOrigin e c = record { axes = e .axes; at = e .at; origin = c; three = e .three; circling = e .circling; output = e .output; held = e .held; run = e .run }
 
 abbrev pub withThree : Engine → Bool → Engine
-withThree e b = record { axes = e .axes; at = e .at; origin = e .origin; three = b; output = e .output; held = e .held; run = e .run }
+withThree e b = record { axes = e .axes; at = e .at; origin = e .origin; three = b; circling = e .circling; output = e .output; held = e .held; run = e .run }
+
+abbrev pub withCircling : Engine → Circling → Engine
+withCircling e c = record { axes = e .axes; at = e .at; origin = e .origin; three = e .three; circling = c; output = e .output; held = e .held; run = e .run }
 
 abbrev pub withOutput : Engine → ℕ → Engine
-withOutput e v = record { axes = e .axes; at = e .at; origin = e .origin; three = e .three; output = v; held = e .held; run = e .run }
+withOutput e v = record { axes = e .axes; at = e .at; origin = e .origin; three = e .three; circling = e .circling; output = v; held = e .held; run = e .run }
 
 abbrev pub withHeld : Engine → Held → Engine
-withHeld e h = record { axes = e .axes; at = e .at; origin = e .origin; three = e .three; output = e .output; held = h; run = e .run }
+withHeld e h = record { axes = e .axes; at = e .at; origin = e .origin; three = e .three; circling = e .circling; output = e .output; held = h; run = e .run }
 
 abbrev pub withRun : Engine → Run → Engine
-withRun e r = record { axes = e .axes; at = e .at; origin = e .origin; three = e .three; output = e .output; held = e .held; run = r }
+withRun e r = record { axes = e .axes; at = e .at; origin = e .origin; three = e .three; circling = e .circling; output = e .output; held = e .held; run = r }
 
 abbrev pub running : Job → ℕ → Loops → Run
 running j place loops = record { job = j; place = place; loops = loops }
@@ -73,9 +82,9 @@ zeroes = record { x = half; y = half; z = half }
 unfoldable pub mixed : ℕ → Counters → Counters → Counters
 mixed axes c d = record { x = pick (names axes 1) (c .x) (d .x); y = pick (names axes 2) (c .y) (d .y); z = pick (names axes 4) (c .z) (d .z) }
 
--- setting axes: positions and origins 0, 2.5D on
+-- setting axes: positions and origins 0, 2.5D on; plane 0, clockwise
 abbrev pub axesOf : ℕ → Engine → Engine
-axesOf axes e = record { axes = axes; at = zeroes; origin = zeroes; three = false; output = e .output; held = e .held; run = e .run }
+axesOf axes e = record { axes = axes; at = zeroes; origin = zeroes; three = false; circling = atFirst; output = e .output; held = e .held; run = e .run }
 
 -- n: origin := position; N: position and origin := 0
 abbrev pub originOf : ℕ → Engine → Engine
@@ -83,6 +92,14 @@ originOf axes e = withOrigin e (mixed axes (e .at) (e .origin))
 
 abbrev pub zeroOf : ℕ → Engine → Engine
 zeroOf axes e = withOrigin (withAt e (mixed axes zeroes (e .at))) (mixed axes zeroes (e .origin))
+
+-- ---- circles: e sets their plane, f their direction
+
+abbrev pub withPlane : Plane → Engine → Engine
+withPlane p e = withCircling e (circling p (e .circling .direction))
+
+abbrev pub withDirection : Direction → Engine → Engine
+withDirection d e = withCircling e (circling (e .circling .plane) d)
 
 -- ---- the run and the store's part in use
 
@@ -106,18 +123,18 @@ emptied e = withHeld e nothingHeld
 
 -- a fresh board's engine: a reset one with an emptied store
 abbrev pub fresh : Engine
-fresh = record { axes = 0; at = zeroes; origin = zeroes; three = false; output = 0; held = nothingHeld; run = idle }
+fresh = record { axes = 0; at = zeroes; origin = zeroes; three = false; circling = atFirst; output = 0; held = nothingHeld; run = idle }
 
 -- storing begins with an emptied store, under the axes set
 abbrev pub storingOf : Engine → Engine
 storingOf e = withRun (withHeld e (record { used = 0; records = 0; axes = e .axes })) (running job.Storing 0 noLoops)
 
--- reset: axes, positions, origins, outputs and run cleared, 2.5D; the store is kept, but one being written is emptied
+-- reset: axes, positions, origins, outputs and run cleared, 2.5D, plane 0, clockwise; the store is kept, but one being written is emptied
 abbrev pub keptBy : Job → Held → Held
 keptBy j h = pick (rowOf (kind j) .isStoring) nothingHeld h
 
 unfoldable pub resetOf : Engine → Engine
-resetOf e = record { axes = 0; at = zeroes; origin = zeroes; three = false; output = 0; held = keptBy (e .run .job) (e .held); run = idle }
+resetOf e = record { axes = 0; at = zeroes; origin = zeroes; three = false; circling = atFirst; output = 0; held = keptBy (e .run .job) (e .held); run = idle }
 
 -- ---- a byte at a wait: equal to the character it jumps to the target, any other goes on to the next record
 
@@ -133,18 +150,21 @@ heardBy (job.Delay q) b e = e
 unfoldable pub heard : ℕ → Engine → Engine
 heard b e = heardBy (e .run .job) b e
 
--- ---- a direct movement: reply 9; reply 0 if it has no pulse; else it runs and replies nothing yet
+-- ---- a direct movement or circle: the reply that refuses it; reply 0 if it has no pulse; else it runs and replies nothing yet
 
 abbrev pub begun : ℕ → Engine → Begun
 begun reply e = record { engine = e; reply = reply }
 
--- a movement without a pulse left
-abbrev pub noPulse : Move → Bool
+-- without a pulse left
+abbrev pub noPulse : Travel → Bool
 noPulse m = eqb (leftOf m) 0
 
 abbrev pub begunBy : Planned → Engine → Begun
 begunBy (planned.Going m) e = pick (noPulse m) (begun (ch "0") e) (begun 0 (withJob e (job.Direct m)))
-begunBy planned.Outside e = begun (ch "9") e
+begunBy (planned.Refused b) e = begun b e
 
 unfoldable pub beginOf : Bool → List ℕ → Engine → Begun
 beginOf absolute words e = begunBy (planOf (asked (e .axes) (e .three) (e .at) (e .origin) absolute words)) e
+
+unfoldable pub circleBegun : List ℕ → Engine → Begun
+circleBegun words e = begunBy (circleOf (e .axes) (e .circling) (e .at) words) e

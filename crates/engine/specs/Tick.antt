@@ -1,4 +1,4 @@
--- One clock call (01, "Running a program", paragraph 1; "Movement", last sentence): the next pulse, one pause, or one record. It is
+-- One clock call (01, "Running a program", paragraph 1; "Movement", last sentence; 02, §3): the next pulse, one pause, or one record. It is
 -- defined once, over the rule that gives the next pulse and over how the record at a place is fetched.
 use Prim.Native.Nat.{ℕ, zero, suc, _+_}
 use mathlib.Core.Bool.{Bool}
@@ -8,13 +8,15 @@ use lib.ListN.{length, getD}
 use Rattle.count.specs.Chars.{ch}
 use Rattle.count.specs.Pick.{pick}
 use Rattle.motion.specs.declared.Counters.{Counters}
-use Rattle.motion.specs.declared.Move.{Move}
-use Rattle.motion.specs.declared.Next.{Next}
-use Rattle.motion.specs.declared.Next.the-variants as next
-use Rattle.motion.specs.declared.Planned.{Planned}
-use Rattle.motion.specs.declared.Planned.the-variants as planned
 use Rattle.motion.specs.Phase.{movedAll}
-use Rattle.motion.specs.Plan.{asked, planOf}
+use Rattle.motion.specs.Plan.{asked}
+use Rattle.circle.specs.Plan.{planeOf, directionOf}
+use Rattle.travel.specs.declared.Travel.{Travel}
+use Rattle.travel.specs.declared.Planned.{Planned}
+use Rattle.travel.specs.declared.Planned.the-variants as planned
+use Rattle.travel.specs.Next.{Next}
+use Rattle.travel.specs.Next.Next as next
+use Rattle.travel.specs.Plan.{planOf, circleOf}
 use Rattle.record.specs.declared.Record.{Record}
 use Rattle.record.specs.Fault.{isMovement, isAbsolute}
 use Rattle.record.specs.Bytes.{Fetch, made}
@@ -30,11 +32,11 @@ use Rattle.engine.specs.declared.Job.the-variants as job
 use Rattle.engine.specs.declared.Engine.{Engine}
 use Rattle.engine.specs.declared.Told.{Told}
 use Rattle.engine.specs.Kinds.{kind, rowOf}
-use Rattle.engine.specs.State.{withAt, withThree, withRun, withJob, running, originOf, ceased, emptied}
+use Rattle.engine.specs.State.{withAt, withThree, withPlane, withDirection, withRun, withJob, running, originOf, ceased, emptied}
 
--- the next pulse of a movement, and the record at a place
+-- the next pulse of what moves, and the record at a place
 abbrev pub Rule : Type 0
-Rule = Move → Counters → Next
+Rule = Travel → Counters → Next
 
 abbrev pub Fetching : Type 0
 Fetching = ℕ → Fetch
@@ -70,10 +72,10 @@ abbrev pub moving : Next → Engine → Told
 moving (next.Made s) e = told (onTo (job.Moving (s .rest)) e) (answer.Pulse (s .signs) (s .speed))
 moving next.Over e = told (onTo job.Ready e) answer.Done
 
--- it is planned as it is run, under the store's axes; 9 ends the program without a pulse of it and keeps the store
+-- it is planned as it is run, under the store's axes; 9, or a circle's 3 or 1, ends the program without a pulse of it and keeps the store
 abbrev pub movingBy : Rule → Planned → Engine → Told
 movingBy rule (planned.Going m) e = moving (rule m (e .at)) e
-movingBy rule planned.Outside e = finished (ch "9") e
+movingBy rule (planned.Refused b) e = finished b e
 
 -- the pauses after this one
 abbrev pub afterPause : ℕ → Job
@@ -98,7 +100,10 @@ performed rule r e =
     (pick (eqb (r .code) (ch "z")) (told (onTo job.Ready (withThree e (eqb (getD (r .words) 0 0) 1))) answer.Done)
     (pick (eqb (r .code) (ch "5")) (delaying (getD (r .words) 0 0) e)
     (pick (eqb (r .code) (ch "1")) (told (onTo job.Ready e) (answer.Send (getD (r .words) 0 0)))
-    (let o = onwardOf r (e .run .place) (e .held .records) (e .run .loops) in leading o (o .going) (getD (r .words) 0 0) e)))))
+    (pick (eqb (r .code) (ch "e")) (told (onTo job.Ready (withPlane (planeOf (getD (r .words) 0 0)) e)) answer.Done)
+    (pick (eqb (r .code) (ch "f")) (told (onTo job.Ready (withDirection (directionOf (getD (r .words) 0 0)) e)) answer.Done)
+    (pick (eqb (r .code) (ch "y")) (movingBy rule (circleOf (e .held .axes) (e .circling) (e .at) (r .words)) e)
+    (let o = onwardOf r (e .run .place) (e .held .records) (e .run .loops) in leading o (o .going) (getD (r .words) 0 0) e))))))))
 
 -- the record at the place; at the end place one call sends 0; what cannot be found and read ends with G
 abbrev pub fetched : Rule → Fetch → Engine → Told
@@ -108,12 +113,12 @@ fetched rule Wrong e = failed e
 
 -- ---- one clock call, by what is under way
 
--- a direct movement sends 0 by one call after its last pulse
+-- a direct movement or circle sends 0 by one call after its last pulse
 abbrev pub directly : Next → Engine → Told
 directly (next.Made s) e = told (withJob e (job.Direct (s .rest))) (answer.Pulse (s .signs) (s .speed))
 directly next.Over e = finished (ch "0") e
 
--- a movement of a program with no pulse left gives way to the next record
+-- one of a program with no pulse left gives way to the next record
 abbrev pub movingOn : Rule → Fetching → Next → Engine → Told
 movingOn rule fetch (next.Made s) e = told (withJob e (job.Moving (s .rest))) (answer.Pulse (s .signs) (s .speed))
 movingOn rule fetch next.Over e = fetched rule (fetch (e .run .place)) e

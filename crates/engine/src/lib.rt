@@ -4,12 +4,13 @@ mod sound;
 mod state;
 mod tick;
 
+use circle::Circling;
 use motion::Beat;
 use motion::Counters;
-use motion::Move;
 use motion::Signs;
 use program::Loops;
 use record::Held;
+use travel::Travel;
 
 // What a clock call answers.
 pub enum Answer {
@@ -20,14 +21,14 @@ pub enum Answer {
     Nothing,
 }
 
-// What is under way: nothing; storing; a direct movement; a program between records, in a movement, in a delay with so many pauses after
+// What is under way: nothing; storing; a direct movement or circle; a program between records, in a movement, in a delay with so many pauses after
 // the next one, or waiting for a character with its target.
 pub enum Job {
     Idle,
     Storing,
-    Direct(Move),
+    Direct(Travel),
     Ready,
-    Moving(Move),
+    Moving(Travel),
     Delay(u16),
     Wait(u8, u16),
 }
@@ -44,6 +45,7 @@ pub struct Engine {
     pub at: Counters,
     pub origin: Counters,
     pub three: bool,
+    pub circling: Circling,
     pub output: u8,
     pub held: Held,
     pub run: Run,
@@ -55,7 +57,8 @@ pub struct Told {
     pub answer: Answer,
 }
 
-// The engine after a direct movement's line, and its reply: 9, 0 for one without a pulse, or none (0) for one that runs.
+// The engine after the line of a direct movement or circle, and its reply: what refuses it, 0 for one without a pulse, or none (0) for one
+// that runs.
 pub struct Begun {
     pub engine: Engine,
     pub reply: u8,
@@ -72,8 +75,8 @@ pub enum Act {
     Record,
 }
 
-// The movement under way, if one is.
+// What moves, if something does.
 pub enum Under {
-    Going(Move),
+    Going(Travel),
     Nothing,
 }

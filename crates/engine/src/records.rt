@@ -2,8 +2,10 @@
 ghost use mathlib.Core.Path.{_≡_};
 ghost use Prim.Native.Nat.{_<_, _+_};
 ghost use lib.ListN.{getD};
-ghost use Rattle.motion.specs.work.Here.{nextOf};
-ghost use Rattle.motion.specs.Plan.{asked, planOf};
+ghost use Rattle.motion.specs.Plan.{asked};
+ghost use Rattle.circle.specs.Plan.{planeOf, directionOf};
+ghost use Rattle.travel.specs.Plan.{planOf, circleOf};
+ghost use Rattle.travel.specs.work.Beat.{nextOf};
 ghost use Rattle.program.specs.Onward.{onwardOf};
 ghost use Rattle.engine.specs.State.{withRun, running};
 ghost use Rattle.engine.specs.Tick.{told, finished, failed, onTo, moving, movingBy, afterPause, delaying, leading, performed};
@@ -16,11 +18,11 @@ use super::Run;
 use super::Told;
 use motion::Beat;
 use motion::Beaten;
-use motion::Move;
-use motion::Planned;
 use program::Going;
 use program::Loops;
 use record::Record;
+use travel::Planned;
+use travel::Travel;
 
 // The pauses after one.
 pub(crate) fn after_pause(q: u16) -> Job
@@ -79,7 +81,7 @@ impl Engine {
     }
 
     // A movement's first pulse, or done without one.
-    fn first_pulse(self, m: Move) -> Told
+    fn first_pulse(self, m: Travel) -> Told
         requires { ⌜ self .run .place < 65535 ⌝ }
         ensures { λ r. ⌜ r ≡ moving (nextOf m (self .at)) self ⌝ }
     {
@@ -95,14 +97,14 @@ impl Engine {
         }
     }
 
-    // A movement as it is planned; 9 ends the program without a pulse of it.
+    // What moves as it is planned; what refuses it ends the program without a pulse of it.
     fn travel_by(self, plan: Planned) -> Told
         requires { ⌜ self .run .place < 65535 ⌝ }
         ensures { λ r. ⌜ r ≡ movingBy nextOf plan self ⌝ }
     {
         match plan {
             Planned::Going(m) => self.first_pulse(m),
-            Planned::Outside => self.finish(b'9'),
+            Planned::Refused(b) => self.finish(b),
         }
     }
 
@@ -112,7 +114,17 @@ impl Engine {
         ensures { λ r. ⌜ r ≡ movingBy nextOf (planOf (asked (self .held .axes) (self .three) (self .at) (self .origin) absolute words)) self ⌝ }
     {
         let held = self.held;
-        let plan = motion::plan(held.axes, self.three, self.at, self.origin, absolute, words);
+        let plan = travel::plan(held.axes, self.three, self.at, self.origin, absolute, words);
+        self.travel_by(plan)
+    }
+
+    // A circle, planned under the store's axes.
+    fn turn(self, words: [u32; 8]) -> Told
+        requires { ⌜ self .run .place < 65535 ⌝ }
+        ensures { λ r. ⌜ r ≡ movingBy nextOf (circleOf (self .held .axes) (self .circling) (self .at) words) self ⌝ }
+    {
+        let held = self.held;
+        let plan = travel::circle(held.axes, self.circling, self.at, words);
         self.travel_by(plan)
     }
 
@@ -170,6 +182,9 @@ impl Engine {
             b'z' => self.set_three(w == 1).on_to(Job::Ready).tell(Answer::Done),
             b'5' => self.delay(w as u16),
             b'1' => self.on_to(Job::Ready).tell(Answer::Send(w as u8)),
+            b'e' => self.set_plane(w).on_to(Job::Ready).tell(Answer::Done),
+            b'f' => self.set_direction(w).on_to(Job::Ready).tell(Answer::Done),
+            b'y' => self.turn(words),
             _ => self.lead(item),
         }
     }

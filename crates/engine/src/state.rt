@@ -2,22 +2,26 @@
 ghost use mathlib.Core.Path.{_≡_};
 ghost use Prim.Native.Nat.{_<_};
 ghost use Rattle.count.specs.Pick.{pick};
-ghost use Rattle.motion.specs.work.Here.{nextOf};
-ghost use Rattle.motion.specs.Plan.{asked, planOf};
+ghost use Rattle.motion.specs.Plan.{asked};
+ghost use Rattle.circle.specs.Plan.{atFirst, planeOf, directionOf};
+ghost use Rattle.travel.specs.Plan.{planOf, circleOf};
 ghost use Rattle.program.specs.Onward.{noLoops};
 ghost use Rattle.engine.specs.work.Glide.{glided};
 ghost use Rattle.count.specs.Ranges.{names};
-ghost use Rattle.engine.specs.State.{withAt, withOrigin, withThree, withOutput, withHeld, withRun, running, withJob, zeroes, mixed, axesOf, originOf, zeroOf, idle, ceased, started, nothingHeld, emptied, fresh, storingOf, keptBy, resetOf, heard, begun, begunBy, beginOf};
+ghost use Rattle.engine.specs.State.{withAt, withOrigin, withThree, withCircling, withPlane, withDirection, withOutput, withHeld, withRun, running, withJob, zeroes, mixed, axesOf, originOf, zeroOf, idle, ceased, started, nothingHeld, emptied, fresh, storingOf, keptBy, resetOf, heard, begun, begunBy, beginOf, circleBegun};
 use super::Begun;
 use super::Engine;
 use super::Job;
 use super::Run;
+use circle::Circling;
+use circle::Direction;
+use circle::Plane;
 use motion::Counters;
-use motion::Move;
-use motion::Planned;
 use program::Loop;
 use program::Loops;
 use record::Held;
+use travel::Planned;
+use travel::Travel;
 
 // The counters of three axes at 0.
 fn at_zero() -> Counters
@@ -28,6 +32,15 @@ fn at_zero() -> Counters
         y: 8388608,
         z: 8388608,
     }
+}
+
+// Plane 0, clockwise.
+fn circling_first() -> Circling
+    ensures { λ r. ⌜ r ≡ atFirst ⌝ }
+{
+    let plane = Plane::XY;
+    let direction = Direction::Clockwise;
+    Circling { plane, direction }
 }
 
 fn no_loops() -> Loops
@@ -115,6 +128,7 @@ impl Engine {
             at: at_zero(),
             origin: at_zero(),
             three: false,
+            circling: circling_first(),
             output: 0,
             held,
             run,
@@ -136,16 +150,18 @@ impl Engine {
         self.with_run(run.with_job(job))
     }
 
-    // Setting axes: positions and origins 0, 2.5D on.
+    // Setting axes: positions and origins 0, 2.5D on; plane 0, clockwise.
     pub fn set_axes(self, axes: u8) -> Engine
         ensures { λ r. ⌜ r ≡ axesOf axes self ⌝ }
     {
         let zero = at_zero();
+        let circling = circling_first();
         let mut e = self;
         e.axes = axes;
         e.at = zero;
         e.origin = zero;
         e.three = false;
+        e.circling = circling;
         e
     }
 
@@ -185,6 +201,34 @@ impl Engine {
         let mut e = self;
         e.three = on;
         e
+    }
+
+    fn with_circling(self, circling: Circling) -> Engine
+        ensures { λ r. ⌜ r ≡ withCircling self circling ⌝ }
+    {
+        let mut e = self;
+        e.circling = circling;
+        e
+    }
+
+    // The plane of circles, by its number.
+    pub fn set_plane(self, w: u32) -> Engine
+        ensures { λ r. ⌜ r ≡ withPlane (planeOf w) self ⌝ }
+    {
+        let circling = self.circling;
+        let direction = circling.direction;
+        let plane = circle::plane_of(w);
+        self.with_circling(Circling { plane, direction })
+    }
+
+    // Their direction, by its number.
+    pub fn set_direction(self, w: u32) -> Engine
+        ensures { λ r. ⌜ r ≡ withDirection (directionOf w) self ⌝ }
+    {
+        let circling = self.circling;
+        let plane = circling.plane;
+        let direction = circle::direction_of(w);
+        self.with_circling(Circling { plane, direction })
     }
 
     pub fn set_output(self, v: u8) -> Engine
@@ -277,7 +321,7 @@ impl Engine {
         }
     }
 
-    // A direct movement as it is planned.
+    // A direct movement or circle as it is planned.
     fn begin_by(self, plan: Planned) -> Begun
         ensures { λ r. ⌜ r ≡ begunBy plan self ⌝ }
     {
@@ -294,9 +338,9 @@ impl Engine {
                     reply: 0,
                 }
             }
-            Planned::Outside => Begun {
+            Planned::Refused(b) => Begun {
                 engine: self,
-                reply: b'9',
+                reply: b,
             },
         }
     }
@@ -305,12 +349,20 @@ impl Engine {
     pub fn begin(self, absolute: bool, words: [u32; 8]) -> Begun
         ensures { λ r. ⌜ r ≡ beginOf absolute words self ⌝ }
     {
-        let plan = motion::plan(self.axes, self.three, self.at, self.origin, absolute, words);
+        let plan = travel::plan(self.axes, self.three, self.at, self.origin, absolute, words);
         self.begin_by(plan)
     }
 
-    // The movement under way with its counters and what is left of it, further on.
-    pub fn glide(self, at: Counters, rest: Move) -> Engine
+    // A direct circle's line.
+    pub fn begin_circle(self, words: [u32; 8]) -> Begun
+        ensures { λ r. ⌜ r ≡ circleBegun words self ⌝ }
+    {
+        let plan = travel::circle(self.axes, self.circling, self.at, words);
+        self.begin_by(plan)
+    }
+
+    // What moves with its counters and what is left of it, further on.
+    pub fn glide(self, at: Counters, rest: Travel) -> Engine
         ensures { λ r. ⌜ r ≡ glided at rest self ⌝ }
     {
         let run = self.run;

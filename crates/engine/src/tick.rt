@@ -1,6 +1,6 @@
 // One clock call: the next pulse, one pause, or one record. It is decided first, on the job and the counters alone, and then done.
 ghost use mathlib.Core.Path.{_≡_};
-ghost use Rattle.motion.specs.work.Here.{nextOf};
+ghost use Rattle.travel.specs.work.Beat.{nextOf};
 ghost use Rattle.record.specs.Memory.{memory};
 ghost use Rattle.record.specs.Table.{fetchOf};
 ghost use Rattle.engine.specs.State.{running};
@@ -98,7 +98,7 @@ impl Job {
 }
 
 impl Engine {
-    // The movement under way, if one is.
+    // What moves, if something does.
     pub fn under_way(self) -> Under
         ensures { λ r. ⌜ r ≡ underOf (self .run .job) ⌝ }
     {

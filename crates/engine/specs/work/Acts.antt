@@ -8,17 +8,15 @@ use Rattle.count.specs.Sizes.{storeBytes, mostRecords}
 use Rattle.count.specs.Pick.{pick}
 use Rattle.count.specs.Paper.{Paper, says}
 use Rattle.motion.specs.declared.Counters.{Counters}
-use Rattle.motion.specs.declared.Next.{Next}
-use Rattle.motion.specs.declared.Next.the-variants as next
 use Rattle.motion.specs.declared.Mark.{Mark}
 use Rattle.motion.specs.declared.Beat.{Beat}
 use Rattle.motion.specs.declared.Look.{Look}
 use Rattle.motion.specs.declared.Look.the-variants as look
-use Rattle.motion.specs.declared.Planned.the-variants as planned
-use Rattle.motion.specs.Plan.{plannedPaper}
 use Rattle.motion.specs.Sound.{counted}
-use Rattle.motion.specs.work.Here.{nextOf}
-use Rattle.motion.specs.work.Beat.{atMark, beatOf, lookOf}
+use Rattle.travel.specs.Next.{Next}
+use Rattle.travel.specs.Next.Next as next
+use Rattle.travel.specs.Plan.{travelPaper}
+use Rattle.travel.specs.work.Beat.{nextOf, atMark, beatOf, lookOf}
 use Rattle.engine.specs.declared.Answer.the-variants as answer
 use Rattle.engine.specs.declared.Job.{Job}
 use Rattle.engine.specs.declared.Job.the-variants as job
@@ -35,7 +33,7 @@ use Rattle.engine.specs.Tick.{Rule, Fetching, told, finished, afterPause
 
 -- ---- what is under way
 
--- the movement, if one is
+-- what moves, if something does
 abbrev pub underOf : Job → Under
 underOf job.Idle = under.Nothing
 underOf job.Storing = under.Nothing
@@ -137,5 +135,5 @@ actPaper fetch e act.Finish = paper (answer.Send (ch "0"))
 actPaper fetch e act.Record = paper (fetched nextOf (fetch (e .run .place)) e .answer)
 
 abbrev pub underPaper : Under → Paper
-underPaper (under.Going m) = plannedPaper (planned.Going m)
+underPaper (under.Going m) = travelPaper m
 underPaper under.Nothing = says 5 []

@@ -10,7 +10,7 @@ use Rattle.count.specs.Sizes.{storeBytes, replyBytes}
 use Rattle.count.specs.Pick.{pick}
 use Rattle.count.specs.Numbers.{full, value}
 use Rattle.motion.specs.declared.Counters.{Counters}
-use Rattle.motion.specs.Next.{pulseOf}
+use Rattle.travel.specs.Next.{pulseOf}
 use Rattle.record.specs.Memory.{Memory, storeFits, tableFits}
 use Rattle.record.specs.Table.{fetchOf}
 use Rattle.record.specs.Listing.{Telling, telling, listOf}

@@ -1,4 +1,4 @@
--- A line outside storing: the table of replies and the effects (01, "Lines", both tables).
+-- A line outside storing: the table of replies and the effects (01, "Lines", both tables; 02, §3 for e, f and y).
 use Prim.Native.Nat.{ℕ}
 use mathlib.Core.Bool.{Bool, true, false, not, _&&_, _||_}
 use mathlib.Core.List.{List, [], _∷_, _++_}
@@ -7,9 +7,9 @@ use lib.ListN.{getD}
 use Rattle.count.specs.Pick.{pick}
 use Rattle.count.specs.Ranges.{inPort, inByte, inZero, nth}
 use Rattle.count.specs.Text.{report, twoHex}
-use Rattle.motion.specs.declared.Planned.{Planned}
-use Rattle.motion.specs.declared.Planned.the-variants as planned
-use Rattle.motion.specs.Plan.{asked, planOf}
+use Rattle.motion.specs.Plan.{asked}
+use Rattle.circle.specs.Plan.{planeOf, directionOf}
+use Rattle.travel.specs.Plan.{planOf, circleOf, refusal}
 use Rattle.record.specs.Memory.{Memory}
 use Rattle.record.specs.Fault.{Asks, asking, just, any, unknown, asks, numbersReply}
 use Rattle.line.specs.declared.Letter.{Letter}
@@ -17,7 +17,7 @@ use Rattle.line.specs.declared.Letter.the-variants as letter
 use Rattle.line.specs.declared.Direct.{Direct}
 use Rattle.engine.specs.declared.Engine.{Engine}
 use Rattle.engine.specs.declared.Begun.{Begun}
-use Rattle.engine.specs.State.{withThree, withOutput, axesOf, originOf, zeroOf, started, emptied, storingOf, beginOf}
+use Rattle.engine.specs.State.{withThree, withPlane, withDirection, withOutput, axesOf, originOf, zeroOf, started, emptied, storingOf, beginOf, circleBegun}
 use Rattle.board.specs.declared.Board.{Board}
 use Rattle.count.specs.Chars.{ch}
 use Rattle.board.specs.State.{board, noLine, lineDone, Said, said}
@@ -25,12 +25,12 @@ use Rattle.board.specs.State.{board, noLine, lineDone, Said, said}
 -- ---- what each line wants: a row for each letter, in the order of 01's first table
 
 -- is it heard while something stands stopped (W), does it need axes (4), what is asked of its shape (5) and of its numbers (7, 3, 1, D),
--- would it pass a resting point outside 24 bits (9), and is it S (8, G)
+-- what refuses its plan (9; of a circle 3, 1, D and 9 in this order), and is it S (8, G)
 pub record Wants : Type 0 where
   pub heard : Bool
   pub axes : Bool
   pub numbers : Asks
-  pub outside : Engine → List ℕ → Bool
+  pub plan : Engine → List ℕ → ℕ
   pub starts : Bool
 
 -- the entries that no record has
@@ -46,25 +46,26 @@ port axes l = inPort (nth l 0)
 abbrev pub portValue : ℕ → List ℕ → Bool
 portValue axes l = inZero (nth l 0) && inByte (nth l 1)
 
-abbrev pub isOutside : Planned → Bool
-isOutside (planned.Going m) = false
-isOutside planned.Outside = true
+-- a movement, a circle, and what has no plan
+abbrev pub moves : Bool → Engine → List ℕ → ℕ
+moves absolute e l = refusal (planOf (asked (e .axes) (e .three) (e .at) (e .origin) absolute l))
 
-abbrev pub leaves : Bool → Engine → List ℕ → Bool
-leaves absolute e l = isOutside (planOf (asked (e .axes) (e .three) (e .at) (e .origin) absolute l))
+abbrev pub turns : Engine → List ℕ → ℕ
+turns e l = refusal (circleOf (e .axes) (e .circling) (e .at) l)
 
-abbrev pub stays : Engine → List ℕ → Bool
-stays e l = false
+abbrev pub stays : Engine → List ℕ → ℕ
+stays e l = ch "0"
 
--- a row: W, 4, numbers, 9
-abbrev pub wanting : Bool → Bool → Asks → (Engine → List ℕ → Bool) → Wants
-wanting heard axes numbers outside = record { heard = heard; axes = axes; numbers = numbers; outside = outside; starts = false }
+-- a row: W, 4, numbers, plan
+abbrev pub wanting : Bool → Bool → Asks → (Engine → List ℕ → ℕ) → Wants
+wanting heard axes numbers plan = record { heard = heard; axes = axes; numbers = numbers; plan = plan; starts = false }
 
--- A and M ask what a record's `0` and `m` ask, n and N what its `n`, z what its `z`
+-- A and M ask what a record's `0` and `m` ask, n and N what its `n`, z, e and f what its own; a circle's numbers but their count are asked
+-- with its plan, since its plane and direction come in between
 abbrev pub wants : Letter → Wants
 wants letter.Axes = wanting false false (asking (just 1) axesValue any any) stays
-wants letter.Relative = wanting false true (asks (ch "0")) (leaves false)
-wants letter.Absolute = wanting false true (asks (ch "m")) (leaves true)
+wants letter.Relative = wanting false true (asks (ch "0")) (moves false)
+wants letter.Absolute = wanting false true (asks (ch "m")) (moves true)
 wants letter.Origin = wanting false true (asks (ch "n")) stays
 wants letter.Zero = wanting false true (asks (ch "n")) stays
 wants letter.Three = wanting false true (asks (ch "z")) stays
@@ -73,7 +74,10 @@ wants letter.Input = wanting true false (asking (just 1) any port any) stays
 wants letter.Output = wanting false false (asking (just 2) any portValue any) stays
 wants letter.Store = wanting false true none stays
 wants letter.Empty = wanting false false none stays
-wants letter.Start = record { heard = true; axes = true; numbers = none; outside = stays; starts = true }
+wants letter.Start = record { heard = true; axes = true; numbers = none; plan = stays; starts = true }
+wants letter.Plane = wanting false true (asks (ch "e")) stays
+wants letter.Direction = wanting false true (asks (ch "f")) stays
+wants letter.Circle = wanting false true (asking (just 7) any any any) turns
 wants letter.Wrong = wanting false false unknown stays
 
 -- the columns
@@ -98,8 +102,8 @@ rangesFit k = wants k .numbers .ranges
 abbrev pub speedsFit : Letter → ℕ → List ℕ → Bool
 speedsFit k = wants k .numbers .speeds
 
-abbrev pub restsOutside : Letter → Engine → List ℕ → Bool
-restsOutside k = wants k .outside
+abbrev pub planReply : Letter → Engine → List ℕ → ℕ
+planReply k = wants k .plan
 
 abbrev pub isStart : Letter → Bool
 isStart k = wants k .starts
@@ -128,7 +132,7 @@ replyOf e standing d =
     (numbersReply (countFits (d .letter) (e .axes) (d .count)) (axesFit (d .letter) (e .axes) (d .words))
     (rangesFit (d .letter) (e .axes) (d .words)) (speedsFit (d .letter) (e .axes) (d .words))
     (first
-    (row (ch "9") (restsOutside (d .letter) e (d .words))
+    (row (planReply (d .letter) e (d .words)) (not (eqb (planReply (d .letter) e (d .words)) (ch "0")))
     ∷ row (ch "8") (isStart (d .letter) && not standing && eqb (e .held .records) 0)
     ∷ row (ch "G") (isStart (d .letter) && not standing && not (eqb (e .axes) (e .held .axes)))
     ∷ [])
@@ -144,7 +148,7 @@ pub record Effect : Type 0 where
 abbrev pub effect : Engine → Bool → List ℕ → Effect
 effect e s reply = record { engine = e; standing = s; reply = reply }
 
--- a movement that runs replies nothing yet; one without a pulse replies 0
+-- a movement or circle that runs replies nothing yet; one without a pulse replies 0
 abbrev pub started-with : Begun → Bool → Effect
 started-with b s = effect (b .engine) s (pick (eqb (b .reply) 0) [] (b .reply ∷ []))
 
@@ -162,6 +166,9 @@ effectOf letter.Output l ports e s = effect (withOutput e (getD l 1 0)) s (ch "0
 effectOf letter.Store l ports e s = effect (storingOf e) s (ch "0" ∷ [])
 effectOf letter.Empty l ports e s = effect (emptied e) s (ch "0" ∷ [])
 effectOf letter.Start l ports e s = pick s (effect e false []) (effect (started e) false [])
+effectOf letter.Plane l ports e s = effect (withPlane (planeOf (getD l 0 0)) e) s (ch "0" ∷ [])
+effectOf letter.Direction l ports e s = effect (withDirection (directionOf (getD l 0 0)) e) s (ch "0" ∷ [])
+effectOf letter.Circle l ports e s = started-with (circleBegun l e) s
 effectOf letter.Wrong l ports e s = effect e s (ch "5" ∷ [])
 
 -- an accepted line has its effect; the line is empty after every return

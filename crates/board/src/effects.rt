@@ -58,7 +58,7 @@ impl Board {
         self.with_engine(engine).says(Saying::One(byte))
     }
 
-    // A movement that runs replies nothing yet; one that is refused or has no pulse replies at once.
+    // A movement or circle that runs replies nothing yet; one that is refused or has no pulse replies at once.
     fn begin(self, begun: Begun) -> Spoke
         ensures { λ r. ⌜ r ≡ begunWith self begun ⌝ }
     {
@@ -111,6 +111,9 @@ impl Board {
             Letter::Store => self.replies(e.store(), b'0'),
             Letter::Empty => self.replies(e.empty(), b'0'),
             Letter::Start => self.start(),
+            Letter::Plane => self.replies(e.set_plane(words[0]), b'0'),
+            Letter::Direction => self.replies(e.set_direction(words[0]), b'0'),
+            Letter::Circle => self.begin(e.begin_circle(words)),
         }
     }
 

@@ -1,7 +1,7 @@
 // What each letter asks of its line, and the first fault of a line outside storing.
 ghost use mathlib.Core.Path.{_≡_};
 ghost use Rattle.board.specs.Direct.{isWrong, heardStanding, needsAxes};
-ghost use Rattle.board.specs.work.Work.{countFault, axesFault, inputFault, outputFault, numbersFault, lineFault};
+ghost use Rattle.board.specs.work.Work.{countFault, sevenFault, axesFault, inputFault, outputFault, numbersFault, lineFault};
 use line::Direct;
 use line::Letter;
 
@@ -22,6 +22,9 @@ fn is_wrong(letter: Letter) -> bool
         Letter::Store => false,
         Letter::Empty => false,
         Letter::Start => false,
+        Letter::Plane => false,
+        Letter::Direction => false,
+        Letter::Circle => false,
     }
 }
 
@@ -43,10 +46,13 @@ fn is_heard(letter: Letter) -> bool
         Letter::Store => false,
         Letter::Empty => false,
         Letter::Start => true,
+        Letter::Plane => false,
+        Letter::Direction => false,
+        Letter::Circle => false,
     }
 }
 
-// A, M, n, N, z, i and S need axes.
+// A, M, n, N, z, i, S, e, f and y need axes.
 fn needs_axes(letter: Letter) -> bool
     ensures { λ r. ⌜ r ≡ needsAxes letter ⌝ }
 {
@@ -64,6 +70,9 @@ fn needs_axes(letter: Letter) -> bool
         Letter::Store => true,
         Letter::Empty => false,
         Letter::Start => true,
+        Letter::Plane => true,
+        Letter::Direction => true,
+        Letter::Circle => true,
     }
 }
 
@@ -72,6 +81,13 @@ fn count_fault(count: usize) -> u8
     ensures { λ r. ⌜ r ≡ countFault count ⌝ }
 {
     if count == 0 { b'0' } else { b'7' }
+}
+
+// A circle: 7 unless it has seven numbers.
+fn seven_fault(count: usize) -> u8
+    ensures { λ r. ⌜ r ≡ sevenFault count ⌝ }
+{
+    if count == 7 { b'0' } else { b'7' }
 }
 
 // Setting axes: 7, then 3.
@@ -113,7 +129,7 @@ fn output_fault(count: usize, port: u32, value: u32) -> u8
     b'1'
 }
 
-// 7, 3, 1 and D in this order, or 0; A and M are a record's `0` and `m`, n and N its `n`, z its `z`.
+// 7, 3, 1 and D in this order, or 0; A and M are a record's `0` and `m`, n and N its `n`, z, e and f its own. A circle's plan asks the rest.
 fn numbers_fault(letter: Letter, axes: u8, count: usize, words: [u32; 8]) -> u8
     ensures { λ r. ⌜ r ≡ numbersFault letter axes count words ⌝ }
 {
@@ -131,6 +147,9 @@ fn numbers_fault(letter: Letter, axes: u8, count: usize, words: [u32; 8]) -> u8
         Letter::Store => count_fault(count),
         Letter::Empty => count_fault(count),
         Letter::Start => count_fault(count),
+        Letter::Plane => record::record_fault(axes, b'e', count, words),
+        Letter::Direction => record::record_fault(axes, b'f', count, words),
+        Letter::Circle => seven_fault(count),
     }
 }
 

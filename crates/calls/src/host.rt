@@ -1,10 +1,20 @@
 // What a host sets in a board's state by name.
+use crate::arcs::PLANE;
+use crate::arcs::TURN;
+use crate::arcs::bent;
+use crate::arcs::is_coordinate;
+use crate::arcs::is_turn;
+use crate::arcs::kept_turn;
+use crate::arcs::values_round;
+use crate::arcs::with_plane;
+use crate::arcs::with_turn;
 use board::Board;
 use engine::Engine;
 use engine::Job;
 use engine::Run;
 use motion::Counters;
 use motion::Move;
+use travel::Travel;
 
 // The names, their bytes packed into words. A point's name is followed by its axis: a position's is the axis alone.
 const AXES: u64 = 0x61786573;
@@ -59,7 +69,10 @@ fn is_axis(axis: u64) -> bool {
 
 // The value of a word as a field keeps it: a point's is counted from -8,388,608 on.
 pub(crate) fn kept_as(name: u64, word: u64) -> u64 {
-    if !is_axis(name % 256) {
+    if is_turn(name) {
+        return kept_turn(word);
+    }
+    if !(is_axis(name % 256) | is_coordinate(name)) {
         return word;
     }
     if word <= 4286578687 {
@@ -71,29 +84,44 @@ pub(crate) fn kept_as(name: u64, word: u64) -> u64 {
     u64::MAX
 }
 
-pub(crate) fn is_moving(job: Job) -> bool {
+// What is under way: nothing that moves, a straight movement, or an arc.
+pub(crate) enum Moving {
+    Nothing,
+    Straight,
+    Round,
+}
+
+fn kind_of(t: Travel) -> Moving {
+    match t {
+        Travel::Straight(_) => Moving::Straight,
+        Travel::Round(_) => Moving::Round,
+    }
+}
+
+pub(crate) fn moving(job: Job) -> Moving {
     match job {
-        Job::Idle => false,
-        Job::Storing => false,
-        Job::Direct(_) => true,
-        Job::Ready => false,
-        Job::Moving(_) => true,
-        Job::Delay(_) => false,
-        Job::Wait(_, _) => false,
+        Job::Idle => Moving::Nothing,
+        Job::Storing => Moving::Nothing,
+        Job::Direct(t) => kind_of(t),
+        Job::Ready => Moving::Nothing,
+        Job::Moving(t) => kind_of(t),
+        Job::Delay(_) => Moving::Nothing,
+        Job::Wait(_, _) => Moving::Nothing,
     }
 }
 
 // How many values a field of the state takes: none without a name.
 fn values_of(name: u64) -> u64 {
     match name {
-        OVER | STANDING => 2,
+        OVER | STANDING | TURN => 2,
+        PLANE => 3,
         AXES | DEPTH | LEN => 256,
         PLACE => 65536,
         _ => 0,
     }
 }
 
-// The same of a field of a movement.
+// The same of a field of a straight movement.
 fn values_moving(name: u64) -> u64 {
     match name {
         PHASE => 256,
@@ -103,21 +131,38 @@ fn values_moving(name: u64) -> u64 {
     }
 }
 
-// Whether a point is of the board, or of a movement under way.
-fn is_point(point: u64, moving: bool) -> bool {
+// Whether a point is of the board, or of a straight movement under way.
+fn is_point(point: u64, straight: bool) -> bool {
     match point {
         POSITION | ORIGIN => true,
-        START | FIRST | SECOND | THIRD => moving,
+        START | FIRST | SECOND | THIRD => straight,
         _ => false,
     }
 }
 
-// Whether there is a field of this name, the board's or of the movement under way, and it can hold the value.
-pub(crate) fn can_hold(name: u64, value: u64, moving: bool) -> bool {
-    if is_axis(name % 256) {
-        return is_point(name / 256, moving) & (value < 4294967296);
+// How many values a field of what is under way takes.
+fn values_under(moving: Moving, name: u64) -> u64 {
+    match moving {
+        Moving::Nothing => 0,
+        Moving::Straight => values_moving(name),
+        Moving::Round => values_round(name),
     }
-    (value < values_of(name)) | moving & (value < values_moving(name))
+}
+
+fn is_straight(moving: Moving) -> bool {
+    match moving {
+        Moving::Nothing => false,
+        Moving::Straight => true,
+        Moving::Round => false,
+    }
+}
+
+// Whether there is a field of this name, the board's or of what is under way, and it can hold the value.
+pub(crate) fn can_hold(name: u64, value: u64, moving: Moving) -> bool {
+    if is_axis(name % 256) {
+        return is_point(name / 256, is_straight(moving)) & (value < 4294967296);
+    }
+    (value < values_of(name)) | (value < values_under(moving, name))
 }
 
 fn with_axis(c: Counters, axis: u64, count: u32) -> Counters {
@@ -158,14 +203,22 @@ fn altered(m: Move, name: u64, value: u64) -> Move {
     next
 }
 
-// The job with a field of its movement set.
+// What moves with a field set.
+fn travel_with(t: Travel, name: u64, value: u64) -> Travel {
+    match t {
+        Travel::Straight(m) => Travel::Straight(altered(m, name, value)),
+        Travel::Round(a) => Travel::Round(bent(a, name, word_of(value), half_of(value))),
+    }
+}
+
+// The job with a field of what moves set.
 fn job_with(job: Job, name: u64, value: u64) -> Job {
     match job {
         Job::Idle => job,
         Job::Storing => job,
-        Job::Direct(m) => Job::Direct(altered(m, name, value)),
+        Job::Direct(t) => Job::Direct(travel_with(t, name, value)),
         Job::Ready => job,
-        Job::Moving(m) => Job::Moving(altered(m, name, value)),
+        Job::Moving(t) => Job::Moving(travel_with(t, name, value)),
         Job::Delay(_) => job,
         Job::Wait(_, _) => job,
     }
@@ -196,9 +249,20 @@ fn run_with(old: Run, name: u64, value: u64) -> Run {
 fn engine_with(e: Engine, name: u64, value: u64) -> Engine {
     let mut next = e;
     let point = name / 256;
-    if name == AXES {
-        next.axes = byte_of(value);
-        return next;
+    match name {
+        AXES => {
+            next.axes = byte_of(value);
+            return next;
+        }
+        PLANE => {
+            next.circling = with_plane(e.circling, word_of(value));
+            return next;
+        }
+        TURN => {
+            next.circling = with_turn(e.circling, word_of(value));
+            return next;
+        }
+        _ => {}
     }
     if is_axis(name) {
         next.at = with_axis(e.at, name, word_of(value));

@@ -1,4 +1,5 @@
 // `calls`: drives a board call by call from a script on standard input (trial/README.md), and prints what each call answers.
+mod arcs;
 mod host;
 mod quiet;
 mod script;
@@ -10,8 +11,8 @@ use host::board_with;
 use host::byte_of;
 use host::can_hold;
 use host::half_of;
-use host::is_moving;
 use host::kept_as;
+use host::moving;
 use host::word_of;
 use libc::STDIN_FILENO;
 use libc::STDOUT_FILENO;
@@ -180,7 +181,7 @@ fn set_field(play: Play, name: u64, word: u64) -> Play {
     let run = engine.run;
     let job = run.job;
     let value = kept_as(name, word);
-    if can_hold(name, value, is_moving(job)) {
+    if can_hold(name, value, moving(job)) {
         return with_board(play, board_with(board, name, value));
     }
     wrong(play)

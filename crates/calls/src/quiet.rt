@@ -37,9 +37,9 @@ fn is_first(job: Job) -> bool {
     match job {
         Job::Idle => false,
         Job::Storing => false,
-        Job::Direct(m) => m.made == 1,
+        Job::Direct(t) => t.made() == 1,
         Job::Ready => false,
-        Job::Moving(m) => m.made == 1,
+        Job::Moving(t) => t.made() == 1,
         Job::Delay(_) => false,
         Job::Wait(_, _) => false,
     }

@@ -2,6 +2,9 @@
 ghost use Prim.Native.Nat.{_≤_};
 ghost use lib.ListN.{length};
 use board::Board;
+use circle::Circling;
+use circle::Direction;
+use circle::Plane;
 use engine::Answer;
 use engine::Engine;
 use engine::Job;
@@ -225,6 +228,28 @@ fn show_held(held: Held) -> bool {
     show_named(b" store_axes ", held.axes as u32)
 }
 
+fn show_plane(plane: Plane) -> bool {
+    match plane {
+        Plane::XY => io::write_all(STDOUT_FILENO, b" plane 0"),
+        Plane::XZ => io::write_all(STDOUT_FILENO, b" plane 1"),
+        Plane::YZ => io::write_all(STDOUT_FILENO, b" plane 2"),
+    }
+}
+
+fn show_direction(direction: Direction) -> bool {
+    match direction {
+        Direction::Clockwise => io::write_all(STDOUT_FILENO, b" direction 0\n"),
+        Direction::Counter => io::write_all(STDOUT_FILENO, b" direction -1\n"),
+    }
+}
+
+fn show_circling(c: Circling) -> bool {
+    let plane = c.plane;
+    let direction = c.direction;
+    show_plane(plane);
+    show_direction(direction)
+}
+
 // The state as one line.
 pub(crate) fn show_state(board: Board) -> bool {
     let e = board.engine;
@@ -236,5 +261,6 @@ pub(crate) fn show_state(board: Board) -> bool {
     show_held(e.held);
     show_job(job);
     show_named(b" standing ", digit_of(board.standing));
-    show_with(b" loops ", loops.depth as u32)
+    show_named(b" loops ", loops.depth as u32);
+    show_circling(e.circling)
 }

@@ -1,23 +1,21 @@
-// The pulses of a phase one after the other, on the movement and the counters alone; the movement is only read.
+// The pulses of a phase one after the other, on what moves and the counters alone; what moves is only read.
 ghost use mathlib.Core.Path.{_≡_};
 ghost use Prim.Native.Nat.{_≤_, _*_};
 ghost use lib.ListN.{length};
-ghost use Rattle.motion.specs.Next.{atPhase};
+ghost use Rattle.travel.specs.work.Beat.{withMade};
 ghost use Rattle.course.specs.work.Glide.{glided, gliding};
 use super::Glided;
 use super::text::put_pulse;
 use motion::Beaten;
 use motion::Counters;
-use motion::Move;
+use travel::Travel;
 
-// A movement with so many pulses of its phase made, the counters, and what that took.
-fn glided_to(m: Move, made: u32, at: Counters, calls: u32, len: usize) -> Glided
-    ensures { λ r. ⌜ r ≡ record { rest = atPhase m (m .phase) made; at = at; calls = calls; len = len } ⌝ }
+// What moves with so many pulses of its phase made, the counters, and what that took.
+fn glided_to(m: Travel, made: u32, at: Counters, calls: u32, len: usize) -> Glided
+    ensures { λ r. ⌜ r ≡ record { rest = withMade m made; at = at; calls = calls; len = len } ⌝ }
 {
-    let mut rest = m;
-    rest.made = made;
     Glided {
-        rest,
+        rest: m.with_made(made),
         at,
         calls,
         len,
@@ -25,11 +23,11 @@ fn glided_to(m: Move, made: u32, at: Counters, calls: u32, len: usize) -> Glided
 }
 
 // At most so many pulses of the phase under way, with twelve bytes of room for each.
-pub(crate) fn glide(start: Move, from: Counters, limit: u32, out: &mut [u8]) -> Glided
+pub(crate) fn glide(start: Travel, from: Counters, limit: u32, out: &mut [u8]) -> Glided
     requires { ⌜ 12 * limit ≤ length (now out) ⌝ }
     ensures { λ r. ⌜ (glided r (now (out .exit)) ≡ gliding limit start from (now (out .entry))) × (r .len ≤ 12 * r .calls) ⌝ }
 {
-    let mut made = start.made;
+    let mut made = start.made();
     let mut at = from;
     let mut n: u32 = 0;
     let mut k = 0;

@@ -9,8 +9,8 @@ mod walks;
 use board::Board;
 use engine::Engine;
 use motion::Counters;
-use motion::Move;
 pub use runs::run;
+use travel::Travel;
 
 // What a run comes to: the board after it, the clock calls used, whether the run is over, the bytes written, and the refusal's number or 0.
 pub struct Ran {
@@ -40,9 +40,9 @@ pub struct Fed {
     pub count: usize,
 }
 
-// The movement and the counters after some pulses, how many, and the bytes written.
+// What moves and the counters after some pulses, how many, and the bytes written.
 struct Glided {
-    pub rest: Move,
+    pub rest: Travel,
     pub at: Counters,
     pub calls: u32,
     pub len: usize,

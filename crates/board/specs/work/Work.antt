@@ -22,7 +22,8 @@ use Rattle.engine.specs.declared.Engine.{Engine}
 use Rattle.engine.specs.declared.Begun.{Begun}
 use Rattle.engine.specs.declared.Job.{Job}
 use Rattle.engine.specs.Kinds.{kind, rowOf}
-use Rattle.engine.specs.State.{withThree, withOutput, withHeld, axesOf, originOf, zeroOf, started, emptied, storingOf, beginOf, ceased, resetOf}
+use Rattle.circle.specs.Plan.{planeOf, directionOf}
+use Rattle.engine.specs.State.{withThree, withPlane, withDirection, withOutput, withHeld, axesOf, originOf, zeroOf, started, emptied, storingOf, beginOf, circleBegun, ceased, resetOf}
 use Rattle.board.specs.declared.Board.{Board}
 use Rattle.board.specs.declared.Received.{Received}
 use Rattle.board.specs.declared.Saying.{Saying}
@@ -64,6 +65,9 @@ putOf t reply = written (length t) (t ++ drop (length t) reply)
 abbrev pub countFault : ℕ → ℕ
 countFault n = numbersReply (eqb n 0) true true true 48
 
+abbrev pub sevenFault : ℕ → ℕ
+sevenFault n = numbersReply (eqb n 7) true true true 48
+
 unfoldable pub axesFault : ℕ → ℕ → ℕ
 axesFault n w = numbersReply (eqb n 1) (eqb w 1 || eqb w 3 || eqb w 7) true true 48
 
@@ -87,6 +91,9 @@ numbersFault letter.Output axes n l = outputFault n (getD l 0 0) (getD l 1 0)
 numbersFault letter.Store axes n l = countFault n
 numbersFault letter.Empty axes n l = countFault n
 numbersFault letter.Start axes n l = countFault n
+numbersFault letter.Plane axes n l = faultOf axes 101 n l
+numbersFault letter.Direction axes n l = faultOf axes 102 n l
+numbersFault letter.Circle axes n l = sevenFault n
 
 unfoldable pub lineFault : ℕ → Bool → Direct → ℕ
 lineFault axes standing d =
@@ -125,6 +132,9 @@ affected letter.Output l ports b = repliedWith b (withOutput (b .engine) (getD l
 affected letter.Store l ports b = repliedWith b (storingOf (b .engine)) 48
 affected letter.Empty l ports b = repliedWith b (emptied (b .engine)) 48
 affected letter.Start l ports b = startedBy b
+affected letter.Plane l ports b = repliedWith b (withPlane (planeOf (getD l 0 0)) (b .engine)) 48
+affected letter.Direction l ports b = repliedWith b (withDirection (directionOf (getD l 0 0)) (b .engine)) 48
+affected letter.Circle l ports b = begunWith b (circleBegun l (b .engine))
 
 unfoldable pub obeyed : Direct → List ℕ → Board → Spoke
 obeyed d ports b =

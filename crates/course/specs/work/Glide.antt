@@ -1,22 +1,21 @@
--- The pulses of a phase as a machine of its own, on the movement and the counters alone: the inner loop of a run.
+-- The pulses of a phase as a machine of its own, on what moves and the counters alone: the inner loop of a run.
 use Prim.Native.Nat.{ℕ}
 use mathlib.Core.Bool.{Bool}
 use mathlib.Core.List.{List, []}
 use Rattle.motion.specs.declared.Counters.{Counters}
-use Rattle.motion.specs.declared.Move.{Move}
-use Rattle.motion.specs.declared.Next.{Next}
-use Rattle.motion.specs.declared.Next.the-variants as next
-use Rattle.motion.specs.work.Here.{withinOf}
-use Rattle.motion.specs.work.Made.{made}
+use Rattle.travel.specs.declared.Travel.{Travel}
+use Rattle.travel.specs.Next.{Next}
+use Rattle.travel.specs.Next.Next as next
+use Rattle.travel.specs.work.Beat.{withinOf, made}
 use Rattle.course.specs.declared.Glided.{Glided}
 use Rattle.course.specs.Text.{pulseText}
 use Rattle.course.specs.work.Machine.{Way, way, Left, leftBy}
 
 pub record Gone : Type 0 where
-  pub rest : Move
+  pub rest : Travel
   pub at : Counters
 
-abbrev pub here : Move → Counters → Gone
+abbrev pub here : Travel → Counters → Gone
 here m at = record { rest = m; at = at }
 
 abbrev pub goneBy : Next → Gone → Gone
@@ -39,5 +38,5 @@ glideSaid g = saidBy (withinOf (g .rest) (g .at))
 abbrev pub glided : Glided → List ℕ → Left Gone
 glided r out = record { state = here (r .rest) (r .at); calls = r .calls; len = r .len; out = out }
 
-abbrev pub gliding : ℕ → Move → Counters → List ℕ → Left Gone
+abbrev pub gliding : ℕ → Travel → Counters → List ℕ → Left Gone
 gliding limit m at out = leftBy (way glides glideOn glideSaid limit (here m at)) out

@@ -1,7 +1,7 @@
 -- Stands in contracts of functions that are not exported: nothing of it need be believed. Its laws: proofs/laws/Going.antt.
 use Prim.Native.Nat.{ℕ}
 use mathlib.Core.List.{List}
-use Rattle.motion.specs.work.Here.{nextOf}
+use Rattle.travel.specs.work.Beat.{nextOf}
 use Rattle.record.specs.Memory.{Memory}
 use Rattle.record.specs.Table.{fetchOf}
 use Rattle.engine.specs.declared.Engine.{Engine}

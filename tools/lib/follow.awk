@@ -231,7 +231,10 @@ function stretch(n, inside) {
         close_way()
         open_way(inside)
     }
-    if (dx || dy) aside = 1
+    if (!aside && (dx || dy)) {
+        aside = 1
+        leaves_at = lowest
+    }
     if (dz) slope = 1
     corner()
     x += n * dx
@@ -278,7 +281,7 @@ function close_way() {
         upright()
         return
     }
-    if (bottom < top && bottom < z1) add_stay("hole")
+    if (bottom < top && bottom < leaves_at) add_stay("hole")
     made[++n_made] = (cuts ? "cut" : "go") " " x1 " " y1 " " z1 " " x " " y " " z " " way_speed " " by_whom() (n_corners < 601 ? corners : "")
     lowest_of[n_made] = lowest
     slopes[n_made] = slope

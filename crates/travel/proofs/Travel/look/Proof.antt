@@ -1,0 +1,30 @@
+use borrow.Author.Needs.{needs}
+use Rattle.travel.proofs.Travel.look.Statement.{statement}
+use Rattle.travel.proofs.Travel.look.Tie as tie
+use Rattle.travel.proofs.Travel.look.Reads as reads
+use Rattle.travel.proofs.Travel.look.Lts as lts
+use Rattle.circle.proofs.Arc.look.Reads as Arc-look-reads
+use Rattle.motion.proofs.Move.look.Reads as Move-look-reads
+
+enum-known-self : tie.Need-enum-known-self
+enum-known-self c = search needs
+
+look-requires : tie.Need-look-requires
+look-requires c κs = search needs
+
+enum-known-self-2 : tie.Need-enum-known-self-2
+enum-known-self-2 c = search needs
+
+look-requires-2 : tie.Need-look-requires-2
+look-requires-2 c κs = search needs
+
+returns : tie.Need-returns
+returns c = ?
+
+returns-2 : tie.Need-returns-2
+returns-2 c = ?
+
+pub look-spec : {M : Type 1} → statement M
+look-spec =
+    tie.close
+    (tie.spec enum-known-self look-requires enum-known-self-2 look-requires-2 returns returns-2)

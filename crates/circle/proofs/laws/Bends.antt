@@ -158,7 +158,7 @@ unfolding bendOf goingBy
 bends axes c at l {a} e =
     let centre = centreOf (onPlane (c .plane) at) (startOf l) in
     let p = bends-by (planeSet axes (c .plane)) (rightArc l) (waysFit (c .direction) l) (inSpeed (nth l 1)) (counted at) (hasRoom centre (startOf l))
-        (arcFrom c centre (startOf l) l) a e in
+    (arcFrom c centre (startOf l) l) a e in
     record { plane = p .0; right = p .1; fits = p .2; speed = p .3; position = p .4; room = p .5; is = p .6 }
 
 -- A PLANNED ARC PASSES

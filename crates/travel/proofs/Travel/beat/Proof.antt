@@ -1,10 +1,9 @@
+-- `travel::Travel::beat` meets its contract. Assumes nothing.
 use borrow.Author.Needs.{needs}
+use Rattle.travel.specs.work.Beat.{nextOf}
+use Rattle.travel.proofs.laws.Beats.{straight-beaten, arc-beaten}
 use Rattle.travel.proofs.Travel.beat.Statement.{statement}
 use Rattle.travel.proofs.Travel.beat.Tie as tie
-use Rattle.travel.proofs.Travel.beat.Reads as reads
-use Rattle.travel.proofs.Travel.beat.Lts as lts
-use Rattle.circle.proofs.Arc.beat.Reads as Arc-beat-reads
-use Rattle.motion.proofs.Move.beat.Reads as Move-beat-reads
 
 enum-known-self : tie.Need-enum-known-self
 enum-known-self c = search needs
@@ -19,10 +18,12 @@ beat-requires-2 : tie.Need-beat-requires-2
 beat-requires-2 c κs = search needs
 
 returns : tie.Need-returns
-returns c = ?
+unfolding nextOf
+returns c = rw (c .beat .ensures, c .before .before .self .given .1) (straight-beaten _ _)
 
 returns-2 : tie.Need-returns-2
-returns-2 c = ?
+unfolding nextOf
+returns-2 c = rw (c .beat2 .ensures, c .before .before .self2 .given .1) (arc-beaten _ _)
 
 pub beat-spec : {M : Type 1} → statement M
 beat-spec =

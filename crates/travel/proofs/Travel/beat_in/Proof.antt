@@ -1,10 +1,9 @@
+-- `travel::Travel::beat_in` meets its contract. Assumes nothing.
 use borrow.Author.Needs.{needs}
+use Rattle.travel.specs.work.Beat.{withinOf}
+use Rattle.travel.proofs.laws.Beats.{straight-within, arc-beaten}
 use Rattle.travel.proofs.Travel.beat_in.Statement.{statement}
 use Rattle.travel.proofs.Travel.beat_in.Tie as tie
-use Rattle.travel.proofs.Travel.beat_in.Reads as reads
-use Rattle.travel.proofs.Travel.beat_in.Lts as lts
-use Rattle.circle.proofs.Arc.beat_in.Reads as Arc-beat-in-reads
-use Rattle.motion.proofs.Move.beat_in.Reads as Move-beat-in-reads
 
 enum-known-self : tie.Need-enum-known-self
 enum-known-self c = search needs
@@ -19,10 +18,12 @@ beat-in-requires-2 : tie.Need-beat-in-requires-2
 beat-in-requires-2 c κs = search needs
 
 returns : tie.Need-returns
-returns c = ?
+unfolding withinOf
+returns c = rw (c .beat-in .ensures, c .before .before .self .given .1) (straight-within _ _)
 
 returns-2 : tie.Need-returns-2
-returns-2 c = ?
+unfolding withinOf
+returns-2 c = rw (c .beat-in2 .ensures, c .before .before .self2 .given .1) (arc-beaten _ _)
 
 pub beat-in-spec : {M : Type 1} → statement M
 beat-in-spec =

@@ -1,10 +1,8 @@
+-- `travel::Travel::left` meets its contract. Assumes nothing.
 use borrow.Author.Needs.{needs}
+use Rattle.travel.specs.Next.{leftOf}
 use Rattle.travel.proofs.Travel.left.Statement.{statement}
 use Rattle.travel.proofs.Travel.left.Tie as tie
-use Rattle.travel.proofs.Travel.left.Reads as reads
-use Rattle.travel.proofs.Travel.left.Lts as lts
-use Rattle.circle.proofs.Arc.left.Reads as Arc-left-reads
-use Rattle.motion.proofs.Move.left.Reads as Move-left-reads
 
 enum-known-self : tie.Need-enum-known-self
 enum-known-self c = search needs
@@ -19,10 +17,12 @@ left-requires-2 : tie.Need-left-requires-2
 left-requires-2 c κs = search needs
 
 returns : tie.Need-returns
-returns c = ?
+unfolding leftOf
+returns c = rw (c .left .ensures, c .before .before .self .given .1)
 
 returns-2 : tie.Need-returns-2
-returns-2 c = ?
+unfolding leftOf
+returns-2 c = rw (c .left2 .ensures, c .before .before .self2 .given .1)
 
 pub left-spec : {M : Type 1} → statement M
 left-spec =

@@ -1,10 +1,8 @@
+-- `travel::Travel::look` meets its contract. Assumes nothing.
 use borrow.Author.Needs.{needs}
+use Rattle.travel.proofs.Work.{straight-look, arc-look}
 use Rattle.travel.proofs.Travel.look.Statement.{statement}
 use Rattle.travel.proofs.Travel.look.Tie as tie
-use Rattle.travel.proofs.Travel.look.Reads as reads
-use Rattle.travel.proofs.Travel.look.Lts as lts
-use Rattle.circle.proofs.Arc.look.Reads as Arc-look-reads
-use Rattle.motion.proofs.Move.look.Reads as Move-look-reads
 
 enum-known-self : tie.Need-enum-known-self
 enum-known-self c = search needs
@@ -19,10 +17,10 @@ look-requires-2 : tie.Need-look-requires-2
 look-requires-2 c κs = search needs
 
 returns : tie.Need-returns
-returns c = ?
+returns c = rw (c .look .ensures, c .before .before .self .given .1) (straight-look _ _)
 
 returns-2 : tie.Need-returns-2
-returns-2 c = ?
+returns-2 c = rw (c .look2 .ensures, c .before .before .self2 .given .1) (arc-look _ _)
 
 pub look-spec : {M : Type 1} → statement M
 look-spec =

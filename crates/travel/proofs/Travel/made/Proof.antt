@@ -1,8 +1,7 @@
+-- `travel::Travel::made` meets its contract. Assumes nothing.
 use borrow.Author.Needs.{needs}
 use Rattle.travel.proofs.Travel.made.Statement.{statement}
 use Rattle.travel.proofs.Travel.made.Tie as tie
-use Rattle.travel.proofs.Travel.made.Reads as reads
-use Rattle.travel.proofs.Travel.made.Lts as lts
 
 enum-known-self : tie.Need-enum-known-self
 enum-known-self c = search needs
@@ -11,7 +10,7 @@ enum-known-self-2 : tie.Need-enum-known-self-2
 enum-known-self-2 c = search needs
 
 returns : tie.Need-returns
-returns c = ?
+returns c = rw (c .before .self .given .1)
 
 returns-2 : tie.Need-returns-2
 returns-2 c = search needs

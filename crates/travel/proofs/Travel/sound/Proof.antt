@@ -1,10 +1,8 @@
+-- `travel::Travel::sound` meets its contract. Assumes nothing.
 use borrow.Author.Needs.{needs}
+use Rattle.travel.specs.Sound.{underWay}
 use Rattle.travel.proofs.Travel.sound.Statement.{statement}
 use Rattle.travel.proofs.Travel.sound.Tie as tie
-use Rattle.travel.proofs.Travel.sound.Reads as reads
-use Rattle.travel.proofs.Travel.sound.Lts as lts
-use Rattle.circle.proofs.Arc.sound.Reads as Arc-sound-reads
-use Rattle.motion.proofs.Move.sound.Reads as Move-sound-reads
 
 enum-known-self : tie.Need-enum-known-self
 enum-known-self c = search needs
@@ -19,10 +17,12 @@ sound-requires-2 : tie.Need-sound-requires-2
 sound-requires-2 c κs = search needs
 
 returns : tie.Need-returns
-returns c = ?
+unfolding underWay
+returns c = rw (c .sound .ensures, c .before .before .self .given .1)
 
 returns-2 : tie.Need-returns-2
-returns-2 c = ?
+unfolding underWay
+returns-2 c = rw (c .sound2 .ensures, c .before .before .self2 .given .1)
 
 pub sound-spec : {M : Type 1} → statement M
 sound-spec =

@@ -1,10 +1,7 @@
+-- `travel::Travel::with_made` meets its contract. Assumes nothing.
 use borrow.Author.Needs.{needs}
 use Rattle.travel.proofs.Travel.with_made.Statement.{statement}
 use Rattle.travel.proofs.Travel.with_made.Tie as tie
-use Rattle.travel.proofs.Travel.with_made.Reads as reads
-use Rattle.travel.proofs.Travel.with_made.Lts as lts
-use Rattle.circle.proofs.Arc.with_made.Reads as with-made-reads
-use Rattle.motion.proofs.Move.at_mark.Reads as at-mark-reads
 
 enum-known-self : tie.Need-enum-known-self
 enum-known-self c = search needs
@@ -19,10 +16,10 @@ with-made-requires : tie.Need-with-made-requires
 with-made-requires c κs = search needs
 
 returns : tie.Need-returns
-returns c = ?
+returns c = rw (c .at-mark .ensures, c .before .before .self .given .1)
 
 returns-2 : tie.Need-returns-2
-returns-2 c = ?
+returns-2 c = rw (c .with-made .ensures, c .before .before .self2 .given .1)
 
 pub with-made-spec : {M : Type 1} → statement M
 with-made-spec =

@@ -3,3 +3,5 @@ pub mod Onward
 pub mod Whole
 pub mod Within
 pub mod Plans
+pub mod Papers
+pub mod Arcs

@@ -1,7 +1,10 @@
 //! Hand-worked cases from the paper's sentences, for the trial board alone.
 #![cfg(test)]
 
+mod arcs;
 mod damage;
+mod gen_arc;
+mod gen_arc_host;
 mod gen_calls;
 mod gen_fault;
 mod gen_host;

@@ -25,6 +25,7 @@ mod spaces;
 mod test_arc;
 mod test_arc_host;
 mod test_arc_lines;
+mod test_arc_random;
 mod test_ask;
 mod test_ask_join;
 mod test_batched;

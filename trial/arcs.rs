@@ -109,7 +109,7 @@ pub fn arc(rng: &mut Rng, span: Span, direction: i64) -> String {
 pub fn wrong(rng: &mut Rng, numbers: &str) -> String {
     let mut parts: Vec<String> = numbers.split(',').map(str::to_string).collect();
     for _ in 0..rng.pick(&[1, 1, 2]) {
-        let at = rng.pick(&[0, 1, 2, 3, 4, 5, 5, 6, 6]);
+        let at = rng.pick(&[0, 1, 1, 1, 2, 3, 4, 5, 5, 6, 6]);
         let value: i64 = match at {
             0 => rng.pick(&[-1, 8_388_608, 0, 99_999_999]),
             1 => rng.pick(&[29, 30, 10_000, 10_001, -600, 0]),

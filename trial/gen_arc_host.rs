@@ -59,6 +59,11 @@ impl Script<'_> {
         self.line(&format!("@0f{direction}"));
         self.line(&format!("@0y{numbers}"));
         self.arc = Some(sent);
+        if !self.tame && self.rng.once_in(2) {
+            for _ in 0..self.rng.between(1, 5) {
+                self.alter_arc();
+            }
+        }
     }
 
     fn near_an_end(&mut self) -> i64 {

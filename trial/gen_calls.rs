@@ -91,9 +91,9 @@ impl Script<'_> {
             let z = self.rng.below(2);
             self.line(&format!("@0z{z}"));
         }
-        match self.rng.below(9) {
+        match self.rng.below(10) {
             0..=1 => self.move_directly(axes),
-            2..=3 => self.arc_directly(axes),
+            2..=3 if axes != 1 || self.rng.once_in(5) => self.arc_directly(axes),
             _ => {
                 self.store(axes);
                 if self.rng.once_in(8) && !self.tame {

@@ -33,6 +33,7 @@ fn scene(rng: &mut Rng, axes: &mut u8, out: &mut Vec<u8>) {
         }
         5..=9 => stored(rng, *axes, out),
         12..=14 => failing(rng, *axes, out),
+        15..=17 if *axes == 1 && !rng.once_in(4) => line(rng, out, "@0P"),
         15..=16 => gen_arc::circles(rng, *axes, out),
         17 => gen_arc::edge(rng, *axes, out),
         10 if rng.once_in(2) => long_line(rng, out),

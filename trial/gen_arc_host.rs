@@ -142,7 +142,7 @@ impl Script<'_> {
         let (plane, direction) = (self.rng.between(0, 2), self.rng.between(-1, 0));
         let of_the_arc = self.rng.once_in(2);
         self.set(if of_the_arc { "arcplane" } else { "plane" }, plane);
-        self.set(if of_the_arc { "arcdirection" } else { "direction" }, direction);
+        self.set(if of_the_arc { "arcturn" } else { "turn" }, direction);
     }
 
     /// The arc as it was sent, back at its start, with some pulses to make.
@@ -154,7 +154,7 @@ impl Script<'_> {
             self.set(["start1", "start2"][a], sent.start[a]);
         }
         self.set("arcplane", sent.plane as i64);
-        self.set("arcdirection", sent.direction);
+        self.set("arcturn", sent.direction);
         let length = self.rng.between(1, 12);
         for (name, value) in [("arcspeed", 500), ("made", 0), ("length", length)] {
             self.set(name, value);

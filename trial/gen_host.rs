@@ -89,11 +89,11 @@ const WRONG_LINES: &[&str] = &[
     "V 1 1",
     "H plane 3",
     "H plane -1",
-    "H direction 1",
-    "H direction -2",
+    "H turn 1",
+    "H turn -2",
     "H arcplane 3",
     "H arcplane 2",
-    "H arcdirection 1",
+    "H arcturn 1",
     "H centre1 -8388609",
     "H centre2 4286578688",
     "H centre3 0",
@@ -227,7 +227,7 @@ impl Script<'_> {
             8 => ("made", &[0, 1, 2, 3, 7, 8_388_607, 4_294_967_295]),
             9 => (self.rng.pick(&["speed1", "speed2", "speed3"]), &[29, 30, 10_000, 10_001, 0, 65_535]),
             10 => ("plane", &[0, 1, 2]),
-            11 => ("direction", &[0, -1]),
+            11 => ("turn", &[0, -1]),
             _ => (
                 self.rng.pick(&RESTING_POINTS),
                 &[0, 1, -1, 4, -7, 8_388_607, 8_388_608, -8_388_608, 4_286_578_687],
@@ -252,7 +252,7 @@ impl Script<'_> {
             "axes" => 7,
             "depth" | "len" | "over" | "phase" | "made" => 0,
             "speed1" | "speed2" | "speed3" => 500,
-            "place" | "standing" | "plane" | "direction" => return,
+            "place" | "standing" | "plane" | "turn" => return,
             _ => 0,
         };
         if !self.rng.once_in(4) {

@@ -23,7 +23,7 @@ pub fn set(board: &mut Board, name: &str, value: i64) -> Option<()> {
         "over" => board.over = flag(value)?,
         "standing" => board.standing = flag(value)?,
         "plane" => board.turn.plane = plane(value)?,
-        "direction" => board.turn.counter = counter_clockwise(value)?,
+        "turn" => board.turn.counter = counter_clockwise(value)?,
         _ => match motion(board)? {
             Motion::Straight(movement) => set_movement(movement, name, value)?,
             Motion::Arc(arc) => set_arc(arc, name, value)?,
@@ -88,7 +88,7 @@ fn set_movement(movement: &mut Move, name: &str, value: i64) -> Option<()> {
 fn set_arc(arc: &mut Arc, name: &str, value: i64) -> Option<()> {
     match name {
         "arcplane" => arc.turn.plane = plane(value)?,
-        "arcdirection" => arc.turn.counter = counter_clockwise(value)?,
+        "arcturn" => arc.turn.counter = counter_clockwise(value)?,
         "arcspeed" => arc.speed = value.try_into().ok()?,
         "length" => arc.length = value.try_into().ok()?,
         "made" => arc.made = value.try_into().ok()?,

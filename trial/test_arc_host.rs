@@ -105,9 +105,9 @@ fn a_smaller_radius() {
 
 #[test]
 fn fields_that_are_always_there() {
-    all_right(&["H plane 0", "H plane 2", "H direction 0", "H direction -1", "H direction -0"], true);
-    all_right(&["H plane 3", "H plane -1", "H direction 1", "H direction -2", "H plane", "H Plane 0"], false);
-    let state = printed(b"H plane 2\nH direction -1\nH plane 3\nH direction 1\nS\nB 254\nS\n");
+    all_right(&["H plane 0", "H plane 2", "H turn 0", "H turn -1", "H turn -0"], true);
+    all_right(&["H plane 3", "H plane -1", "H turn 1", "H turn -2", "H plane", "H Plane 0"], false);
+    let state = printed(b"H plane 2\nH turn -1\nH plane 3\nH turn 1\nS\nB 254\nS\n");
     let ends: Vec<&str> =
         state.lines().filter_map(|line| line.split_once(" loops ").map(|(_, end)| end)).collect();
     assert_eq!(ends, ["0 plane 2 direction -1", "0 plane 0 direction 0"]);
@@ -124,8 +124,8 @@ fn fields_of_an_arc() {
     let of_an_arc = [
         "arcplane 0",
         "arcplane 2",
-        "arcdirection 0",
-        "arcdirection -1",
+        "arcturn 0",
+        "arcturn -1",
         "centre1 -8388608",
         "centre2 4286578687",
         "start1 4286578687",
@@ -140,8 +140,8 @@ fn fields_of_an_arc() {
     let wrong = [
         "arcplane 3",
         "arcplane -1",
-        "arcdirection 1",
-        "arcdirection -2",
+        "arcturn 1",
+        "arcturn -2",
         "centre1 -8388609",
         "centre2 4286578688",
         "start1 -8388609",
@@ -181,7 +181,7 @@ fn behind(lines: &[&str], script: &str) -> String {
 fn an_arc_set_by_a_host() {
     let lines = ["@07", "@0y4,600,0,2,0,-1,-1"];
     let script =
-        "H arcplane 2|H arcdirection -1|H centre1 10|H centre2 -1|H start1 3|H start2 4|H arcspeed 77|\
+        "H arcplane 2|H arcturn -1|H centre1 10|H centre2 -1|H start1 3|H start2 4|H arcspeed 77|\
         H length 9|H made 7|C 1|H y 15|H z -1|C 3|S";
     let wanted = "C 103|C Pulse ..+ 77|C Pulse ..+ 77|C Send 48|\
         S axes 7 position 0 15 1 origin 0 0 0 three 0 output 0 used 0 records 0 store_axes 0 job Idle standing 0 \

@@ -126,5 +126,5 @@ fn generated_altered_arcs() {
     for name in ["arcspeed", "length", "centre1", "centre2"] {
         met.all_above(30, &[&format!("{name} refused"), &format!("{name} goes on")]);
     }
-    met.all_above(30, &["arcdirection goes on"]);
+    met.all_above(30, &["arcturn goes on"]);
 }

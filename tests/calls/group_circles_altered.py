@@ -32,20 +32,20 @@ case("circle_altered_point", "from another point of the square the rule goes on 
      line("@03", "0"), line("@0y99,600,0,3,4,1,-1"), host("H x 3", "H y 2"), clock(*turns("y- y- y-")), host("H x -2", "H y -4"), clock(*turns("y- y- y- y- y- x-")), byte(BREAK, "F"))
 
 case("circle_altered_arc", "another plane, direction, centre, start, speed and length: the arc goes on by them, the board's own plane and direction stay",
-     line("@07", "0"), line("@0y4,600,0,2,0,-1,-1"), host("H arcplane 2", "H arcdirection -1", "H centre1 10", "H centre2 -1", "H start1 3", "H start2 4", "H arcspeed 77", "H length 9", "H made 7"),
+     line("@07", "0"), line("@0y4,600,0,2,0,-1,-1"), host("H arcplane 2", "H arcturn -1", "H centre1 10", "H centre2 -1", "H start1 3", "H start2 4", "H arcspeed 77", "H length 9", "H made 7"),
      refused(103, "C 1"), host("H y 15", "H z -1"), clock(*turns("z+ z+", 77), ZERO), state(axes=7, position=(0, 15, 1)))
 
 case("circle_own_turn", "an arc under way keeps its plane and direction when the host sets the board's; a later one goes by those",
-     line("@07", "0"), line("@0y5,600,0,2,0,-1,-1"), clock(*turns("y-")), host("H plane 1", "H direction -1"), clock(*turns("x-")), stop, state(axes=7, position=(-1, -1, 0), job="Direct", standing=1, turn=(1, -1)),
+     line("@07", "0"), line("@0y5,600,0,2,0,-1,-1"), clock(*turns("y-")), host("H plane 1", "H turn -1"), clock(*turns("x-")), stop, state(axes=7, position=(-1, -1, 0), job="Direct", standing=1, turn=(1, -1)),
      host("H plane 2"), line("@0S"), clock(*turns("y- x- x-"), ZERO), state(axes=7, position=(-3, -2, 0), turn=(2, -1)), line("@0y2,600,0,2,0,-1,-1", "1"), line("@0y2,600,0,2,0,-1,1"),
      clock(*turns("z+ y-"), ZERO), where(-3, -3, 1))
 
 case("circle_board_fields", "plane and direction can always be set: idle, storing, waiting, without axes; other values are wrong lines",
-     host("H plane 2", "H direction -1"), state(turn=(2, -1)), wrong("H plane 3", "H plane -1", "H direction 1", "H direction -2", "H plane", "H Plane 1", "H direction 0 0"), state(turn=(2, -1)),
-     line("@07", "0"), state(axes=7), host("H direction -1"), line("@0i", "0"), host("H plane 1"), line("233,1", "0"), line("9", "0"), line("@0S"), clock("Done"), host("H plane 2", "H direction 0"),
+     host("H plane 2", "H turn -1"), state(turn=(2, -1)), wrong("H plane 3", "H plane -1", "H turn 1", "H turn -2", "H plane", "H Plane 1", "H turn 0 0"), state(turn=(2, -1)),
+     line("@07", "0"), state(axes=7), host("H turn -1"), line("@0i", "0"), host("H plane 1"), line("233,1", "0"), line("9", "0"), line("@0S"), clock("Done"), host("H plane 2", "H turn 0"),
      state(axes=7, held=(12, 1, 7), job="Wait", turn=(2, 0)), byte(33), clock(ZERO), line("@0y1,600,0,2,0,-1,-1"), clock(*turns("z-"), ZERO))
 
-OF_AN_ARC = ["H arcplane 0", "H arcdirection 0", "H centre1 0", "H centre2 0", "H start1 1", "H start2 1", "H arcspeed 30", "H length 1"]
+OF_AN_ARC = ["H arcplane 0", "H arcturn 0", "H centre1 0", "H centre2 0", "H start1 1", "H start2 1", "H arcspeed 30", "H length 1"]
 OF_A_LINE = ["H phase 0", "H speed1 30", "H speed2 30", "H speed3 30", "H startx 0", "H firsty 0", "H secondz 0", "H thirdx 0"]
 case("circle_fields", "the fields of an arc are there only while one is under way, those of a straight movement only while such a one is; made is there for both",
      wrong(*OF_AN_ARC, "H made 0"), line("@03", "0"), line("@0A2,600,0,600"), wrong(*OF_AN_ARC), host("H made 0"), clock(*x(2), ZERO), wrong(*OF_AN_ARC), line("@0y2,600,0,2,0,-1,-1"),
@@ -53,11 +53,11 @@ case("circle_fields", "the fields of an arc are there only while one is under wa
      clock("Pause", *turns("y-")), stop, host("H length 2"), line("@0S"), clock(*turns("x-"), ZERO), where(0, -2, 0))
 
 case("circle_field_values", "a value that its place can't hold makes the line wrong and changes nothing; the largest and smallest are held, and are 103",
-     go, wrong("H arcplane 3", "H arcplane -1", "H arcdirection 1", "H arcdirection -2", "H centre1 -8388609", "H centre2 4286578688", "H start1 -8388609", "H start2 4286578688", "H arcspeed 65536",
+     go, wrong("H arcplane 3", "H arcplane -1", "H arcturn 1", "H arcturn -2", "H centre1 -8388609", "H centre2 4286578688", "H start1 -8388609", "H start2 4286578688", "H arcspeed 65536",
                "H arcspeed -1", "H length 4294967296", "H length -1", "H made 4294967296", "H centre3 0", "H start0 0", "H centre 0", "H centrex 0", "H length 1 1", "H arcplane"),
      clock(*turns("y-")), *[part for some, back in (("centre1 4286578687", "centre1 -3"), ("centre2 -8388608", "centre2 -4"), ("start1 -8388608", "start1 3"), ("start2 4286578687", "start2 4"),
                                                   ("arcspeed 65535", "arcspeed 600"), ("made 4294967295", "made 2")) for part in (host("H " + some), refused(103, "C 1"), host("H " + back), text("1"))],
-     host("H length 4294967295", "H arcplane 1", "H arcplane 0", "H arcdirection -1", "H arcdirection 0"), clock(*turns("y- x+")), byte(BREAK, "F"))
+     host("H length 4294967295", "H arcplane 1", "H arcplane 0", "H arcturn -1", "H arcturn 0"), clock(*turns("y- x+")), byte(BREAK, "F"))
 
 case("circle_made_tells", "made decides what is a first pulse: T stands behind a pulse after which it is 1",
      line("@03", "0"), line("@0y9,600,0,2,0,-1,-1"), run(1, (turns("y-")[0], "Direct", 0, 0), end="more"), run(1, *turns("x-"), end="more"), host("H made 0"),

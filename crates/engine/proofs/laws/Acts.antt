@@ -5,19 +5,17 @@ use mathlib.Core.Bool.{Bool, true, false, not, _&&_}
 use native.Mathlib.Omega.{arith}
 use Rattle.count.specs.Pick.{pick}
 use Rattle.motion.specs.declared.Counters.{Counters}
-use Rattle.motion.specs.declared.Move.{Move}
-use Rattle.motion.specs.declared.Stepped.{Stepped}
 use Rattle.motion.specs.declared.Beat.{Beat}
 use Rattle.motion.specs.declared.Beaten.{Beaten}
 use Rattle.motion.specs.declared.Beaten.the-variants as beat
-use Rattle.motion.specs.declared.Next.{Next}
-use Rattle.motion.specs.declared.Next.the-variants as next
 use Rattle.motion.specs.declared.Look.{Look}
 use Rattle.motion.specs.declared.Look.the-variants as look
-use Rattle.motion.specs.Sound.{underWay}
-use Rattle.motion.specs.work.Here.{nextOf}
-use Rattle.motion.specs.work.Beat.{markOf, atMark, beatOf, beaten, lookedBy, lookOf}
-use Rattle.motion.proofs.laws.Beats.{next-rest, hit, missed}
+use Rattle.travel.specs.declared.Travel.{Travel}
+use Rattle.travel.specs.Next.{Stepped, Next}
+use Rattle.travel.specs.Next.Next as next
+use Rattle.travel.specs.Sound.{underWay}
+use Rattle.travel.specs.work.Beat.{nextOf, markOf, atMark, beatOf, beaten, lookedBy, lookOf}
+use Rattle.travel.proofs.laws.Beats.{next-rest, hit, missed}
 use Rattle.program.specs.declared.Loops.{Loops}
 use Rattle.engine.specs.declared.Answer.the-variants as answer
 use Rattle.engine.specs.declared.Job.{Job}
@@ -37,7 +35,7 @@ use Rattle.engine.proofs.laws.Work.{next-moved}
 -- ---- a pulse without the movement
 
 -- with the movement at its mark it is the pulse that 01 tells of
-module _ (kind : Move → Job) (place : ℕ) (l : Loops) (m : Move) (e : Engine) where
+module _ (kind : Travel → Job) (place : ℕ) (l : Loops) (m : Travel) (e : Engine) where
   pub pulsed-told : (s : Stepped) → nextOf m (e .at) ≡ next.Made s
       → pulsed (running (kind (atMark m (markOf (s .rest)))) place l) (beatOf s) e ≡ told (withRun e (running (kind (s .rest)) place l)) (answer.Pulse (s .signs) (s .speed))
   pulsed-told s p =
@@ -45,7 +43,7 @@ module _ (kind : Move → Job) (place : ℕ) (l : Loops) (m : Move) (e : Engine)
       let r = next-rest m (e .at) s p in
       λ i. record { engine = withRun (withAt e (a i)) (running (kind (r i)) place l); answer = answer.Pulse (s .signs) (s .speed) }
 
-module _ (m : Move) (e : Engine) {x : Beaten} (h : x ≡ beaten (nextOf m (e .at))) where
+module _ (m : Travel) (e : Engine) {x : Beaten} (h : x ≡ beaten (nextOf m (e .at))) where
   pub first-made : (b : Beat) → x ≡ beat.Made b
       → pulsed (running (job.Moving (atMark m (b .mark))) (e .run .place + 1) (e .run .loops)) b e ≡ moving (nextOf m (e .at)) e
   first-made b p =
@@ -59,7 +57,7 @@ module _ (m : Move) (e : Engine) {x : Beaten} (h : x ≡ beaten (nextOf m (e .at
 
 -- ---- what is decided
 
-module _ (m : Move) (j : Job) (at : Counters) where
+module _ (m : Travel) (j : Job) (at : Counters) where
   pub act-made : (b : Beat) {u : Under} {x : Beaten} → u ≡ underOf j → u ≡ under.Going m → x ≡ beaten (nextOf m at) → x ≡ beat.Made b → act.Pulse b ≡ actBy nextOf j at
   unfolding actBy
   act-made b p q e f =
@@ -143,13 +141,13 @@ seen-act e s = rw s
 -- ---- and doing it
 
 module _ (fetch : Fetching) (e : Engine) where
-  direct-by : (m : Move) (n : Next) → e .run .job ≡ job.Direct m → nextOf m (e .at) ≡ n → actedBy nextOf fetch (pulseAct n (job.Direct m)) e ≡ directly n e
+  direct-by : (m : Travel) (n : Next) → e .run .job ≡ job.Direct m → nextOf m (e .at) ≡ n → actedBy nextOf fetch (pulseAct n (job.Direct m)) e ≡ directly n e
   direct-by m (next.Made s) p q =
       ap (λ (j : Job). pulsed (running (markedJob (markOf (s .rest)) j) (e .run .place) (e .run .loops)) (beatOf s) e) p
       ∙ pulsed-told job.Direct (e .run .place) (e .run .loops) m e s q
   direct-by m next.Over p q = refl
 
-  moving-by : (m : Move) (n : Next) → e .run .job ≡ job.Moving m → nextOf m (e .at) ≡ n → actedBy nextOf fetch (pulseAct n (job.Moving m)) e ≡ movingOn nextOf fetch n e
+  moving-by : (m : Travel) (n : Next) → e .run .job ≡ job.Moving m → nextOf m (e .at) ≡ n → actedBy nextOf fetch (pulseAct n (job.Moving m)) e ≡ movingOn nextOf fetch n e
   moving-by m (next.Made s) p q =
       ap (λ (j : Job). pulsed (running (markedJob (markOf (s .rest)) j) (e .run .place) (e .run .loops)) (beatOf s) e) p
       ∙ pulsed-told job.Moving (e .run .place) (e .run .loops) m e s q

@@ -15,7 +15,7 @@ use Rattle.travel.specs.declared.Travel.{Travel}
 use Rattle.travel.specs.declared.Planned.{Planned}
 use Rattle.travel.specs.declared.Planned.the-variants as planned
 use Rattle.travel.specs.Next.{Stepped, Next}
-use Rattle.travel.specs.Next.Next as next
+use Rattle.travel.specs.Next.Next.{Made, Over}
 use Rattle.travel.specs.Plan.{planOf, circleOf}
 use Rattle.record.specs.declared.Record.{Record}
 use Rattle.record.specs.Fault.{isMovement, isAbsolute}
@@ -74,7 +74,7 @@ pub record Plain (r : Record) : Type 0 where
   pub no-wait : r .code ≡ 50 → ⊥
 
 pub record RecordCases (rule : Rule) (r : Record) (e : Engine) (P : Told → Type 0) : Type 0 where
-  pub pulse : Plain r → (m : Travel) (s : Stepped) → plannedBy r e ≡ planned.Going m → rule m (e .at) ≡ next.Made s
+  pub pulse : Plain r → (m : Travel) (s : Stepped) → plannedBy r e ≡ planned.Going m → rule m (e .at) ≡ Made s
       → P (told (onTo (job.Moving (s .rest)) e) (answer.Pulse (s .signs) (s .speed)))
   pub still : Plain r → P (told (onTo job.Ready e) answer.Done)
   pub refused : (b : ℕ) → Travels (r .code) → plannedBy r e ≡ planned.Refused b → P (finished b e)
@@ -104,8 +104,8 @@ module _ (rule : Rule) (r : Record) (e : Engine) (P : Told → Type 0) (c : Reco
   is k q = eqb-true (r .code) k q
 
   moved-by : Plain r → (m : Travel) (n : Next) → plannedBy r e ≡ planned.Going m → rule m (e .at) ≡ n → P (moving n e)
-  moved-by l m (next.Made s) p q = c .pulse l m s p q
-  moved-by l m next.Over p q = c .still l
+  moved-by l m (Made s) p q = c .pulse l m s p q
+  moved-by l m Over p q = c .still l
 
   planned-by : Plain r → Travels (r .code) → (p : Planned) → plannedBy r e ≡ p → P (movingBy rule p e)
   planned-by l k (planned.Going m) q = moved-by l m (rule m (e .at)) q refl
@@ -155,10 +155,10 @@ readsBy (job.Wait c t) = false
 
 pub record Cases (rule : Rule) (fetch : Fetching) (e : Engine) (P : Told → Type 0) : Type 0 where
   pub nothing : runsOf e ≡ false → P (told e answer.Nothing)
-  pub direct : (m : Travel) (s : Stepped) → e .run .job ≡ job.Direct m → rule m (e .at) ≡ next.Made s
+  pub direct : (m : Travel) (s : Stepped) → e .run .job ≡ job.Direct m → rule m (e .at) ≡ Made s
       → P (told (withJob e (job.Direct (s .rest))) (answer.Pulse (s .signs) (s .speed)))
-  pub arrived : (m : Travel) → e .run .job ≡ job.Direct m → rule m (e .at) ≡ next.Over → P (finished 48 e)
-  pub on : (m : Travel) (s : Stepped) → e .run .job ≡ job.Moving m → rule m (e .at) ≡ next.Made s
+  pub arrived : (m : Travel) → e .run .job ≡ job.Direct m → rule m (e .at) ≡ Over → P (finished 48 e)
+  pub on : (m : Travel) (s : Stepped) → e .run .job ≡ job.Moving m → rule m (e .at) ≡ Made s
       → P (told (withJob e (job.Moving (s .rest))) (answer.Pulse (s .signs) (s .speed)))
   pub pause : (q : ℕ) → e .run .job ≡ job.Delay q → P (told (withJob e (afterPause q)) answer.Pause)
   pub end : readsBy (e .run .job) ≡ true → fetch (e .run .place) ≡ End → P (finished 48 e)
@@ -172,12 +172,12 @@ module _ (rule : Rule) (fetch : Fetching) (e : Engine) (P : Told → Type 0) (c 
   fetched-by l Wrong q = c .wrong l q
 
   direct-by : (m : Travel) (n : Next) → e .run .job ≡ job.Direct m → rule m (e .at) ≡ n → P (directly n e)
-  direct-by m (next.Made s) p q = c .direct m s p q
-  direct-by m next.Over p q = c .arrived m p q
+  direct-by m (Made s) p q = c .direct m s p q
+  direct-by m Over p q = c .arrived m p q
 
   on-by : (m : Travel) (n : Next) → e .run .job ≡ job.Moving m → rule m (e .at) ≡ n → P (movingOn rule fetch n e)
-  on-by m (next.Made s) p q = c .on m s p q
-  on-by m next.Over p q = fetched-by (ap readsBy p) (fetch (e .run .place)) refl
+  on-by m (Made s) p q = c .on m s p q
+  on-by m Over p q = fetched-by (ap readsBy p) (fetch (e .run .place)) refl
 
   job-by : (j : Job) → e .run .job ≡ j → (runsBy j ≡ false → runsOf e ≡ false) → P (tickedBy rule fetch j e)
   job-by job.Idle p f = c .nothing (f refl)

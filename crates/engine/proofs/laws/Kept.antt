@@ -17,7 +17,7 @@ use Rattle.motion.proofs.laws.Passed.{in24-of, counted-of}
 use Rattle.circle.specs.declared.Circling.{Circling}
 use Rattle.travel.specs.declared.Travel.{Travel}
 use Rattle.travel.specs.Next.{Stepped, pulseOf}
-use Rattle.travel.specs.Next.Next as next
+use Rattle.travel.specs.Next.Next.{Made}
 use Rattle.travel.specs.Sound.{underWay}
 use Rattle.travel.specs.work.Beat.{nextOf}
 use Rattle.travel.proofs.laws.Onward.{next-keeps}
@@ -180,7 +180,7 @@ module _ (e : Engine) (s : Sane e) where
   }
 
   -- a pulse of a movement under way, direct or of a program
-  pub pulse-sane : (j : Job) (place : ℕ) (m : Travel) (p : Stepped) → underWay m (e .at) ≡ true → nextOf m (e .at) ≡ next.Made p
+  pub pulse-sane : (j : Job) (place : ℕ) (m : Travel) (p : Stepped) → underWay m (e .at) ≡ true → nextOf m (e .at) ≡ Made p
       → ((c : Counters) → underWay (p .rest) c ≡ true → jobSound j c ≡ true)
       → Sane (withAt (withRun e (running j place (e .run .loops))) (movedAll (e .at) (p .signs)))
   pulse-sane j place m p u q f =

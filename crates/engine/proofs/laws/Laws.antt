@@ -14,7 +14,7 @@ use Rattle.travel.specs.declared.Travel.{Travel}
 use Rattle.travel.specs.declared.Planned.{Planned}
 use Rattle.travel.specs.declared.Planned.the-variants as planned
 use Rattle.travel.specs.Next.{Next, pulseOf}
-use Rattle.travel.specs.Next.Next as next
+use Rattle.travel.specs.Next.Next.{Made, Over}
 use Rattle.travel.specs.Plan.{planOf}
 use Rattle.travel.specs.Sound.{underWay}
 use Rattle.travel.specs.work.Beat.{nextOf}
@@ -81,8 +81,8 @@ module _ (e : Engine) (h : counted (e .at) ≡ true) where
   fetched-same Wrong = refl
 
   on-same : (f : Fetching) (n : Next) → movingOn nextOf f n e ≡ movingOn pulseOf f n e
-  on-same f (next.Made s) = refl
-  on-same f next.Over = fetched-same (f (e .run .place))
+  on-same f (Made s) = refl
+  on-same f Over = fetched-same (f (e .run .place))
 
   job-same : (f : Fetching) (j : Job) → jobSound j (e .at) ≡ true → tickedBy nextOf f j e ≡ tickedBy pulseOf f j e
   job-same f job.Idle p = refl

@@ -15,7 +15,7 @@ use Rattle.travel.specs.declared.Travel.the-variants as travel
 use Rattle.travel.specs.declared.Planned.{Planned}
 use Rattle.travel.specs.declared.Planned.the-variants as planned
 use Rattle.travel.specs.Next.{Next, nextPaper}
-use Rattle.travel.specs.Next.Next as next
+use Rattle.travel.specs.Next.Next.{Made, Over}
 use Rattle.travel.specs.Plan.{planOf, circleOf, travelPaper, plannedPaper}
 use Rattle.record.specs.declared.Held.{Held}
 use Rattle.record.specs.declared.Spot.{Spot}
@@ -77,16 +77,16 @@ module _ (e : Engine) where
 
   -- A PULSE is answered as the next pulse is on paper: of a direct movement, and of a program's at its record and after it
   pub direct-pulse : (n : Next) → nextPaper n .number ≡ 1 → paper (directly n e .answer) ≡ nextPaper n
-  direct-pulse (next.Made s) k = refl
-  direct-pulse next.Over k = absurd (omega arith)
+  direct-pulse (Made s) k = refl
+  direct-pulse Over k = absurd (omega arith)
 
   pub first-pulse : (n : Next) → nextPaper n .number ≡ 1 → paper (moving n e .answer) ≡ nextPaper n
-  first-pulse (next.Made s) k = refl
-  first-pulse next.Over k = absurd (omega arith)
+  first-pulse (Made s) k = refl
+  first-pulse Over k = absurd (omega arith)
 
   pub later-pulse : (rule : Rule) (fetch : Fetching) (n : Next) → nextPaper n .number ≡ 1 → paper (movingOn rule fetch n e .answer) ≡ nextPaper n
-  later-pulse rule fetch (next.Made s) k = refl
-  later-pulse rule fetch next.Over k = absurd (omega arith)
+  later-pulse rule fetch (Made s) k = refl
+  later-pulse rule fetch Over k = absurd (omega arith)
 
   pub clock-pulse : (rule : Rule) (fetch : Fetching) (m : Travel) → e .run .job ≡ job.Direct m → nextPaper (rule m (e .at)) .number ≡ 1
       → paper (ticked rule fetch e .answer) ≡ nextPaper (rule m (e .at))

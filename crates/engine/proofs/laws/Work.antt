@@ -22,14 +22,15 @@ use Rattle.motion.specs.declared.Move.{Move}
 use Rattle.motion.specs.Phase.{movedAll}
 use Rattle.motion.specs.Plan.{asked}
 use Rattle.motion.specs.Pulse.{haveSteps, stepTo}
+use Rattle.motion.specs.Sound.{counted}
 use Rattle.motion.specs.work.Here.{nextOf as straightOf}
 use Rattle.motion.specs.Next.{nextBy, SignRule, settled, leg, stepped, signsBy, fromOf, toOf}
 use Rattle.circle.specs.declared.Arc.{Arc}
-use Rattle.circle.specs.Arc.{arcSigns, beatTo, arcBeat}
+use Rattle.circle.specs.Arc.{arcSigns, countedPair, beatTo, arcBeat}
 use Rattle.travel.specs.declared.Travel.{Travel}
 use Rattle.travel.specs.declared.Travel.the-variants as travel
 use Rattle.travel.specs.Next.{Stepped, Next, straightNext, arcNext}
-use Rattle.travel.specs.Next.Next as next
+use Rattle.travel.specs.Next.Next.{Made, Over}
 use Rattle.travel.specs.Plan.{planOf}
 use Rattle.travel.specs.work.Beat.{nextOf}
 use Rattle.record.specs.declared.Held.{Held}
@@ -61,8 +62,8 @@ use Rattle.engine.specs.work.Work.{Fits}
 
 -- where a pulse is made, it adds its signs
 abbrev Adds : Counters → Next → Type 0
-Adds at (next.Made s) = s .at ≡ movedAll at (s .signs)
-Adds at next.Over = Unit
+Adds at (Made s) = s .at ≡ movedAll at (s .signs)
+Adds at Over = Unit
 
 -- of a straight movement, by any rule
 module _ (rule : SignRule) (m : Move) (at : Counters) where
@@ -85,14 +86,15 @@ module _ (a : Arc) (at : Counters) where
 
   round-adds : Adds at (arcNext a (arcBeat a at))
   unfolding arcBeat stepTo
-  round-adds = round-by _ (haveSteps at (arcSigns a at)) (arcSigns a at)
+  round-adds =
+      round-by (ltb (a .made) (a .length) && (counted at && countedPair (a .centre) && countedPair (a .start))) (haveSteps at (arcSigns a at)) (arcSigns a at)
 
 next-adds : (m : Travel) (at : Counters) → Adds at (nextOf m at)
 unfolding nextOf straightOf
 next-adds (travel.Straight m) at = straight-adds _ m at
 next-adds (travel.Round a) at = round-adds a at
 
-pub next-moved : (m : Travel) (at : Counters) {n : Next} (s : Stepped) → n ≡ nextOf m at → n ≡ next.Made s → s .at ≡ movedAll at (s .signs)
+pub next-moved : (m : Travel) (at : Counters) {n : Next} (s : Stepped) → n ≡ nextOf m at → n ≡ Made s → s .at ≡ movedAll at (s .signs)
 next-moved m at s p q = subst (Adds at) (sym p ∙ q) (next-adds m at)
 
 -- ---- pauses

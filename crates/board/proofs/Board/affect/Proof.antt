@@ -160,7 +160,7 @@ returns : tie.Need-returns
 returns c = simp (c .before .enum-told .given .1, c .replies .ensures)
 
 returns-2 : tie.Need-returns-2
-returns-2 c = simp (c .before .before .enum-told2 .given .1, c .before .before .before .low .ensures, c .before .set-axes .ensures, c .replies2 .ensures)
+returns-2 c = simp (c .before .before .enum-told2 .given .1, c .before .before .before .before .low .ensures, c .before .set-axes .ensures, c .replies2 .ensures)
 
 returns-3 : tie.Need-returns-3
 returns-3 c = simp (c .before .before .enum-told3 .given .1, c .before .begin .ensures, c .begin2 .ensures)
@@ -169,10 +169,10 @@ returns-4 : tie.Need-returns-4
 returns-4 c = simp (c .before .before .enum-told4 .given .1, c .before .begin3 .ensures, c .begin4 .ensures)
 
 returns-5 : tie.Need-returns-5
-returns-5 c = simp (c .before .before .enum-told5 .given .1, c .before .before .before .low .ensures, c .before .set-origin .ensures, c .replies3 .ensures)
+returns-5 c = simp (c .before .before .enum-told5 .given .1, c .before .before .before .before .low .ensures, c .before .set-origin .ensures, c .replies3 .ensures)
 
 returns-6 : tie.Need-returns-6
-returns-6 c = simp (c .before .before .enum-told6 .given .1, c .before .before .before .low .ensures, c .before .set-zero .ensures, c .replies4 .ensures)
+returns-6 c = simp (c .before .before .enum-told6 .given .1, c .before .before .before .before .low .ensures, c .before .set-zero .ensures, c .replies4 .ensures)
 
 returns-7 : tie.Need-returns-7
 returns-7 c = simp (c .before .before .enum-told7 .given .1, c .before .set-three .ensures, c .replies5 .ensures)

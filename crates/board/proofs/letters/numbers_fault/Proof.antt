@@ -109,7 +109,7 @@ seven-fault-requires : tie.Need-seven-fault-requires
 seven-fault-requires c κs = search needs
 
 returns : tie.Need-returns
-returns c = search needs
+returns c = simp (c .enum-told .given .1)
 
 returns-2 : tie.Need-returns-2
 returns-2 c = simp (c .before .enum-told2 .given .1, c .axes-fault .ensures)

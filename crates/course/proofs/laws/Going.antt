@@ -5,11 +5,10 @@ use mathlib.Core.Path.{_≡_, refl, ap, sym, _∙_}
 use mathlib.Core.Bool.{true}
 use native.Mathlib.Omega.{arith}
 use Rattle.motion.specs.declared.Counters.{Counters}
-use Rattle.motion.specs.declared.Next.{Next}
-use Rattle.motion.specs.declared.Next.the-variants as next
-use Rattle.motion.specs.work.Here.{nextOf, withinOf}
-use Rattle.motion.specs.work.Made.{made}
-use Rattle.motion.proofs.laws.Within.{within-next}
+use Rattle.travel.specs.Next.{Next}
+use Rattle.travel.specs.Next.Next as next
+use Rattle.travel.specs.work.Beat.{nextOf, withinOf, made}
+use Rattle.travel.proofs.laws.Within.{within-next}
 use Rattle.record.specs.Memory.{Memory}
 use Rattle.record.specs.Table.{fetchOf}
 use Rattle.engine.specs.declared.Engine.{Engine}
@@ -24,7 +23,7 @@ use Rattle.course.specs.work.Machine.{Way, stays, then}
 use Rattle.course.specs.work.Glide.{Gone, here, glides, glideOn, glideSaid, goneBy, saidBy}
 use Rattle.course.specs.work.Going.{glideJob, goWay, inDirect, inMoving, tickNext, tickSaid}
 
--- ---- a pulse of the movement is a clock call of the engine that holds it
+-- ---- a pulse of what moves is a clock call of the engine that holds it
 
 abbrev Same : Memory → (Gone → Engine) → Gone → Type 0
 Same mem put t = (runsOf (put t) ≡ true) × (tickNext mem (put t) ≡ put (glideOn t)) × (tickSaid mem (put t) ≡ glideSaid t)

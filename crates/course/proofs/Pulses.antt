@@ -10,17 +10,22 @@ use Rattle.count.specs.Text.{digits}
 use Rattle.count.proofs.laws.Digits.{decimal-more, decimal-long}
 use Rattle.count.proofs.laws.Lists.{rest}
 use Rattle.motion.specs.declared.Counters.{Counters}
+use Rattle.motion.specs.declared.Move.{Move}
 use Rattle.motion.specs.declared.Signs.{Signs}
 use Rattle.motion.specs.declared.Beat.{Beat}
 use Rattle.motion.specs.declared.Beaten.{Beaten}
 use Rattle.motion.specs.declared.Beaten.the-variants as beat
+use Rattle.motion.specs.work.Here.{withinOf as straightIn}
+use Rattle.motion.specs.work.Beat.{beaten as straightBeaten}
+use Rattle.circle.specs.declared.Arc.{Arc}
+use Rattle.circle.specs.Arc.{arcBeat}
 use Rattle.travel.specs.declared.Travel.{Travel}
 use Rattle.travel.specs.declared.Travel.the-variants as travel
 use Rattle.travel.specs.Next.{Stepped}
-use Rattle.travel.specs.Next.Next as next
+use Rattle.travel.specs.Next.Next.{Made}
 use Rattle.travel.specs.work.Beat.{withinOf, madeOf, withMade, markOf, beaten}
 use Rattle.travel.proofs.laws.Within.{within-rest}
-use Rattle.travel.proofs.laws.Beats.{hit, missed}
+use Rattle.travel.proofs.laws.Beats.{straight-within, arc-beaten, hit, missed}
 use Rattle.course.specs.Text.{pulseText}
 use Rattle.course.specs.work.Work.{Wrote}
 use Rattle.course.specs.work.Machine.{stays, way, Left}
@@ -46,15 +51,15 @@ behind-long at out = rw (rest, length-drop)
 abbrev pub GKept : ℕ → Travel → Counters → List ℕ → ℕ → Travel → Counters → List ℕ → ℕ → Type 0
 GKept limit m₀ at₀ out₀ n m at out k = Kept glides glideOn glideSaid limit (here m₀ at₀) out₀ n (here m at) out k
 
--- ---- what moves, by the pulses made of its phase
+-- ---- a pulse of either kind is one of what moves
 
-pub made-as-is : (m : Travel) → m ≡ withMade m (madeOf m)
-made-as-is (travel.Straight m) = refl
-made-as-is (travel.Round a) = refl
+pub straight-beat : (m : Move) (at : Counters) {x : Beaten} → x ≡ straightBeaten (straightIn m at) → x ≡ beaten (withinOf (travel.Straight m) at)
+unfolding withinOf
+straight-beat m at e = e ∙ straight-within m at
 
-pub made-again : (m : Travel) (j k : ℕ) → withMade (withMade m j) k ≡ withMade m k
-made-again (travel.Straight m) j k = refl
-made-again (travel.Round a) j k = refl
+pub round-beat : (a : Arc) (at : Counters) {x : Beaten} → x ≡ arcBeat a at → x ≡ beaten (withinOf (travel.Round a) at)
+unfolding withinOf
+round-beat a at e = e ∙ arc-beaten a at
 
 made-marked : (m : Travel) → markOf m .made ≡ madeOf m
 made-marked (travel.Straight m) = refl
@@ -65,15 +70,15 @@ module _ (m : Travel) (at : Counters) where
   unfolding glides
   over e p = rw (missed (withinOf m at) e p)
 
-  pub made : {s : Stepped} → withinOf m at ≡ next.Made s → glides (here m at) ≡ true
+  pub made : {s : Stepped} → withinOf m at ≡ Made s → glides (here m at) ≡ true
   unfolding glides
   made e = rw e
 
-  part : (k : ℕ) (s : Stepped) → withinOf m at ≡ next.Made s → 0 < k
+  part : (k : ℕ) (s : Stepped) → withinOf m at ≡ Made s → 0 < k
       → Part glides glideOn glideSaid k (here m at) (record { state = here (s .rest) (s .at); calls = 1; text = pulseText (s .signs) (s .speed) })
   part k s e h = rw e at (one-part glides glideOn glideSaid k (here m at) h (made e))
 
-pub same-kept : {limit n k : ℕ} {m₀ r t : Travel} {at₀ at : Counters} {out₀ out : List ℕ} → r ≡ t → GKept limit m₀ at₀ out₀ n r at out k → GKept limit m₀ at₀ out₀ n t at out k
+same-kept : {limit n k : ℕ} {m₀ r t : Travel} {at₀ at : Counters} {out₀ out : List ℕ} → r ≡ t → GKept limit m₀ at₀ out₀ n r at out k → GKept limit m₀ at₀ out₀ n t at out k
 same-kept e g = rw e at g
 
 module _ (limit : ℕ) (m₀ : Travel) (at₀ : Counters) (out₀ : List ℕ) (n : ℕ) (m : Travel) (at : Counters) (out : List ℕ) (k : ℕ) (i : GKept limit m₀ at₀ out₀ n m at out k) where
@@ -85,7 +90,7 @@ module _ (limit : ℕ) (m₀ : Travel) (at₀ : Counters) (out₀ : List ℕ) (n
   pub room : n < limit → 12 * limit ≤ length out₀ → 12 ≤ length out - k
   room h l = omega (arith, i .short, i .long)
 
-  turned : (s : Stepped) (ys : List ℕ) (j : ℕ) → withinOf m at ≡ next.Made s → n < limit → 12 * limit ≤ length out₀ → s .speed ≤ 65535
+  turned : (s : Stepped) (ys : List ℕ) (j : ℕ) → withinOf m at ≡ Made s → n < limit → 12 * limit ≤ length out₀ → s .speed ≤ 65535
       → Wrote (pulseText (s .signs) (s .speed)) (take (length out - k) (drop k out)) j ys
       → GKept limit m₀ at₀ out₀ (n + 1) (s .rest) (s .at) (putMid k (length out - k) out ys) (k + j)
   turned s ys j e h l v w =

@@ -6,7 +6,7 @@ use mathlib.Core.Bool.{true}
 use native.Mathlib.Omega.{arith}
 use Rattle.motion.specs.declared.Counters.{Counters}
 use Rattle.travel.specs.Next.{Next}
-use Rattle.travel.specs.Next.Next as next
+use Rattle.travel.specs.Next.Next.{Made, Over}
 use Rattle.travel.specs.work.Beat.{nextOf, withinOf, made}
 use Rattle.travel.proofs.laws.Within.{within-next}
 use Rattle.record.specs.Memory.{Memory}
@@ -31,13 +31,13 @@ Same mem put t = (runsOf (put t) ≡ true) × (tickNext mem (put t) ≡ put (gli
 module _ (mem : Memory) (e : Engine) (t : Gone) where
   direct-by : (x : Next) → nextOf (t .rest) (t .at) ≡ x → made x ≡ true
       → (directly x (inDirect e t) .engine ≡ inDirect e (goneBy x t)) × (answerText (directly x (inDirect e t) .answer) ≡ saidBy x)
-  direct-by (next.Made s) p q = (ap (λ (c : Counters). inDirect e (here (s .rest) c)) (sym (next-moved (t .rest) (t .at) s refl p)), refl)
-  direct-by next.Over p q = let z : _≡_ {A = ℕ} 0 1 = cc in absurd (omega arith)
+  direct-by (Made s) p q = (ap (λ (c : Counters). inDirect e (here (s .rest) c)) (sym (next-moved (t .rest) (t .at) s refl p)), refl)
+  direct-by Over p q = let z : _≡_ {A = ℕ} 0 1 = cc in absurd (omega arith)
 
   moving-by : (x : Next) → nextOf (t .rest) (t .at) ≡ x → made x ≡ true
       → (movingOn nextOf (fetchOf (e .held) mem) x (inMoving e t) .engine ≡ inMoving e (goneBy x t)) × (answerText (movingOn nextOf (fetchOf (e .held) mem) x (inMoving e t) .answer) ≡ saidBy x)
-  moving-by (next.Made s) p q = (ap (λ (c : Counters). inMoving e (here (s .rest) c)) (sym (next-moved (t .rest) (t .at) s refl p)), refl)
-  moving-by next.Over p q = let z : _≡_ {A = ℕ} 0 1 = cc in absurd (omega arith)
+  moving-by (Made s) p q = (ap (λ (c : Counters). inMoving e (here (s .rest) c)) (sym (next-moved (t .rest) (t .at) s refl p)), refl)
+  moving-by Over p q = let z : _≡_ {A = ℕ} 0 1 = cc in absurd (omega arith)
 
   same-direct : glides t ≡ true → Same mem (inDirect e) t
   unfolding glides ticked runsOf

@@ -1,8 +1,8 @@
 -- The pulses of an arc that 103 lets pass: it makes every pulse that is left, each moves one axis of its plane by one, and it passes again
 -- after it. Assumes nothing.
 use mathlib.Core.Path.{_≡_, refl, sym, ap, _∙_}
-use mathlib.Core.Bool.{Bool, true, false, not, _&&_}
-use Prim.Native.Nat.{ℕ, _+_, _-_, _≤_, _<_}
+use mathlib.Core.Bool.{Bool, true, false, _&&_}
+use Prim.Native.Nat.{ℕ, _+_, _≤_, _<_}
 use native.Mathlib.Omega.{arith}
 use lib.Dec.{ltb}
 use borrow.Author.Tests.{lt-ltb, le-ltb, ltb-true, ltb-false}
@@ -13,7 +13,6 @@ use Rattle.motion.specs.declared.Counters.{Counters}
 use Rattle.motion.specs.declared.Moved.{Moved}
 use Rattle.motion.specs.declared.Moved.the-variants as moved
 use Rattle.motion.specs.declared.Beat.{Beat}
-use Rattle.motion.specs.declared.Beaten.{Beaten}
 use Rattle.motion.specs.declared.Beaten.the-variants as beat
 use Rattle.motion.specs.Phase.{movedAll}
 use Rattle.motion.specs.Sound.{speedRight, counted}
@@ -24,7 +23,7 @@ use Rattle.motion.proofs.laws.Steps.{steps-room, steps-small, step-made}
 use Rattle.circle.specs.declared.Pair.{Pair}
 use Rattle.circle.specs.declared.Ways.{Ways}
 use Rattle.circle.specs.declared.Arc.{Arc}
-use Rattle.circle.specs.Rule.{onPlane, onAxes, rests, shifted, waysAt, moveOf}
+use Rattle.circle.specs.Rule.{onPlane, onAxes, shifted, waysAt, moveOf}
 use Rattle.circle.specs.Arc.{startValue, arcSigns, countedPair, nextMark, beatTo, arcBeat, withMade, arcLeft}
 use Rattle.circle.specs.Plan.{reachOf}
 use Rattle.circle.specs.Sound.{pointSound, arcUnderWay}

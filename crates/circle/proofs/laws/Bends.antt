@@ -1,5 +1,5 @@
 -- A planned arc passes the test of 103 where it is planned, and has the length that was sent. Assumes nothing.
-use mathlib.Core.Path.{_≡_, refl, sym, ap, _∙_}
+use mathlib.Core.Path.{_≡_, refl, _∙_}
 use mathlib.Core.Bool.{Bool, true, false, not, _&&_}
 use mathlib.Core.List.{List}
 use Prim.Native.Nat.{ℕ, suc, _+_, _-_, _*_, _≤_, _<_}
@@ -7,7 +7,7 @@ use native.Mathlib.Omega.{arith}
 use lib.Dec.{ltb, leb, eqb}
 use lib.IntN.{ℤ, pos, negsuc, _+ℤ_}
 use lib.ListN.{getD}
-use borrow.Author.Tests.{le-leb, lt-leb, ltb-true, ltb-false, leb-true, leb-false, ne-eqb, eq-eqb}
+use borrow.Author.Tests.{le-leb, ltb-true, ltb-false, leb-true, leb-false, ne-eqb, eq-eqb}
 use Rattle.count.specs.Chars.{ch}
 use Rattle.count.specs.Pick.{pick}
 use Rattle.count.specs.Numbers.{within, in24, far, half, full, value, count}
@@ -15,12 +15,11 @@ use Rattle.count.specs.Ranges.{inStart, inZero, inSpeed, inArc, inWay, nth, rig
 use Rattle.count.proofs.laws.Laws.{sub-pos, sub-neg, sub-eq, sub-plus, sub-minus}
 use Rattle.count.proofs.laws.Truth.{and-left, and-right, both}
 use Rattle.motion.specs.declared.Counters.{Counters}
-use Rattle.motion.specs.Sound.{speedRight, counted}
+use Rattle.motion.specs.Sound.{counted}
 use Rattle.motion.proofs.laws.Plans.{speed-word}
 use Rattle.circle.specs.declared.Circling.{Circling}
 use Rattle.circle.specs.declared.Pair.{Pair}
 use Rattle.circle.specs.declared.Arc.{Arc}
-use Rattle.circle.specs.declared.Bent.{Bent}
 use Rattle.circle.specs.declared.Bent.the-variants.{Going, Refused}
 use Rattle.circle.specs.Rule.{onPlane, measure}
 use Rattle.circle.specs.Arc.{zero}

@@ -9,7 +9,7 @@ use Rattle.travel.specs.Next.Next.{Made, Over}
 use Rattle.travel.specs.work.Beat.{withinOf, made}
 use Rattle.course.specs.declared.Glided.{Glided}
 use Rattle.course.specs.Text.{pulseText}
-use Rattle.course.specs.work.Machine.{Way, way, Left, leftBy}
+use Rattle.course.specs.work.Machine.{way, Left, leftBy}
 
 pub record Gone : Type 0 where
   pub rest : Travel

@@ -1,15 +1,18 @@
 # Follows the stream that the program calls prints, and keeps what the table and the tool did. It draws and prints nothing: plate.awk
 # and measure.awk do, from what is kept here.
 #
-# Given: surface, the height of the plate in steps above the start (0 if it is not given).
+# Given: surface, the height of the plate in steps above the start (0 if it is not given); in front of the stream the lines that were sent,
+#   each as `A number text`.
 # Kept: x y z, the table counted from the start, by the pulses alone;
 #   made[1..n_made], in the order of happening, fields parted by spaces:
 #     go or cut x1 y1 z1 x2 y2 z2 speed record pass line, and for a sloping way the corners of its pulses, three numbers each;
 #     hole or left x y top x y bottom 0 record pass line; record and pass are - for a movement that was sent as a line;
+#   lowest_of[i], slopes[i] of a way made[i]: its lowest z, and whether z changes on it; arc_of[i] if it is an arc: centre in x, y and z, start
+#     from there on both axes of its plane, plane, direction; or ? if its line is not known; the points of a round way are in round.awk;
 #   left right low high, the extent in x and y; deepest, the lowest z in the plate; has_z, whether z was ever set; moved, any pulse;
 #   home[1..n_homes], places that were the origin; begun[1..n_begun], places where records began to move, and begun_by[place];
 #   note[1..n_notes], what the board refused and how runs ended, and note_why[1..n_notes], what that means; sent_text, the characters that
-#   programs sent; limit, the last run was not over when the clock calls were. Behind replies.awk.
+#   programs sent; limit, the last run was not over when the clock calls were. Behind replies.awk and circles.awk.
 
 BEGIN {
     surface += 0
@@ -22,6 +25,7 @@ BEGIN {
     origin_at(0, 0)
 }
 
+/^A / { line_text[$2] = substr($0, length($2) + 4); next }
 $0 == "B -" { next }
 $0 == "Q over" { limit = 0; next }
 $0 == pulse { count++; fresh = 1; next }
@@ -66,7 +70,7 @@ function tick() {
         pulses(count - 1)
         close_way()
         run_is($3)
-        if ($3 == "Direct") record = pass = "-"
+        if ($3 == "Direct") begin_line()
         else if ($5 != $7) begin_record($5 + 0)
         pulses(1)
     } else {
@@ -79,16 +83,40 @@ function tick() {
 
 # What an answer that is no pulse was, and the record's place that it came to. A movement without a step is a pass of its record as well.
 function answered(job, from) {
-    if (answer == "Done") passes[from]++
+    if (answer == "Done") {
+        passes[from]++
+        setting(from)
+    }
     if (answer != "Send") return
     if (job == "Idle") end_run(sprintf("%c", byte + 0))
     else sent(sprintf("%c", byte + 0))
+}
+
+# A record that sets the plane or the direction of circles. At the end of the run the state says the same.
+function setting(from) {
+    if (circle_at[from] ~ /^e/) plane = substr(circle_at[from], 3) + 0
+    if (circle_at[from] ~ /^f/) direction = substr(circle_at[from], 3) + 0
+}
+
+# A phase of a movement that was sent as a line.
+function begin_line() {
+    record = pass = "-"
+    arc = arc_from(circle_line(line_text[run_line], 0))
+}
+
+# An arc that begins here: its centre lies by its start from here.
+function arc_from(circle,    u, v) {
+    if (!is_arc(circle)) return ""
+    u = arc_part[5]
+    v = arc_part[6]
+    return (plane < 2 ? x - u : x) " " (plane == 0 ? y - v : plane == 2 ? y - u : y) " " (plane > 0 ? z - v : z) " " u " " v " " plane " " direction
 }
 
 # The first phase of a record's movement begins a pass.
 function begin_record(place,    at) {
     record = place
     pass = ++passes[place]
+    arc = arc_from(circle_at[place])
     at = x " " y
     if (!(at in begun_by)) {
         begun[++n_begun] = at
@@ -108,7 +136,7 @@ function run_is(job) {
 
 # The end of what ran, by a reply, or by none for a reset. The 0 of a movement that was sent as a line is not worth a note.
 function end_run(by) {
-    if (running == "run" || by != "0") add_note(running " of line " run_line " ended " (by == "" ? "by a reset" : "with " by), by == "F" ? "a break" : by == "9" ? "out of range" : "")
+    if (running == "run" || by != "0") add_note(running " of line " run_line " ended " (by == "" ? "by a reset" : "with " by), by == "F" ? "a break" : by == "9" ? "out of range" : by == "3" ? "axis not set" : by == "1" ? "wrong directions" : "")
     running = ""
 }
 
@@ -118,10 +146,19 @@ function still_running() {
     else add_note(running " of line " run_line " is not over", "")
 }
 
-# A reply to a byte. An F says stop or break; the state behind it tells which.
+# A reply to a byte. An F says stop or break; the state behind it tells which. A 0 while storing is that of a record.
 function reply(text) {
     if (text == "F") held = 1
-    else if (refuses(text)) add_note("line " line ": " text, meaning(text, job_now == "Storing"))
+    else if (refuses(text)) add_note("line " line ": " text, why_refused(text, job_now == "Storing"))
+    else if (text == "0" && job_now == "Storing") keep_circle(records, line_text[line])
+}
+
+# A circle has words of its own where they are short.
+function why_refused(text, storing,    circle) {
+    circle = circle_line(line_text[line], storing)
+    if (text == "3" && is_arc(circle)) return "plane with an axis not set"
+    if (text == "1" && !storing && is_arc(circle) && arc_fault(0, direction) ~ / the directions are /) return "wrong directions"
+    return meaning(text, storing)
 }
 
 # A line S: what is at work, and where the positions and the origin lie on the table.
@@ -134,6 +171,9 @@ function state(    job) {
     else if (running) end_run("")
     held = 0
     job_now = job
+    records = $19 + 0
+    plane = $29 + 0
+    direction = $31 + 0
     if ($3 == 7) has_z = 1
     off_x = x - $5
     off_y = y - $6
@@ -191,35 +231,46 @@ function stretch(n, inside) {
         close_way()
         open_way(inside)
     }
-    if (dx || dy) aside = 1
-    corner(dx " " dy " " dz)
+    if (!aside && (dx || dy)) {
+        aside = 1
+        leaves_at = lowest
+    }
+    if (dz) slope = 1
+    corner()
     x += n * dx
     y += n * dy
     z += n * dz
     widen(x, y)
+    if (z < lowest) lowest = z
     if (z < deepest && inside) deepest = z
 }
 
-# A corner of the way is kept where the direction changes. Beyond 160 steps both ways no step is wide enough to be drawn, and none is kept.
-function corner(direction) {
-    if (direction == heading) return
-    if (heading != "" && n_corners < 600 && (right - left <= 160 || high - low <= 160)) {
+# A corner of the way is kept where the direction changes. Beyond 160 steps both ways no step of a straight way is wide enough to be drawn,
+# and none is kept.
+function corner() {
+    if (headed && dx == last_dx && dy == last_dy && dz == last_dz) return
+    if (headed && turns_round()) round_corner()
+    else if (headed && n_corners < 600 && (right - left <= 160 || high - low <= 160)) {
         n_corners++
         corners = corners " " x " " y " " z
-    } else if (heading != "") n_corners = 601
-    heading = direction
+    } else if (headed) n_corners = 601
+    headed = 1
+    last_dx = dx
+    last_dy = dy
+    last_dz = dz
 }
 
 function open_way(inside) {
     open = 1
     cuts = inside
     way_speed = speed
-    aside = 0
+    aside = slope = 0
     x1 = x
     y1 = y
-    z1 = z
-    corners = heading = ""
-    n_corners = 0
+    z1 = lowest = z
+    corners = ""
+    n_corners = headed = 0
+    round_begins()
 }
 
 # The way since the phase began, or since the tool came to the surface. One that goes aside is a line; one that does not is down or up.
@@ -230,8 +281,12 @@ function close_way() {
         upright()
         return
     }
-    if (bottom < top && bottom < z1) add_stay("hole")
+    if (bottom < top && bottom < leaves_at) add_stay("hole")
     made[++n_made] = (cuts ? "cut" : "go") " " x1 " " y1 " " z1 " " x " " y " " z " " way_speed " " by_whom() (n_corners < 601 ? corners : "")
+    lowest_of[n_made] = lowest
+    slopes[n_made] = slope
+    if (arc != "" || is_round) arc_of[n_made] = arc == "" ? "?" : arc
+    keep_round(n_made)
     top = bottom = z
 }
 

@@ -8,7 +8,8 @@ function draw_arrows(    i, c) {
     for (i = 1; i <= n_made; i++) {
         if (substr(made[i], 1, 3) != "cut" && substr(made[i], 1, 3) != "go ") continue
         corners_of(i)
-        arrow_on(across(at_x[1]), down(at_y[1]), across(at_x[n_at]), down(at_y[n_at]), colour(speed))
+        if (is_bent) arrow_on_round(colour(speed))
+        else arrow_on(across(at_x[1]), down(at_y[1]), across(at_x[n_at]), down(at_y[n_at]), colour(speed))
         if (n_arrows >= 200) break
     }
     for (c = 1; c <= 5; c++) if (arrows[c] != "") print "<path class=\"arrows\" d=\"" arrows[c] "\" fill=\"#" colours[c] "\"/>"
@@ -39,6 +40,27 @@ function arrow_on_piece(k, c) {
     if (k < 1 || k >= n_at) return 0
     return arrow_at(across(at_x[k]), down(at_y[k]), across(at_x[k + 1]), down(at_y[k + 1]), 2, c)
 }
+
+# On a round way the arrow lies in the middle of its length, along the steps before and behind it; one that is short is as other short ways.
+function arrow_on_round(c,    k, long, half, a, b) {
+    for (k = 1; k < n_at; k++) long += piece(k, k + 1)
+    if (long < 2600) {
+        arrow_along(across(at_x[1]), down(at_y[1]), across(at_x[n_at]), down(at_y[n_at]), c, long)
+        return
+    }
+    along = 0
+    for (k = 1; k < n_at - 1 && half + piece(k, k + 1) < long / 2; k++) half += piece(k, k + 1)
+    if (draws_steps) {
+        if (!arrow_on_piece(k, c) && !arrow_on_piece(k - 1, c)) arrow_on_piece(k + 1, c)
+        return
+    }
+    for (a = k; a > 1 && piece(a, k) < 300; a--) continue
+    for (b = k + 1; b < n_at && piece(k, b) < 300; b++) continue
+    arrow_at(across(at_x[a]), down(at_y[a]), across(at_x[b]), down(at_y[b]), 2, c)
+}
+
+# How far two corners lie apart.
+function piece(k, m) { return length_of(across(at_x[k]), down(at_y[k]), across(at_x[m]), down(at_y[m])) }
 
 # Short ways that follow each other: an arrow each 100 units, in the direction of the last 50.
 function arrow_along(x1, y1, x2, y2, c, long) {
@@ -147,13 +169,18 @@ function is_free(x1, y1, x2, y2,    i, j) {
 
 # Small figures keep clear of all lines too: of a groove as wide as it is, of another line as thin. Of very many lines the first are
 # enough.
-function take_lines(    i, k, half) {
+function take_lines(    i, k, half, last) {
     to_take = 6000
     for (i = 1; i <= n_made && to_take > 0; i++) {
         if (substr(made[i], 1, 3) != "cut" && substr(made[i], 1, 3) != "go ") continue
         corners_of(i)
         half = what == "cut" ? 550 : 0
-        for (k = 1; k < n_at; k++) take_line(across(at_x[k]), down(at_y[k]), across(at_x[k + 1]), down(at_y[k + 1]), half)
+        last = 1
+        for (k = 2; k <= n_at; k++) {
+            if (is_bent && k < n_at && piece(last, k) < 400) continue # short pieces of a round way as one
+            take_line(across(at_x[last]), down(at_y[last]), across(at_x[k]), down(at_y[k]), half)
+            last = k
+        }
     }
 }
 
@@ -201,10 +228,14 @@ function draw_places(    k, f, by) {
 function draw_numbers(    r, f, t) {
     for (r = 1; r <= n_rows && r <= 60; r++) {
         split(made[row[r]], f, " ")
+        corners_of(row[r])
         for (t = 1; t <= 3; t++) if (number_at(r, f, t == 1 ? 0.5 : t == 2 ? 0.3 : 0.7)) break
     }
 }
 
-function number_at(r, f, t) {
-    return figures(r, across(f[2] + (f[5] - f[2]) * t), down(f[3] + (f[6] - f[3]) * t), "class=\"number\" font-size=\"11\" font-weight=\"bold\" fill=\"#B00020\"")
+# A number at a fraction of the way; of a round one, of its corners.
+function number_at(r, f, t,    px, py) {
+    px = is_bent ? at_x[1 + int((n_at - 1) * t)] : f[2] + (f[5] - f[2]) * t
+    py = is_bent ? at_y[1 + int((n_at - 1) * t)] : f[3] + (f[6] - f[3]) * t
+    return figures(r, across(px), down(py), "class=\"number\" font-size=\"11\" font-weight=\"bold\" fill=\"#B00020\"")
 }

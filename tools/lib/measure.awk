@@ -1,5 +1,5 @@
 # Prints the table of measures: one row for each hole and each cut that the program leaves on the plate, as text or, with csv=1, as comma
-# separated values. Behind follow.awk, scale.awk and rows.awk.
+# separated values. Behind circles.awk, follow.awk, scale.awk and rows.awk.
 
 END {
     find_rows()
@@ -23,7 +23,9 @@ function print_text(    r) {
 function print_csv(    r, c, text) {
     text = "from_x,from_y,from_z,to_x,to_y,to_z,depth"
     if (in_mm) text = text ",from_x_mm,from_y_mm,from_z_mm,to_x_mm,to_y_mm,to_z_mm,depth_mm"
-    print "number,what," text ",record,pass,line"
+    text = text ",record,pass,line"
+    if (n_arcs) text = text ",centre_x,centre_y,centre_z,radius" (in_mm ? ",centre_x_mm,centre_y_mm,centre_z_mm,radius_mm" : "") ",plane,turn"
+    print "number,what," text
     for (r = 1; r <= n_rows; r++) {
         fill_cells(r, 1)
         text = cell[1]

@@ -1,5 +1,6 @@
 # The picture and the table of measures of a stream; to be read with the command "." by a script that has set `lib` to this folder.
-# They use: scale, as scale_of prints it, or empty; surface, as surface_of prints it, or empty; title; numbers, 1 or empty.
+# They use: scale, as scale_of prints it, or empty; surface, as surface_of prints it, or empty; title; numbers, 1 or empty; lines, the file with
+# the lines that were sent, each as `number text`.
 
 is_whole() { # STREAM: whether calls has printed it to its end
     case $(tail -n 1 "$1") in
@@ -12,7 +13,7 @@ follow() { # STREAM FILE...: runs these awk files behind those that follow the s
     stream=$1
     shift
     files=
-    for file in replies follow scale rows "$@"; do
+    for file in replies circles follow round scale rows "$@"; do
         files="$files -f $file.awk"
     done
     set -- -v "surface=${surface:-0}"
@@ -23,7 +24,8 @@ follow() { # STREAM FILE...: runs these awk files behind those that follow the s
     fi
     # The files are named without their folder, whose name may have spaces.
     # shellcheck disable=SC2086
-    (cd "$lib" && LC_ALL=C TITLE=$title awk "$@" -v "numbers=$numbers" -v "csv=$csv" $files) <"$stream"
+    { LC_ALL=C sed 's/^/A /' "$lines" && cat "$stream"; } |
+        (cd "$lib" && LC_ALL=C TITLE=$title awk "$@" -v "numbers=$numbers" -v "csv=$csv" $files)
 }
 
 picture_of() { # STREAM: prints the picture

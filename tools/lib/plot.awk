@@ -27,17 +27,8 @@ function rounded(v) { return int(v * 100 + 0.5) }
 function across(v) { return rounded(mid_x + (v - (left + right) / 2) * wide_x) }
 function down(v) { return rounded(mid_y - (v - (low + high) / 2) * wide_y) }
 
-# The length of a line. The root is found by halving, since an awk may have been built without sqrt: the first guess is a tenth off at
-# most, and each turn doubles the digits that are right.
-function length_of(x1, y1, x2, y2,    a, b, square, root, turn) {
-    a = x1 < x2 ? x2 - x1 : x1 - x2
-    b = y1 < y2 ? y2 - y1 : y1 - y2
-    if (a == 0 || b == 0) return a + b
-    square = a * a + b * b
-    root = a > b ? a + 0.4 * b : b + 0.4 * a
-    for (turn = 1; turn <= 4; turn++) root = (root + square / root) / 2
-    return root
-}
+# The length of a line.
+function length_of(x1, y1, x2, y2) { return root_of(x2 - x1, y2 - y1) }
 
 function colour(speed) { return speed < 200 ? 1 : speed < 500 ? 2 : speed < 1000 ? 3 : speed < 2500 ? 4 : 5 }
 
@@ -48,7 +39,7 @@ function find_shades(    i, f, k, deep) {
     for (i = 1; i <= n_made; i++) {
         if (substr(made[i], 1, 3) == "go ") continue
         split(made[i], f, " ")
-        if (f[1] == "cut" && f[4] != f[7]) break
+        if (f[1] == "cut" && slopes[i]) break
         if (!add_depth(surface - f[7])) break
     }
     each_depth = i > n_made
@@ -73,15 +64,25 @@ function shade(depth,    s) {
 }
 function grey(s) { return greys[int((s - 0.5) * 5 / n_shades) + 1] }
 
-# The corners of a thing that is drawn: of its pulses if steps are drawn as they are, else its two ends. at_x, at_y, at_z [1..n_at].
+# The corners of a thing that is drawn: of its pulses if it is round or steps are drawn as they are, else its two ends. at_x, at_y, at_z
+# [1..n_at].
 function corners_of(i,    f, n, k) {
     n = split(made[i], f, " ")
     what = f[1]
     speed = f[8] + 0
     n_at = 0
+    is_bent = i in round_from
     corner_at(f[2], f[3], f[4])
-    if (draws_steps) for (k = 12; k < n; k += 3) corner_at(f[k], f[k + 1], f[k + 2])
-    corner_at(f[5], f[6], f[7])
+    if (is_bent) round_points(i)
+    else if (draws_steps) for (k = 12; k < n; k += 3) corner_at(f[k], f[k + 1], f[k + 2])
+    if (!(i in closed)) corner_at(f[5], f[6], f[7])
+}
+
+# The points of a round way. Where steps are small, only those that are half a unit from the last one.
+function round_points(i,    k) {
+    for (k = round_from[i]; k <= round_to[i]; k++)
+        if (draws_steps || k == round_to[i] || is_apart(round_x[k] - at_x[n_at], 1, 2 * wide_x) || is_apart(round_y[k] - at_y[n_at], 1, 2 * wide_y))
+            corner_at(round_x[k], round_y[k], round_z[k])
 }
 
 function corner_at(x, y, z) {
@@ -124,7 +125,7 @@ function groove(k,    a, b, from, to, s, last, step) {
     add_band(s, k, from, 1)
 }
 
-# A part of the groove between two corners, from one fraction of the way to another.
+# A part of the groove between two corners, from one fraction of the way to another. On a round way it is joined to the part before.
 function add_band(s, k, from, to,    x1, y1, x2, y2, place) {
     if (to == from) return
     x1 = across(at_x[k] + (at_x[k + 1] - at_x[k]) * from)
@@ -134,7 +135,8 @@ function add_band(s, k, from, to,    x1, y1, x2, y2, place) {
     place = s " " x1 " " y1 " " x2 " " y2
     if (place in has_band) return
     has_band[place] = 1
-    band[s, ++n_bands[s]] = "M" x1 " " y1 "L" x2 " " y2
+    band[s, ++n_bands[s]] = (is_bent && band_end[s] == x1 " " y1 ? "" : "M" x1 " " y1) "L" x2 " " y2
+    band_end[s] = x2 " " y2
     used_shade[s] = 1
 }
 
@@ -157,6 +159,7 @@ function draw_lines(kind, width,    i, k) {
 function add_line(c, x1, y1, x2, y2,    way) {
     way = c " " x1 " " y1 " " x2 " " y2
     used_colour[c] = 1
+    if (is_bent && x1 == x2 && y1 == y2) return
     if (way in has_line || (c " " x2 " " y2 " " x1 " " y1) in has_line) return
     has_line[way] = 1
     solid[c, ++n_lines[c]] = (line_end[c] == x1 " " y1 ? "" : "M" x1 " " y1) "L" x2 " " y2

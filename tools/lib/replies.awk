@@ -41,7 +41,7 @@ function misshapen(line, storing) {
 
 function spaces(line, storing) {
     if (line ~ /[ \t]$/) return ": a space stands at its end"
-    if (line !~ (storing ? "^[0mnz3512][-0-9, ]*$" : "^@0[AaMmSsnNzPbBik]?[-0-9, ]*$")) return ""
+    if (line !~ (storing ? "^[0mnz3512efy][-0-9, ]*$" : "^@0[AaMmSsnNzPbBikefy]?[-0-9, ]*$")) return ""
     if (line ~ / ,/) return ": a space stands before a comma"
     if (line ~ /  /) return ": two spaces stand together"
     return ""

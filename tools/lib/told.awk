@@ -1,5 +1,5 @@
-# What the board did, for a person, under each line of the file that it answers: awk -f replies.awk -f fault.awk -f told.awk LINES STREAM. LINES is what
-# sent.awk wrote of the file, STREAM what `calls` printed. -v scale="x y z": the steps of a mm on each axis, or empty; -v pulses=1 shows every pulse.
+# What the board did, for a person, under each line of the file that it answers: awk -f replies.awk -f circles.awk -f fault.awk -f told.awk LINES STREAM.
+# LINES is what sent.awk wrote of the file, STREAM what `calls` printed. -v scale="x y z": the steps of a mm on each axis, or empty; -v pulses=1 shows every pulse.
 BEGIN {
     split(scale, per, " ")
     split("x y z", axis, " ")
@@ -76,6 +76,7 @@ function reply(sent, words) {
 # The place of the record that has just been stored; it is kept with its line of the file.
 function stored() {
     keep_record(records, current, text[current])
+    keep_circle(records, text[current])
     return records
 }
 
@@ -86,7 +87,9 @@ function explain(sent, more) {
     say("the store is empty now: mend the program and send all of it again")
 }
 
-function reason(sent) {
+function reason(sent, words) {
+    words = circle_refused(sent, circle_line(text[current], storing), storing, plane, direction)
+    if (words != "") return words
     if (sent == "F") return text[current] ~ /^(break|byte 0*255)/ ? "ended" : "stopped, and stands"
     if (names_fault(sent)) return fails(sent)
     if (sent == "G" && storing) return meaning(sent, storing) ", and the store is empty now"
@@ -120,6 +123,7 @@ function step(i, sign) {
         way[i] += sign
         at[i] += sign
     }
+    made++
     if (pulses) {
         if (!named) under(movement(what, pass, pass) ":")
         named = 1
@@ -133,7 +137,7 @@ function step(i, sign) {
 # places differ, that it begins a record.
 function told(now, from, next_place, origin, was) {
     was = job
-    job = now
+    works(now)
     if (held != "") {
         if (open && from == next_place) phase()
         else begin(from)
@@ -143,11 +147,18 @@ function told(now, from, next_place, origin, was) {
     if (now == "Idle") idle()
 }
 
+# The job at work; one that was sent as a line began under this line.
+function works(now) {
+    if (now == "Direct" && job != "Direct") sent_line = current
+    job = now
+}
+
 # Nothing runs: the passes of the next run are counted anew.
 function idle() {
     settle()
     open = 0
     split("", passes)
+    split("", settings)
 }
 
 function begin(from) {
@@ -157,15 +168,35 @@ function begin(from) {
     named = 0
     what = job == "Direct" ? "direct" : from
     pass = ++passes[what]
+    arc = job == "Direct" ? circle_line(text[sent_line], 0) : circle_at[from]
+    arc_plane = plane
+    arc_direction = direction
 }
 
-# A phase of the movement is over.
+# A phase of the movement is over, or as much of it as was made under this line. A circle is one phase.
 function phase(i, words) {
+    if (made == 0) return
     for (i = 1; i <= 3; i++) {
         if (way[i] != 0) words = words (words == "" ? "" : ", ") axis[i] " " (way[i] > 0 ? "+" : "") way[i] mm(way[i], i)
         way[i] = 0
     }
-    if (words != "") phases = phases (phases == "" ? "" : "; ") words " at " speed
+    if (is_arc(arc)) phases = arc_words(words == "") ": " (words == "" ? "back where it began" : words)
+    else phases = phases (phases == "" ? "" : "; ") (words == "" ? "back where it began" : words) " at " speed
+    made = 0
+}
+
+# A circle, or an arc of one; arc_part has its numbers.
+function arc_words(is_back, whole) {
+    whole = made == arc_part[2]
+    return (whole && is_back ? "circle" : "arc") " of radius " radius(arc_part[5], arc_part[6]) ", " turn_words(arc_direction) \
+        " in " plane_words(arc_plane) ", " (whole ? "" : made " of ") arc_part[2] (arc_part[2] == 1 ? " pulse" : " pulses") " at " speed
+}
+
+# In mm only if both axes have the same steps.
+function radius(u, v, size, i) {
+    size = root_of(u, v)
+    i = index("xyz", plane_axis(arc_plane, 1))
+    return decimals(size) (per[i] == per[index("xyz", plane_axis(arc_plane, 2))] ? mm(size, i) : "")
 }
 
 # The movement is over, or as far as it shows under this line. Equal passes that follow each other are one line.
@@ -225,17 +256,33 @@ function answered(was, from, next_place, origin) {
         pauses++
     } else if (answer == "Send") {
         value = sprintf("%c", value + 0)
-        say(job == "Idle" ? value "  " ending(was) : "record " from " sends " value)
+        say(job == "Idle" ? value "  " ending(was, from) : "record " from " sends " value)
     } else if (answer == "Done") {
         passes[from]++ # a movement without a step is a pass of its record too
         show_pause()
         if (origin != home) say("record " from ": the origin is moved here")
+        setting(from)
     }
 }
 
-function ending(was) {
+# A record that sets the plane or the direction of the circles behind it. In a loop it is told once.
+function setting(from, part, words) {
+    if (circle_at[from] !~ /^[ef]/) return
+    split(circle_at[from], part, " ")
+    if (part[1] == "e") plane = part[2]
+    else direction = part[2]
+    words = part[1] == "e" ? "plane " plane_axis(plane, 1) ", " plane_axis(plane, 2) : turn_words(direction)
+    if (settings[from] == "") say("record " from ": " words)
+    settings[from] = words
+}
+
+function ending(was, from, words) {
     if (value == "0") return was == "Direct" ? "the movement is made" : "the program has reached its end"
+    words = circle_refused(value, circle_at[from], 0, plane, direction)
+    if (words != "") return "record " from ": " words ": the program ends"
     if (value == "9") return "the next movement would leave the range of positions: the program ends"
+    if (value == "3") return "a plane needs an axis that is not set: the program ends"
+    if (value == "1") return "the directions of a circle do not fit its start: the program ends"
     return "the store cannot be read: the program ends, and the store is empty now"
 }
 
@@ -244,9 +291,11 @@ function state() {
     settle()
     for (i = 1; i <= 3; i++) at[i] = $(4 + i)
     home = $9 " " $10 " " $11
-    job = $23
+    works($23)
     standing = $25
     records = $19
+    plane = $29
+    direction = $31
     if (text[current] ~ /^clock/ && !headed) say("nothing to do")
     if (job == "Wait") say("it waits for a character")
     if (running() && text[current] ~ /^clock/) say("it is still running")

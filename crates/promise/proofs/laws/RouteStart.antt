@@ -46,6 +46,9 @@ is-start letter.Input e = absurd (omega arith)
 is-start letter.Output e = absurd (omega arith)
 is-start letter.Store e = absurd (omega arith)
 is-start letter.Empty e = absurd (omega arith)
+is-start letter.Plane e = absurd (omega arith)
+is-start letter.Direction e = absurd (omega arith)
+is-start letter.Circle e = absurd (omega arith)
 
 module _ (ports : List ℕ) (e : Engine) (l : Line) (mem : Memory) (k : directOf (textOf l) .letter ≡ letter.Start) where
   abbrev b : Board

@@ -1,0 +1,5 @@
+pub mod Beats
+pub mod Onward
+pub mod Whole
+pub mod Within
+pub mod Plans

@@ -36,6 +36,7 @@ pub mod KeepsSum
 pub mod KeepsTable
 pub mod KeepsTrip
 pub mod KeepsTwelve
+pub mod Letters
 pub mod RouteBytes
 pub mod RouteCall
 pub mod RouteLed

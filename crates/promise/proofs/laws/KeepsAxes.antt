@@ -9,10 +9,10 @@ use lib.Dec.{eqb}
 use lib.ListN.{length}
 use Rattle.count.specs.Pick.{pick}
 use Rattle.count.proofs.laws.Truth.{never, and-true}
+use Rattle.motion.specs.Plan.{asked}
 use Rattle.travel.specs.declared.Planned.{Planned}
 use Rattle.travel.specs.declared.Planned.the-variants as planned
 use Rattle.travel.specs.Next.{pulseOf}
-use Rattle.motion.specs.Plan.{asked}
 use Rattle.travel.specs.Plan.{planOf, circleOf}
 use Rattle.record.specs.declared.Record.{Record}
 use Rattle.record.specs.Bytes.{encode}
@@ -76,7 +76,7 @@ module _ (rule : Rule) (fetch : Fetching) (e : Engine) (w : Written e) where
         refused = λ b k p. other _ refl;
         origin = λ l p. other _ refl;
         three = λ l b. other _ refl;
-        turned = λ l c. other _ refl;
+        turned = λ l k c. other _ refl;
         pause = λ l t. other _ (pause-other t);
         send = λ l p. other _ refl;
         to = λ p. other _ refl;

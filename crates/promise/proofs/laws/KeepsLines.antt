@@ -10,10 +10,10 @@ use lib.ListN.{length}
 use Rattle.count.specs.Pick.{pick}
 use Rattle.count.specs.Text.{report, twoHex, hexes}
 use Rattle.count.proofs.laws.Truth.{never, and-not}
+use Rattle.motion.specs.Plan.{asked}
 use Rattle.travel.specs.declared.Planned.{Planned}
 use Rattle.travel.specs.declared.Planned.the-variants as planned
 use Rattle.travel.specs.Next.{leftOf}
-use Rattle.motion.specs.Plan.{asked}
 use Rattle.travel.specs.Plan.{planOf, circleOf, refusal}
 use Rattle.record.specs.declared.Held.{Held}
 use Rattle.record.specs.declared.Record.{Record}

@@ -10,21 +10,21 @@ use Rattle.count.specs.Numbers.{value}
 use Rattle.count.proofs.laws.Truth.{and-left, and-right}
 use Rattle.motion.specs.declared.Counters.{Counters}
 use Rattle.motion.specs.declared.Signs.{Signs}
+use Rattle.motion.specs.Plan.{asked}
+use Rattle.motion.specs.Sound.{counted}
+use Rattle.motion.specs.work.Room.{hasRoom}
+use Rattle.motion.proofs.laws.Whole.{value-moved}
+use Rattle.circle.specs.Plan.{planeOf, directionOf}
 use Rattle.travel.specs.declared.Travel.{Travel}
 use Rattle.travel.specs.Next.{Next}
-use Rattle.travel.specs.Next.Next as next
+use Rattle.travel.specs.Next.Next.{Made, Over}
 use Rattle.travel.specs.declared.Planned.{Planned}
 use Rattle.travel.specs.declared.Planned.the-variants as planned
-use Rattle.motion.specs.Plan.{asked}
-use Rattle.circle.specs.Plan.{planeOf, directionOf}
 use Rattle.travel.specs.Plan.{planOf, circleOf}
 use Rattle.travel.specs.Next.{pulseOf}
-use Rattle.motion.specs.Sound.{counted}
 use Rattle.travel.specs.Sound.{underWay}
-use Rattle.motion.specs.work.Room.{hasRoom}
 use Rattle.travel.proofs.laws.Onward.{taken}
 use Rattle.travel.proofs.laws.Plans.{plan-sound, circle-sound}
-use Rattle.motion.proofs.laws.Whole.{value-moved}
 use Rattle.record.specs.declared.Record.{Record}
 use Rattle.record.specs.Fault.{isMovement, isAbsolute}
 use Rattle.record.specs.Bytes.{Fetch}
@@ -84,8 +84,8 @@ module _ (a : Axis) (e : Engine) where
   sum-planned (planned.Going m) c f = by (pulseOf m (e .at)) refl
     where
       by : (n : Next) → pulseOf m (e .at) ≡ n → Sums a (e .at) (moving n e)
-      by (next.Made s) p = sum-told a (onTo (job.Moving (s .rest)) e) (answer.Pulse (s .signs) (s .speed)) (taken m (e .at) (f m refl) p .rooms)
-      by next.Over p = sum-told a (onTo job.Ready e) answer.Done tt
+      by (Made s) p = sum-told a (onTo (job.Moving (s .rest)) e) (answer.Pulse (s .signs) (s .speed)) (taken m (e .at) (f m refl) p .rooms)
+      by Over p = sum-told a (onTo job.Ready e) answer.Done tt
   sum-planned (planned.Refused b) c f = sum-told a (ceased e) (answer.Send b) tt
 
   sum-delaying : (t : ℕ) → Sums a (e .at) (delaying t e)
@@ -119,7 +119,7 @@ module _ (a : Axis) (e : Engine) where
       (sum-told a (onTo job.Ready (withDirection (directionOf w) e)) answer.Done tt)
       (choose (eqb (r .code) 121) (movingBy pulseOf (circleOf (e .held .axes) (e .circling) (e .at) (r .words)) e) (leading o (o .going) w e)
       (sum-planned (circleOf (e .held .axes) (e .circling) (e .at) (r .words)) c (λ m p. circle-sound (e .held .axes) (e .circling) (e .at) (r .words) m p))
-      (sum-leading o (o .going) w)))))))))
+      (sum-leading o (o .going) w))))))))
 
   sum-fetched : (f : Fetch) → counted (e .at) ≡ true → Sums a (e .at) (fetched pulseOf f e)
   sum-fetched (Got r) c = sum-performed r c
@@ -127,13 +127,13 @@ module _ (a : Axis) (e : Engine) where
   sum-fetched Wrong c = sum-told a (ceased (emptied e)) (answer.Send 71) tt
 
   sum-direct : (m : Travel) → underWay m (e .at) ≡ true → (n : Next) → pulseOf m (e .at) ≡ n → Sums a (e .at) (directly n e)
-  sum-direct m u (next.Made s) p = sum-told a (withJob e (job.Direct (s .rest))) (answer.Pulse (s .signs) (s .speed)) (taken m (e .at) u p .rooms)
-  sum-direct m u next.Over p = sum-told a (ceased e) (answer.Send 48) tt
+  sum-direct m u (Made s) p = sum-told a (withJob e (job.Direct (s .rest))) (answer.Pulse (s .signs) (s .speed)) (taken m (e .at) u p .rooms)
+  sum-direct m u Over p = sum-told a (ceased e) (answer.Send 48) tt
 
   sum-moving : (fetch : Fetching) (m : Travel) → underWay m (e .at) ≡ true → counted (e .at) ≡ true → (n : Next) → pulseOf m (e .at) ≡ n
       → Sums a (e .at) (movingOn pulseOf fetch n e)
-  sum-moving fetch m u c (next.Made s) p = sum-told a (withJob e (job.Moving (s .rest))) (answer.Pulse (s .signs) (s .speed)) (taken m (e .at) u p .rooms)
-  sum-moving fetch m u c next.Over p = sum-fetched (fetch (e .run .place)) c
+  sum-moving fetch m u c (Made s) p = sum-told a (withJob e (job.Moving (s .rest))) (answer.Pulse (s .signs) (s .speed)) (taken m (e .at) u p .rooms)
+  sum-moving fetch m u c Over p = sum-fetched (fetch (e .run .place)) c
 
   sum-ticked : (fetch : Fetching) (j : Job) → counted (e .at) ≡ true → jobSound j (e .at) ≡ true → Sums a (e .at) (tickedBy pulseOf fetch j e)
   sum-ticked fetch job.Idle c h = sum-told a e answer.Nothing tt

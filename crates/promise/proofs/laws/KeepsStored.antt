@@ -12,9 +12,9 @@ use lib.ListN.{length, length-map, length-set}
 use Rattle.count.specs.Pick.{pick}
 use Rattle.count.specs.Numbers.{word}
 use Rattle.count.specs.Words.{pad}
+use Rattle.motion.specs.Plan.{asked}
 use Rattle.travel.specs.declared.Planned.{Planned}
 use Rattle.travel.specs.declared.Planned.the-variants as planned
-use Rattle.motion.specs.Plan.{asked}
 use Rattle.travel.specs.Plan.{planOf, circleOf}
 use Rattle.record.specs.declared.Held.{Held}
 use Rattle.record.specs.declared.Record.{Record}

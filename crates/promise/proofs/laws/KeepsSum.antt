@@ -11,10 +11,10 @@ use Rattle.count.specs.Pick.{pick}
 use Rattle.count.specs.Numbers.{value, half}
 use Rattle.count.proofs.laws.Truth.{never, and-false}
 use Rattle.motion.specs.declared.Counters.{Counters}
+use Rattle.motion.specs.Plan.{asked}
 use Rattle.travel.specs.declared.Planned.{Planned}
 use Rattle.travel.specs.declared.Planned.the-variants as planned
 use Rattle.travel.specs.Next.{leftOf}
-use Rattle.motion.specs.Plan.{asked}
 use Rattle.travel.specs.Plan.{planOf, circleOf}
 use Rattle.line.specs.declared.Letter.{Letter}
 use Rattle.line.specs.declared.Letter.the-variants as letter

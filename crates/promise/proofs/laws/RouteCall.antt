@@ -14,7 +14,7 @@ use Rattle.count.specs.Pick.{pick}
 use Rattle.count.proofs.laws.Truth.{never}
 use Rattle.travel.specs.declared.Travel.{Travel}
 use Rattle.travel.specs.Next.{Next, leftOf, pulseOf}
-use Rattle.travel.specs.Next.Next as next
+use Rattle.travel.specs.Next.Next.{Made, Over}
 use Rattle.travel.specs.Sound.{underWay}
 use Rattle.travel.proofs.laws.Whole.{over-left, none-left}
 use Rattle.record.specs.declared.Record.{Record}
@@ -117,7 +117,7 @@ module _ (l : List Record) (e : Engine) (c : e .held .records ≡ length l) wher
       refused = λ b k q v h. ended v h;
       origin = λ s q v h. plain-on s v h;
       three = λ s b v h. plain-on s v h;
-      turned = λ s d v h. plain-on s v h;
+      turned = λ s k d v h. plain-on s v h;
       pause = λ s t v h. plain-on s v (pause-goes l t (p + 1) o v h);
       send = λ s q v h. plain-on s v h;
       to = λ q v h. onto false _ _ (led false _ q) v h;
@@ -144,15 +144,15 @@ module _ (l : List Record) (e : Engine) (c : e .held .records ≡ length l) wher
 
   -- a movement with no pulse left gives way to the record
   moving-by : (m : Travel) (n : Next) → underWay m (e .at) ≡ true → pulseOf m (e .at) ≡ n → Calls (job.Moving m) (movingOn pulseOf (listFetch l) n e)
-  moving-by m (next.Made s) u q v h =
+  moving-by m (Made s) u q v h =
       let z : (leftOf m ≡ 0 → ⊥) = λ y. let d = sym q ∙ none-left m (e .at) y in let x : _≡_ {A = ℕ} 0 1 = cc in omega arith in
       subst (λ (t : Bool). Path l p o (pick t (p ∷ []) [] ++ v)) (sym (ne-eqb (leftOf m) 0 z)) h
-  moving-by m next.Over u q v h =
+  moving-by m Over u q v h =
       subst (λ (t : Bool). Path l p o (pick t (p ∷ []) [] ++ v)) (sym (eq-eqb (leftOf m) 0 (over-left m (e .at) u q))) (fetched-takes v h)
 
   direct-by : (m : Travel) (n : Next) → Calls (job.Direct m) (directly n e)
-  direct-by m (next.Made s) v h = h
-  direct-by m next.Over v h = h
+  direct-by m (Made s) v h = h
+  direct-by m Over v h = h
 
   job-by : (j : Job) → e .run .job ≡ j → jobSound j (e .at) ≡ true → Calls j (tickedBy pulseOf (listFetch l) j e)
   job-by job.Idle q u v h = stays job.Idle q v h

@@ -30,25 +30,7 @@ use Rattle.promise.specs.Machine.{ours, afterAll}
 use Rattle.promise.specs.Demands.{isIdle}
 use Rattle.promise.specs.Route.{Started, StartRoutes}
 use Rattle.promise.proofs.laws.KeepsCalls.{calm, calm-memory, calm-sound}
-
--- only S has the letter 83
-is-start : (k : Letter) → letterPaper k .number ≡ 83 → k ≡ letter.Start
-is-start letter.Start e = refl
-is-start letter.Wrong e = absurd (omega arith)
-is-start letter.Axes e = absurd (omega arith)
-is-start letter.Relative e = absurd (omega arith)
-is-start letter.Absolute e = absurd (omega arith)
-is-start letter.Origin e = absurd (omega arith)
-is-start letter.Zero e = absurd (omega arith)
-is-start letter.Three e = absurd (omega arith)
-is-start letter.Position e = absurd (omega arith)
-is-start letter.Input e = absurd (omega arith)
-is-start letter.Output e = absurd (omega arith)
-is-start letter.Store e = absurd (omega arith)
-is-start letter.Empty e = absurd (omega arith)
-is-start letter.Plane e = absurd (omega arith)
-is-start letter.Direction e = absurd (omega arith)
-is-start letter.Circle e = absurd (omega arith)
+use Rattle.promise.proofs.laws.Letters.{is-letter}
 
 module _ (ports : List ℕ) (e : Engine) (l : Line) (mem : Memory) (k : directOf (textOf l) .letter ≡ letter.Start) where
   abbrev b : Board
@@ -110,7 +92,7 @@ begins-from ports l b i k f n =
     let j = and-parts (isIdle (b .engine .run .job)) (not (b .standing)) i in
     let c = calm 13 ports b l f in
     let u : length (hearing 13 ports b (l .memory) .reply) ≡ 0 = sym (ap (λ (o : Outcome). o .result .len) c) ∙ n in
-    let w = begun ports b (b .standing) (l .memory) (down (b .standing) (j .1)) (is-start (directOf (textOf (b .line)) .letter) k) (j .0) u in
+    let w = begun ports b (b .standing) (l .memory) (down (b .standing) (j .1)) (is-letter (directOf (textOf (b .line)) .letter) letter.Start k) (j .0) u in
     let a : receiving 13 ports b l .result .board ≡ board (started (b .engine)) false noLine =
     ap (λ (o : Outcome). o .result .board) c ∙ ap (λ (x : Said). x .board) w in
     record {

@@ -7,9 +7,9 @@ use mathlib.Core.Path.{_≡_, refl, sym, _∙_, ap}
 use borrow.Author.Tests.{eqb-true}
 use lib.Dec.{eqb}
 use Rattle.count.specs.Pick.{pick}
+use Rattle.motion.specs.Plan.{asked}
 use Rattle.travel.specs.declared.Planned.{Planned}
 use Rattle.travel.specs.declared.Planned.the-variants as planned
-use Rattle.motion.specs.Plan.{asked}
 use Rattle.travel.specs.Plan.{planOf, circleOf}
 use Rattle.line.specs.declared.Letter.{Letter}
 use Rattle.line.specs.declared.Letter.the-variants as letter
@@ -154,7 +154,7 @@ module _ (rule : Rule) (fetch : Fetching) (e : Engine) where
           refused = λ b k p. refl;
           origin = λ l p. refl;
           three = λ l b. refl;
-          turned = λ l c. refl;
+          turned = λ l k c. refl;
           pause = λ l t. refl;
           send = λ l p. refl;
           to = λ p. refl;

@@ -37,6 +37,7 @@ pub mod KeepsTable
 pub mod KeepsTrip
 pub mod KeepsTwelve
 pub mod Letters
+pub mod Obeyed
 pub mod RouteBytes
 pub mod RouteCall
 pub mod RouteLed

@@ -12,5 +12,6 @@ pub mod Route
 pub mod Table
 pub mod Demanded
 pub mod Twelve
+pub mod Circles
 pub mod Fakes
 pub mod FakesStore

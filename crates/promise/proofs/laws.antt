@@ -16,9 +16,12 @@ pub mod Follows
 pub mod Gathering
 pub mod Guard
 pub mod KeepsAlways
+pub mod KeepsArcs
 pub mod KeepsAxes
 pub mod KeepsCalls
 pub mod KeepsChain
+pub mod KeepsCircles
+pub mod KeepsCircling
 pub mod KeepsEnd
 pub mod KeepsEvents
 pub mod KeepsJoin

@@ -4,11 +4,11 @@ use Prim.Native.Nat.{ℕ, zero, suc, _+_, _≤_, _<_}
 use mathlib.Core.Path.{_≡_}
 use mathlib.Core.Bool.{true, false}
 use mathlib.Core.List.{List, [], _∷_}
-use lib.IntN.{pos, negsuc}
+use lib.IntN.{ℤ, pos, negsuc}
 use lib.ListN.{getD, replicate}
 use Rattle.count.specs.Sizes.{replyBytes}
 use Rattle.count.specs.Chars.{ch, codes}
-use Rattle.count.specs.Paper.{Paper}
+use Rattle.count.specs.Paper.{Paper, says}
 use Rattle.motion.specs.declared.Signs.{Signs}
 use Rattle.motion.specs.Phase.{movedAll}
 use Rattle.circle.specs.declared.Pair.{Pair}
@@ -33,7 +33,7 @@ use Rattle.board.specs.Calls.{Lent, lent}
 use Rattle.course.specs.Walk.{noPorts, noMemory}
 use Rattle.promise.specs.Machine.{Machine, Clocked}
 use Rattle.promise.specs.Demands.{idles, replied, hears, boardThen, ticks}
-use Rattle.promise.specs.Twelve.{pulse as xy, done, send0}
+use Rattle.promise.specs.Twelve.{done, send0}
 
 -- ---- an arc under way
 
@@ -100,6 +100,10 @@ arcOf b =
     let l = lineOf b .words in
     arcFrom (circlingOf b) (centreOf (onPlane (circlingOf b .plane) (b .engine .at)) (startOf l)) (startOf l) l
 
+-- a pulse with its three signs at speed 600
+abbrev pub shows : ℤ → ℤ → ℤ → Paper
+shows x y z = says 1 (x ∷ y ∷ z ∷ pos 600 ∷ [])
+
 module _ (m : Machine) where
   -- bytes one after the other with input ports 0, the memory handed on, and the answers of so many clock calls
   unfoldable pub typed : List ℕ → m .State × Memory → m .State × Memory
@@ -148,8 +152,10 @@ module _ (m : Machine) where
         → circlingOf (m .board ((m .tick mem s) .0)) ≡ circlingOf (m .board s)
     pub stays : (v : ℕ) (ports : List ℕ) (l : Lent) (s : m .State) → (v ≡ ch "\r" → ⊥) → (v ≡ resetCode → ⊥)
         → circlingOf (boardThen m v ports l s) ≡ circlingOf (m .board s)
-    -- from (2,0) counter-clockwise, four pulses are Y+, X-, Y+, X-; by lines, and as a program
+    -- from (2,0) counter-clockwise, four pulses are Y+, X-, Y+, X-; then 0
     pub direct-example : answersOf 5 (from (codes "@03\r@0f-1\r@0y4,600,0,2,0,-1,1\r"))
-        ≡ xy (pos 0) (pos 1) ∷ xy (negsuc 0) (pos 0) ∷ xy (pos 0) (pos 1) ∷ xy (negsuc 0) (pos 0) ∷ send0 ∷ []
-    pub stored-example : answersOf 6 (from (codes "@03\r@0i\rf-1\ry4,600,0,2,0,-1,1\r9\r@0S\r"))
-        ≡ done ∷ xy (pos 0) (pos 1) ∷ xy (negsuc 0) (pos 0) ∷ xy (pos 0) (pos 1) ∷ xy (negsuc 0) (pos 0) ∷ send0 ∷ []
+        ≡ shows (pos 0) (pos 1) (pos 0) ∷ shows (negsuc 0) (pos 0) (pos 0) ∷ shows (pos 0) (pos 1) (pos 0) ∷ shows (negsuc 0) (pos 0) (pos 0) ∷ send0 ∷ []
+    -- as a program in plane 1, x and z: Z+, X-, Z+, X-; then 0
+    pub stored-example : answersOf 7 (from (codes "@07\r@0i\re1\rf-1\ry4,600,0,2,0,-1,1\r9\r@0S\r"))
+        ≡ done ∷ done ∷ shows (pos 0) (pos 0) (pos 1) ∷ shows (negsuc 0) (pos 0) (pos 0) ∷ shows (pos 0) (pos 0) (pos 1) ∷ shows (negsuc 0) (pos 0) (pos 0)
+        ∷ send0 ∷ []

@@ -1,6 +1,7 @@
 pub mod Demanded
 pub mod FakesAlways
 pub mod FakesBytes
+pub mod FakesCircles
 pub mod FakesCore
 pub mod FakesCount
 pub mod FakesFollows

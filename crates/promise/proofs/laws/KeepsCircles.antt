@@ -39,10 +39,10 @@ use Rattle.promise.proofs.laws.KeepsCircling.{plane-set, direction-set,
 
 -- from (2,0) counter-clockwise
 computed : (answersOf ours 5 (from ours (codes "@03\r@0f-1\r@0y4,600,0,2,0,-1,1\r"))
-        ≡ shows (pos 0) (pos 1) (pos 0) ∷ shows (negsuc 0) (pos 0) (pos 0) ∷ shows (pos 0) (pos 1) (pos 0) ∷ shows (negsuc 0) (pos 0) (pos 0) ∷ send0 ∷ [])
+    ≡ shows (pos 0) (pos 1) (pos 0) ∷ shows (negsuc 0) (pos 0) (pos 0) ∷ shows (pos 0) (pos 1) (pos 0) ∷ shows (negsuc 0) (pos 0) (pos 0) ∷ send0 ∷ [])
     × (answersOf ours 7 (from ours (codes "@07\r@0i\re1\rf-1\ry4,600,0,2,0,-1,1\r9\r@0S\r"))
-        ≡ done ∷ done ∷ shows (pos 0) (pos 0) (pos 1) ∷ shows (negsuc 0) (pos 0) (pos 0) ∷ shows (pos 0) (pos 0) (pos 1) ∷ shows (negsuc 0) (pos 0) (pos 0)
-        ∷ send0 ∷ [])
+    ≡ done ∷ done ∷ shows (pos 0) (pos 0) (pos 1) ∷ shows (negsuc 0) (pos 0) (pos 0) ∷ shows (pos 0) (pos 0) (pos 1) ∷ shows (negsuc 0) (pos 0) (pos 0)
+    ∷ send0 ∷ [])
 unfolding typed answersOf within in24 signed word inSpeed inZero inPlane inDirection inArc inStart inWay rightArc stepTo counted side measure waysAt moveOf arcSigns arcBeat arcLeft planeOf directionOf firstWays waysFit centreOf rootUpTo reachOf hasSquare goingBy bendOf startSound pointSound arcUnderWay pulseOf leftOf circleOf underWay behind letterOf afterAddress directOf codeOf storedOf digitsBehind digitsOf numberOf parted itemsOf numbersOf bytes4 numBytes encode wordAt wordsOf front isCode countRight axesRight rangesRight speedsRight faultOf hasRoom storeOf recordAt recordsFrom recordsOf spotOf fetchOf holds share around crosses early overlaps holders outside strays letter checked checkOf verdictOf soundOf circleBegun performed ticked receiving clocking first replyOf directSaid earOf returned gathering hearing gathered sound recordReply storedSaid
 computed = (refl, refl)
 

@@ -6,8 +6,10 @@ ghost use Rattle.travel.specs.work.Beat.{withMade};
 ghost use Rattle.course.specs.work.Glide.{glided, gliding};
 use super::Glided;
 use super::text::put_pulse;
+use circle::Arc;
 use motion::Beaten;
 use motion::Counters;
+use motion::Move;
 use travel::Travel;
 
 // What moves with so many pulses of its phase made, the counters, and what that took.
@@ -22,19 +24,19 @@ fn glided_to(m: Travel, made: u32, at: Counters, calls: u32, len: usize) -> Glid
     }
 }
 
-// At most so many pulses of the phase under way, with twelve bytes of room for each.
-pub(crate) fn glide(start: Travel, from: Counters, limit: u32, out: &mut [u8]) -> Glided
+// At most so many pulses of the phase under way of a straight movement, with twelve bytes of room for each.
+fn glide_straight(start: Move, from: Counters, limit: u32, out: &mut [u8]) -> Glided
     requires { ⌜ 12 * limit ≤ length (now out) ⌝ }
-    ensures { λ r. ⌜ (glided r (now (out .exit)) ≡ gliding limit start from (now (out .entry))) × (r .len ≤ 12 * r .calls) ⌝ }
+    ensures { λ r. ⌜ (glided r (now (out .exit)) ≡ gliding limit (Travel.Straight start) from (now (out .entry))) × (r .len ≤ 12 * r .calls) ⌝ }
 {
-    let mut made = start.made();
+    let mut made = start.made;
     let mut at = from;
     let mut n: u32 = 0;
     let mut k = 0;
     while n < limit {
         let next = start.beat_in(made, at);
         let Beaten::Made(b) = next else {
-            return glided_to(start, made, at, n, k);
+            return glided_to(Travel::Straight(start), made, at, n, k);
         };
         let signs = b.signs;
         let mark = b.mark;
@@ -45,5 +47,42 @@ pub(crate) fn glide(start: Travel, from: Counters, limit: u32, out: &mut [u8]) -
         k = k + j;
         n = n + 1;
     }
-    glided_to(start, made, at, n, k)
+    glided_to(Travel::Straight(start), made, at, n, k)
+}
+
+// The same of an arc. It is a loop of its own, since a loop that asked the kind at each pulse would be slower for both.
+fn glide_round(start: Arc, from: Counters, limit: u32, out: &mut [u8]) -> Glided
+    requires { ⌜ 12 * limit ≤ length (now out) ⌝ }
+    ensures { λ r. ⌜ (glided r (now (out .exit)) ≡ gliding limit (Travel.Round start) from (now (out .entry))) × (r .len ≤ 12 * r .calls) ⌝ }
+{
+    let mut made = start.made;
+    let mut at = from;
+    let mut n: u32 = 0;
+    let mut k = 0;
+    while n < limit {
+        let next = start.beat_in(made, at);
+        let Beaten::Made(b) = next else {
+            return glided_to(Travel::Round(start), made, at, n, k);
+        };
+        let signs = b.signs;
+        let mark = b.mark;
+        let there = b.at;
+        let j = put_pulse(&mut out[k..], signs, b.speed);
+        made = mark.made;
+        at = there;
+        k = k + j;
+        n = n + 1;
+    }
+    glided_to(Travel::Round(start), made, at, n, k)
+}
+
+// The same of either kind.
+pub(crate) fn glide(start: Travel, from: Counters, limit: u32, out: &mut [u8]) -> Glided
+    requires { ⌜ 12 * limit ≤ length (now out) ⌝ }
+    ensures { λ r. ⌜ (glided r (now (out .exit)) ≡ gliding limit start from (now (out .entry))) × (r .len ≤ 12 * r .calls) ⌝ }
+{
+    match start {
+        Travel::Straight(m) => glide_straight(m, from, limit, out),
+        Travel::Round(a) => glide_round(a, from, limit, out),
+    }
 }

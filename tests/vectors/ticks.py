@@ -9,6 +9,8 @@ neither counts nor words nor the code's jobs. Run in the root of the repository:
 import math
 import sys
 
+from circle_rule import PLANES, centre, circle_of, reach, refusal, right_arc, turned
+
 LOW, HIGH = -8388608, 8388607
 CODES = {ord(c): c for c in "0mnz3512efy"}
 
@@ -94,43 +96,14 @@ def pulses(axes, three, absolute, at, origin, numbers):
 
 # ---- circles
 
-def right_arc(numbers):
-    """Whether a circle's numbers are in their ranges: arc length, D, the start on both axes, both directions."""
-    length, _, unused, x, y, *sent = numbers
-    return (0 <= length <= HIGH and LOW <= unused <= HIGH and abs(x) <= 4000000 and abs(y) <= 4000000 and (x, y) != (0, 0)
-            and all(w in (1, -1) for w in sent))
-
-
-def sign(n):
-    return (n > 0) - (n < 0)
-
-
-def ways(counter, x, y):
-    """Which way the two axes go at a point counted from the centre; 0 for one that does not move."""
-    return (-sign(y), sign(x)) if counter else (sign(y), -sign(x))
-
-
-def turned(counter, value, x, y):
-    """One pulse: of two possible moves the one that leaves x² + y² nearer to its start value, the first axis's at a tie."""
-    a, b = ways(counter, x, y)
-    moves = [m for m in ((a, 0), (0, b)) if m != (0, 0)]
-    return min(moves, key=lambda m: abs((x + m[0]) ** 2 + (y + m[1]) ** 2 - value))
-
-
-def sent_ways(counter, x, y):
-    """The directions that a circle's line must send: those at the start, or after the first pulse for one that is zero at the start."""
-    a, b = turned(counter, x * x + y * y, x, y)
-    return tuple(now or then for now, then in zip(ways(counter, x, y), ways(counter, x + a, y + b)))
-
-
 class Arc:
     """An arc under way: its pulses go by where the axes of its plane stand."""
 
-    def __init__(self, engine, axes, centre, numbers):
-        self.engine, self.axes, self.centre, self.counter = engine, axes, centre, engine.counter
+    def __init__(self, engine, numbers):
+        self.engine, self.axes, self.counter = engine, PLANES[engine.plane], engine.counter
         self.left, self.speed, _, x, y, *_ = numbers
-        self.value = x * x + y * y
-        self.reach = math.isqrt(self.value) + 1
+        self.value, self.reach = x * x + y * y, reach(x, y)
+        self.centre = centre(engine.plane, engine.at, x, y)
 
     def __bool__(self):
         return self.left > 0
@@ -150,19 +123,9 @@ class Arc:
 
 
 def arc(engine, axes, numbers):
-    """The arc that a circle's line or record gives, or the character that refuses it: 3, 1, D, 9 in this order."""
-    plane = ((0, 1), (0, 2), (1, 2))[engine.plane]
-    if any(not axes >> i & 1 for i in plane):
-        return "3"
-    _, speed, _, x, y, *sent = numbers
-    if not right_arc(numbers) or tuple(sent) != sent_ways(engine.counter, x, y):
-        return "1"
-    if not 30 <= speed <= 10000:
-        return "D"
-    out = Arc(engine, plane, (engine.at[plane[0]] - x, engine.at[plane[1]] - y), numbers)
-    if any(not LOW <= c - out.reach or not c + out.reach <= HIGH for c in out.centre):
-        return "9"
-    return out
+    """The arc that a circle's line or record gives, or the character that refuses it."""
+    refused = refusal(axes, engine.plane, engine.counter, engine.at, numbers)
+    return refused or Arc(engine, numbers)
 
 
 # ---- the engine
@@ -621,11 +584,6 @@ def altered(s):
 
 # starts on the axes, on the diagonals, and others
 STARTS = ((2, 0), (0, 2), (-2, 0), (0, -2), (1, 0), (0, 1), (-1, 0), (0, -1), (1, 1), (-1, 1), (1, -1), (-1, -1), (3, 4), (-5, 2), (2, -7))
-
-
-def circle_of(length, speed, counter, x, y):
-    """A circle's numbers with the directions that fit its start."""
-    return (length, speed, 0, x, y, *sent_ways(counter, x, y))
 
 
 def circles(s):

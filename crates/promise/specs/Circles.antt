@@ -147,7 +147,7 @@ module _ (m : Machine) where
         → circlingOf (boardThen m (ch "\r") ports l s) ≡ atFirst
     pub reset : (ports : List ℕ) (l : Lent) (s : m .State) → hears m resetCode ports l s .refusal ≡ 0
         → circlingOf (boardThen m resetCode ports l s) ≡ atFirst
-    -- what a program has set stays after it: neither the call that ends a run, nor a break, nor any other byte but these changes it
+    -- what a program has set stays after it: neither the call that ends a run, nor a break, nor any other byte but a return and reset changes it
     pub ended : (mem : Memory) (s : m .State) → idles (m .board ((m .tick mem s) .0)) ≡ true
         → circlingOf (m .board ((m .tick mem s) .0)) ≡ circlingOf (m .board s)
     pub stays : (v : ℕ) (ports : List ℕ) (l : Lent) (s : m .State) → (v ≡ ch "\r" → ⊥) → (v ≡ resetCode → ⊥)

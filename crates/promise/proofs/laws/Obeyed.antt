@@ -9,8 +9,7 @@ use lib.Dec.{eqb}
 use lib.ListN.{getD, take}
 use Rattle.count.specs.Pick.{pick}
 use Rattle.count.proofs.laws.Truth.{never, and-parts}
-use Rattle.line.specs.declared.Direct.{Direct}
-use Rattle.line.specs.Lines.{directOf, storedOf}
+use Rattle.line.specs.Lines.{storedOf}
 use Rattle.record.specs.Memory.{Memory}
 use Rattle.engine.specs.declared.Engine.{Engine}
 use Rattle.engine.specs.declared.Job.{Job}
@@ -25,14 +24,12 @@ use Rattle.board.specs.Storing.{storedSaid}
 use Rattle.board.specs.Receive.{earBy, earOf, isStoring, returned, gathering, ordinary, hearing}
 use Rattle.board.specs.Calls.{Lent, receiving}
 use Rattle.promise.specs.Demands.{isIdle, idles}
+use Rattle.promise.specs.Circles.{lineOf}
 use Rattle.promise.proofs.laws.KeepsReturn.{out-reply}
 
--- what the line of a board asks for, and what it says once it is accepted
-abbrev pub lineAt : Board → Direct
-lineAt b = directOf (textOf (b .line))
-
+-- what a board says once its line is accepted
 abbrev pub obeys : List ℕ → Board → Memory → Said
-obeys ports b mem = acceptedSaid (effectOf (lineAt b .letter) (lineAt b .words) ports (b .engine) false) mem
+obeys ports b mem = acceptedSaid (effectOf (lineOf b .letter) (lineOf b .words) ports (b .engine) false) mem
 
 module _ (ports : List ℕ) (e : Engine) (l : Line) (mem : Memory) where
   abbrev b : Board
@@ -40,22 +37,22 @@ module _ (ports : List ℕ) (e : Engine) (l : Line) (mem : Memory) where
 
   -- no reply, or one that begins with 0
   abbrev Obeys : Said → Type 0
-  Obeys x = getD (x .reply) 0 48 ≡ 48 → (replyOf e false (lineAt b) ≡ 48) × (x ≡ obeys ports b mem)
+  Obeys x = getD (x .reply) 0 48 ≡ 48 → (replyOf e false (lineOf b) ≡ 48) × (x ≡ obeys ports b mem)
 
-  direct-obeys : Obeys (directSaid (lineAt b) ports b mem)
+  direct-obeys : Obeys (directSaid (lineOf b) ports b mem)
   unfolding directSaid
-  direct-obeys = by (eqb (replyOf e false (lineAt b)) 48) refl
+  direct-obeys = by (eqb (replyOf e false (lineOf b)) 48) refl
     where
-      by : (t : Bool) → eqb (replyOf e false (lineAt b)) 48 ≡ t
-          → Obeys (pick t (obeys ports b mem) (said (lineDone b) (replyOf e false (lineAt b) ∷ []) mem))
-      by true q n = (eqb-true (replyOf e false (lineAt b)) 48 q, refl)
-      by false q n = absurd (eqb-false (replyOf e false (lineAt b)) 48 q n)
+      by : (t : Bool) → eqb (replyOf e false (lineOf b)) 48 ≡ t
+          → Obeys (pick t (obeys ports b mem) (said (lineDone b) (replyOf e false (lineOf b) ∷ []) mem))
+      by true q n = (eqb-true (replyOf e false (lineOf b)) 48 q, refl)
+      by false q n = absurd (eqb-false (replyOf e false (lineOf b)) 48 q n)
 
   return-obeys : (j : Job) → isIdle j ≡ true
-      → Obeys (pick (l .over) (said (lineDone b) (53 ∷ []) mem) (pick (isStoring j && not false) (storedSaid (storedOf (textOf l)) b mem) (directSaid (lineAt b) ports b mem)))
+      → Obeys (pick (l .over) (said (lineDone b) (53 ∷ []) mem) (pick (isStoring j && not false) (storedSaid (storedOf (textOf l)) b mem) (directSaid (lineOf b) ports b mem)))
   return-obeys job.Idle i = by (l .over)
     where
-      by : (t : Bool) → Obeys (pick t (said (lineDone b) (53 ∷ []) mem) (directSaid (lineAt b) ports b mem))
+      by : (t : Bool) → Obeys (pick t (said (lineDone b) (53 ∷ []) mem) (directSaid (lineOf b) ports b mem))
       by true n = absurd (omega arith)
       by false n = direct-obeys n
   return-obeys job.Storing i = never i
@@ -85,7 +82,7 @@ module _ (ports : List ℕ) (mem : Memory) where
   said-by e false l i p = line-obeys ports e l mem i
 
   pub line-said : (b : Board) → idles b ≡ true → getD (hearing 13 ports b mem .reply) 0 48 ≡ 48
-      → (replyOf (b .engine) false (lineAt b) ≡ 48) × (hearing 13 ports b mem ≡ obeys ports b mem)
+      → (replyOf (b .engine) false (lineOf b) ≡ 48) × (hearing 13 ports b mem ≡ obeys ports b mem)
   line-said b i =
       let j = and-parts (isIdle (b .engine .run .job)) (not (b .standing)) i in
       said-by (b .engine) (b .standing) (b .line) (j .0) (j .1)
@@ -93,6 +90,6 @@ module _ (ports : List ℕ) (mem : Memory) where
 -- in a call that is not refused
 pub line-heard : (ports : List ℕ) (b : Board) (l : Lent) → idles b ≡ true → receiving 13 ports b l .result .refusal ≡ 0
     → getD (take (receiving 13 ports b l .result .len) (receiving 13 ports b l .after .reply)) 0 48 ≡ 48
-    → (replyOf (b .engine) false (lineAt b) ≡ 48) × (hearing 13 ports b (l .memory) ≡ obeys ports b (l .memory))
+    → (replyOf (b .engine) false (lineOf b) ≡ 48) × (hearing 13 ports b (l .memory) ≡ obeys ports b (l .memory))
 line-heard ports b l i f n =
     line-said ports (l .memory) b i (ap (λ (t : List ℕ). getD t 0 48) (sym (out-reply 13 ports l b f)) ∙ n)

@@ -16,18 +16,19 @@ use Rattle.board.specs.Calls.{Lent, Outcome, receiving}
 use Rattle.board.proofs.laws.Laws.{hearing-sound}
 use Rattle.promise.specs.Machine.{ours, afterAll}
 use Rattle.promise.specs.Demands.{idles}
+use Rattle.promise.specs.Circles.{lineOf}
 use Rattle.promise.specs.Route.{Started, StartRoutes}
 use Rattle.promise.proofs.laws.KeepsCalls.{calm, calm-memory, calm-sound}
 use Rattle.promise.proofs.laws.Letters.{is-letter}
-use Rattle.promise.proofs.laws.Obeyed.{lineAt, line-heard}
+use Rattle.promise.proofs.laws.Obeyed.{line-heard}
 
-begins-from : (ports : List ℕ) (l : Lent) (b : Board) → idles b ≡ true → letterPaper (lineAt b .letter) .number ≡ 83
+begins-from : (ports : List ℕ) (l : Lent) (b : Board) → idles b ≡ true → letterPaper (lineOf b .letter) .number ≡ 83
     → receiving 13 ports b l .result .refusal ≡ 0 → receiving 13 ports b l .result .len ≡ 0
     → Started ours (b .engine .held) (receiving 13 ports b l .result .board, receiving 13 ports b l .after .memory)
 begins-from ports l b i k f n =
     let c = calm 13 ports b l f in
     let g = line-heard ports b l i f (ap (λ (z : ℕ). getD (take z (receiving 13 ports b l .after .reply)) 0 48) n) .1 in
-    let w = g ∙ ap (λ (x : Letter). acceptedSaid (effectOf x (lineAt b .words) ports (b .engine) false) (l .memory)) (is-letter (lineAt b .letter) letter.Start k) in
+    let w = g ∙ ap (λ (x : Letter). acceptedSaid (effectOf x (lineOf b .words) ports (b .engine) false) (l .memory)) (is-letter (lineOf b .letter) letter.Start k) in
     let a : receiving 13 ports b l .result .board ≡ board (started (b .engine)) false noLine =
     ap (λ (o : Outcome). o .result .board) c ∙ ap (λ (x : Said). x .board) w in
     record {

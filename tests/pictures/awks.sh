@@ -26,18 +26,34 @@ slopes() { # slopes up and down that cross each other, with grooves and holes
         for (i = 1; i < 120; i++) printf "@0A%d,600,%d,%d,%d,300,%d,300\r", i * 37 % 23 - 11, i * 53 % 31 - 15, 100 + i * 40, i * 7 % 5 - 2, i * 5 % 7 - 3
     }'
 }
+rounds() { # circles of all planes, up and down through the surface, small and large, about one point and along a way
+    awk 'BEGIN {
+        printf "@07\r"
+        for (i = 1; i < 60; i++) {
+            d = i % 3 ? 0 : -1
+            t = d ? -1 : 1
+            u = (i * 37 % 23 - 11) * (i % 7 ? 1 : 40)
+            v = (i * 53 % 31 - 15) * (i % 5 ? 1 : 30)
+            if (u == 0 && v == 0) u = 1
+            a = v ? t * (v > 0 ? 1 : -1) : u > 0 ? -1 : 1
+            b = u ? -t * (u > 0 ? 1 : -1) : v > 0 ? -1 : 1
+            printf "@0e%d\r@0f%d\r@0y%d,%d,0,%d,%d,%d,%d\r@0A%d,600,3,600,%d,300,0,300\r", i % 4 ? 0 : 1 + i % 8 / 4, d, i * i * 3, 100 + i * 40, u, v, a, b, i % 9, i % 3 - 1
+        }
+    }'
+}
 told_by() { # PATH: what ./exercise says of programs that are refused at their end line, of spaces and of words, under the awk of a path
-    for text in named spaces words; do
+    for text in named spaces words circles; do
         PATH=$1 "$root/exercise" "$root/tests/own/$text.txt" --no-picture
     done
 }
 slopes >"$dir/slopes"
+rounds >"$dir/rounds"
 grep -v '^#' "$root/exercises/ramp-3d.txt" | tr '\n' '\r' >"$dir/ramp"
 for awk in mawk gawk 'busybox awk' original-awk; do
     command -v "${awk%% *}" >/dev/null || continue
     # shellcheck disable=SC2086
     under $awk
-    for file in slopes ramp; do
+    for file in slopes rounds ramp; do
         by_awk "$dir/$file" "$PATH" >"$dir/wanted"
         by_awk "$dir/$file" "$dir/${awk%% *}:$PATH" >"$dir/got"
         compared "$file under $awk"

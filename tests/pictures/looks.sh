@@ -17,6 +17,52 @@ is "an arrow on the middle step" 1 "$(has '^<path class="arrows" d="M32550 29500
 lines @03 @0A400,600,-200,900 | draw
 drawn "no steps at a large size" '!class="steps"' '^M5200 15100L62800 43900'
 
+# Circles: the 16 pulses about the place 2 to the left of the start, and a dot for each; the arrow is on the other side, and goes down there.
+round='M42000 29500L42000 25500L38000 25500L38000 21500L30000 21500L30000 25500L26000 25500L26000 33500L30000 33500L30000 37500L38000 37500L38000 33500L42000 33500'
+lines @03 @0f-1 @0y16,600,0,2,0,-1,1 | draw
+tr -d '\n' <"$dir/got" >"$dir/joined"
+is "a circle along its pulses" 1 "$(grep -c "d=\"${round}L42000 29500\"" "$dir/joined")"
+is "a dot for each pulse" 16 "$(sed -n 's/^<path class="steps" d="//p' "$dir/got" | tr -cd M | wc -c)"
+is "the arrow of a circle" 1 "$(has '^<path class="arrows" d="M26000 30050L')"
+drawn "the size of a circle" 'size in x: 4 steps, in y: 4 steps<'
+lines @03 @0f-1 @0y99999,600,0,2,0,-1,1 | draw
+tr -d '\n' <"$dir/got" >"$dir/joined"
+is "around again and again" 1 "$(grep -c "d=\"${round}L42000 25500\"" "$dir/joined")"
+is "a dot for each place, once" 16 "$(sed -n 's/^<path class="steps" d="//p' "$dir/got" | tr -cd M | wc -c)"
+# The clockwise one has the same places, and its arrow on the other side goes up.
+lines @03 @0y16,600,0,2,0,-1,-1 | draw
+is "clockwise" 1 "$(has '^<path class="arrows" d="M26000 28950L')"
+# A large one is a ring of small pieces, each place within half a unit of a circle of 213 units about the middle; its arrow is at the left.
+ring() { # whether no place of the line lies farther inside, none farther outside, and the pieces are neither few nor very many
+    sed -n '/class="go" d="$/,/^" stroke/p' "$dir/got" | tr 'ML' '\n\n' | awk -F '[ "]' '/^[0-9]+ [0-9]+"?$/ {
+        d = ($1 - 34000) * ($1 - 34000) + ($2 - 29500) * ($2 - 29500)
+        if (n++ == 0 || d < a) a = d
+        if (d > b) b = d
+    }
+    END { print (a > 21250 * 21250), (b < 21350 * 21350), (n > 1000), (n < 5000) }'
+}
+lines @03 @0f-1 @0y80000,600,0,10000,0,-1,1 | draw
+is "a large circle" "1 1 1 1" "$(ring)"
+drawn "a large circle's size" 'size in x: 20000 steps, in y: 20000 steps<' '!class="steps"' '^<path class="arrows" d="M126[0-9][0-9] 29'
+lines @03 @0A100,600,0,600 @0f-1 @0y800,600,0,100,0,-1,1 | draw
+drawn "a circle about the start" 'size in x: 200 steps, in y: 200 steps<'
+# With the tool up it is dashed, in the plate it is a groove; half of it is half.
+lines @07 @0f-1 @0y32,600,0,4,0,-1,1 | draw
+is "a dashed circle" "1 1" "$(has '^<path class="go"') $(has '^" stroke=.*stroke-dasharray="500 400"/>$')"
+drawn "a circle with the tool up" '>tool up<' '!>cutting<'
+lines @07 @0f-1 @0A0,600,0,600,-2,300,0,300 @0y16,600,0,4,0,-1,1 @0A0,600,0,600,2,300,0,300 | draw
+drawn "a groove that is round" '>cutting<' '!tool up' 'size in x: 8 steps, in y: 4 steps<' '>deepest: 2 steps below the surface<' '!drilled hole'
+is "a groove and a line, each in one piece" 2 "$(has '^M.*L')"
+# Upright in x and z a circle is a line from above: down to 6 and up again, by five shades.
+lines @07 @0e1 @0f-1 @0y24,600,0,-6,0,1,-1 | draw
+drawn "a round ground" 'size in x: 12 steps, in y: 0 steps<' '>deepest: 6 steps below the surface<' '>1<' '>5 to 6<' '>cutting<' '!drilled hole' '!left down'
+lines @07 @0e2 @0y8,600,0,2,0,-1,-1 | draw
+drawn "upright in y and z" 'size in x: 0 steps, in y: 4 steps<' '>deepest: 2 steps below the surface<' '>end height: 0 steps<'
+# Notes of circles.
+lines @03 @0y4,600,0,2,0,-1,1 @0e1 @0y4,600,0,2,0,-1,-1 @0y4,600,0,0,0,-1,-1 @0i 'y 4,600,0,2,0,1,1' 9 @0S @0e0 @0S | draw
+drawn "notes of circles" '>line 2: 1, wrong directions<' '>line 4: 3, plane with an axis not set<' '>line 5: 3, plane with an axis not set<' \
+    '>run of line 9 ended with 3, axis not set<' '>run of line 11 ended with 1, wrong way<'
+
 # Dashes: short moves are one line with whole dashes; a way back over the same line is not drawn again; the shortest have short dashes.
 lines @07 @0A9,600,0,600,0,300,0,300 @0A1,600,0,600,0,300,0,300 @0A1,600,0,600,0,300,0,300 @0A0,600,1,600,0,300,0,300 | draw
 is "short moves are one line" "1 1" "$(has '^<path class="go"') $(has '^" stroke=.*stroke-dasharray="500 400"/>')"
@@ -84,6 +130,8 @@ lines @01 @0i '1 33' '3 1,-1' '3 1,-2' '3 1,-3' '3 1,-4' '3 1,-5' '3 1,-6' '3 1,
 drawn "refused for its depth" '>line 12: Gd0000, more than seven loops<' '>line 13: 8, no program is stored<' '>no movement<'
 lines @01 @0i '0 5,600' '0 8388607,600' 9 @0S | draw
 drawn "a run into nine" '>run of line 6 ended with 9, out of range<'
+lines @01 @0A5,600 @0i '0 8388607,600' 9 @0S | draw
+drawn "a run into nine at once" '>run of line 6 ended with 9, out of range<'
 for i in 1 2 3 4 5 6 7 8 9 10 11 12; do lines a b c d e f g h; done | draw
 drawn "more notes than there is room for" '>line 1: 5' '>and [0-9]* more<'
 is "notes end above the edge" 1 "$(awk -F '"' '/class="note"/ && $4 > y { y = $4 } END { print (y > 600 && y < 640) }' "$dir/got")"

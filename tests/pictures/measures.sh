@@ -136,6 +136,62 @@ measured "a stop, and a break" "$steps
 3,hole,17,0,0,17,0,-4,4,0,1,14
 4,hole,22,0,0,22,0,-4,4,0,2,14"
 
+# A slot: two straight cuts and two half circles, the centres at its ends. With an arc in the table its columns stand behind the others.
+arcs='centre_x,centre_y,centre_z,radius'
+slot() { lines @07 @0i f-1 '0 0,800,0,800,-3,300,0,300' '0 24,600,0,600,0,300,0,300' 'y 32,600,0,0,-8,1,1' '0 -24,600,0,600,0,300,0,300' 'y 32,600,0,0,8,-1,-1' 9 @0S; }
+slot | draw --csv
+measured "a slot, CSV" "$steps,$arcs,plane,turn
+1,cut,0,0,-3,24,0,-3,3,2,1,10,,,,,,
+2,arc,24,0,-3,24,16,-3,3,3,1,10,24,8,-3,8,xy,ccw
+3,cut,24,16,-3,0,16,-3,3,4,1,10,,,,,,
+4,arc,0,16,-3,0,0,-3,3,5,1,10,0,8,-3,8,xy,ccw"
+slot | draw --measure 80,80,400
+measured "a slot in mm" "steps mm steps mm
+no. what from x y z to x y z depth from x y z to x y z depth record pass line centre x y z radius centre x y z radius plane turn
+1 cut 0 0 -3 24 0 -3 3 0.000 0.000 -0.008 0.300 0.000 -0.008 0.008 2 1 10 - - - - - - - - - -
+2 arc 24 0 -3 24 16 -3 3 0.300 0.000 -0.008 0.300 0.200 -0.008 0.008 3 1 10 24 8 -3 8 0.300 0.100 -0.008 0.100 xy ccw
+3 cut 24 16 -3 0 16 -3 3 0.300 0.200 -0.008 0.000 0.200 -0.008 0.008 4 1 10 - - - - - - - - - -
+4 arc 0 16 -3 0 0 -3 3 0.000 0.200 -0.008 0.000 0.000 -0.008 0.008 5 1 10 0 8 -3 8 0.000 0.100 -0.008 0.100 xy ccw
+0 holes, 2 cuts, 2 arcs, tool left down; end at x 0, y 0, height -3 steps (x 0.000, y 0.000, height -0.008 mm)"
+is "columns are aligned with arcs" 1 "$(sed '1d; $d' "$dir/got" | awk '{ print length($0) }' | sort -u | wc -l)"
+
+# With two axes every way is a row, and there are no heights. The root of 34 is 5.83095; with other steps in y no radius is one length.
+rounds() { lines @03 @0A5,600,0,600 @0y48,600,0,3,5,1,-1 @0f-1 @0i 'y 2,600,0,-2,0,1,-1' '3 1,-1' 9 @0S; }
+rounds | draw --measure
+measured "circles of two axes" "no. what from x y to x y record pass line centre x y radius turn
+1 line 0 0 5 0 - - 2 - - - -
+2 arc 5 0 5 0 - - 3 2 -5 5.831 cw
+3 arc 5 0 6 -1 0 1 9 7 0 2 ccw
+4 arc 6 -1 7 -2 0 2 9 8 -1 2 ccw
+1 line, 3 arcs; end at x 7, y -2 steps"
+rounds | draw --csv 10,20,10
+measured "circles of two axes, CSV" "number,what,from_x,from_y,from_z,to_x,to_y,to_z,depth,$mm,record,pass,line,$arcs,centre_x_mm,centre_y_mm,centre_z_mm,radius_mm,plane,turn
+1,line,0,0,0,5,0,0,,0.000,0.000,0.000,0.500,0.000,0.000,,,,2,,,,,,,,,,
+2,arc,5,0,0,5,0,0,,0.500,0.000,0.000,0.500,0.000,0.000,,,,3,2,-5,0,5.831,0.200,-0.250,0.000,,xy,cw
+3,arc,5,0,0,6,-1,0,,0.500,0.000,0.000,0.600,-0.050,0.000,,0,1,9,7,0,0,2,0.700,0.000,0.000,,xy,ccw
+4,arc,6,-1,0,7,-2,0,,0.600,-0.050,0.000,0.700,-0.100,0.000,,0,2,9,8,-1,0,2,0.800,-0.050,0.000,,xy,ccw"
+
+# Upright: half a circle from the surface is 6 deep in the middle. A full one with its top at the surface is in the plate from the first step
+# down, at 2 to the right of the top, to the last step up, as far to the left. In y and z a quarter, and the tool is left down.
+lines @07 @0e1 @0f-1 @0y24,600,0,-6,0,1,-1 @0f0 @0y40,600,0,0,5,1,-1 @0e2 @0y8,600,0,0,4,1,-1 | draw --csv
+measured "upright circles" "$steps,$arcs,plane,turn
+1,arc,0,0,0,12,0,0,6,,,4,6,0,0,6,xz,ccw
+2,arc,14,0,0,10,0,0,10,,,6,12,0,-5,5,xz,cw
+3,arc,12,2,0,12,4,-4,4,,,8,12,0,-4,4,yz,cw"
+# Planes and directions that a program sets, a wait that is answered, and an arc that is broken off.
+lines @07 @0i 'e 2' 'f -1' 'e 0' 'y 4,600,0,0,-2,1,1' 9 @0A0,600,0,600,-1,300,0,300 @0S @0e1 @0k @0i '2 89,1' 'y 1,600,0,2,0,-1,1' 9 @0S >"$dir/input"
+{ cat "$dir/input"; printf 'Y'; lines @0y8,600,0,-2,0,1,-1; } | draw --csv
+measured "a program's own plane" "$steps,$arcs,plane,turn
+1,arc,0,0,-1,2,2,-1,1,3,1,9,0,2,-1,2,xy,ccw
+2,arc,2,2,0,6,2,0,2,,,17,4,2,0,2,xz,ccw"
+printf '%s\n' @03 @0f-1 '@0y 16,600,0,2,0,-1,1' 'clock 4' break 'byte 64' '0y 4,600,0,0,2,-1,-1' >"$dir/words"
+stream_of "$dir/words"
+measures_of "$dir/stream" csv >"$dir/got" 2>"$dir/said"
+echo $? >"$dir/status"
+measured "an arc broken off, and one whose line is not known" "$steps,$arcs,plane,turn
+1,arc,0,0,0,-2,2,0,,,,3,-2,0,0,2,xy,ccw
+2,arc,-2,2,0,-4,0,0,,,,7,,,,,,"
+
 lines @07 | draw --measure
 measured "nothing" "no. what from x y z to x y z depth record pass line
 0 holes, 0 cuts; end at x 0, y 0, height 0 steps"

@@ -88,8 +88,10 @@ function answered(job, from) {
         setting(from)
     }
     if (answer != "Send") return
-    if (job == "Idle") end_run(sprintf("%c", byte + 0))
-    else sent(sprintf("%c", byte + 0))
+    if (job == "Idle") {
+        run_is("Ready") # it may have ended with its first call
+        end_run(sprintf("%c", byte + 0))
+    } else sent(sprintf("%c", byte + 0))
 }
 
 # A record that sets the plane or the direction of circles. At the end of the run the state says the same.
@@ -136,7 +138,7 @@ function run_is(job) {
 
 # The end of what ran, by a reply, or by none for a reset. The 0 of a movement that was sent as a line is not worth a note.
 function end_run(by) {
-    if (running == "run" || by != "0") add_note(running " of line " run_line " ended " (by == "" ? "by a reset" : "with " by), by == "F" ? "a break" : by == "9" ? "out of range" : by == "3" ? "axis not set" : by == "1" ? "wrong directions" : "")
+    if (running == "run" || by != "0") add_note(running " of line " run_line " ended " (by == "" ? "by a reset" : "with " by), by == "F" ? "a break" : by == "9" ? "out of range" : by == "3" ? "axis not set" : by == "1" ? "wrong way" : "")
     running = ""
 }
 

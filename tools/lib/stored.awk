@@ -1,5 +1,5 @@
-# What a board holds of a program that was sent to it for storing: awk -f replies.awk -f fault.awk -f stored.awk STREAM. STREAM is what `calls`
-# printed of the script that store.awk made, -v lines=FILE the lines that it sent. Prints the program as a join is asked (trial/README.md, ask):
+# What a board holds of a program that was sent to it for storing: awk -f replies.awk -f circles.awk -f fault.awk -f stored.awk STREAM.
+# STREAM is what `calls` printed of the script that store.awk made, -v lines=FILE the lines that it sent. Prints the program as a join is asked (trial/README.md, ask):
 # bytes in use, records, axes, and the bytes in hexadecimal digits. What was refused goes to the file `faults`, behind the environment's NAME;
 # the status is 4 then, and 5 if `calls` gave no answer.
 BEGIN {
@@ -27,7 +27,12 @@ function reply(sent) {
     if (current == 0 && sent == "0") accepted = 1
     else if (sent == "0") keep_record(places++, current, text[current])
     else if (current == 0 && !refused) check(sent)
-    else if (current > 0 && ++refused <= most) note("line " current ": refused " sent ": " (sent == "5" ? misshapen(text[current], 1) : meaning(sent, 1)))
+    else if (current > 0 && ++refused <= most) note("line " current ": refused " sent ": " reason(sent, text[current]))
+}
+
+function reason(sent, line,    words) {
+    words = circle_refused(sent, circle_line(line, 1), 1, 0, 0)
+    return words != "" ? words : sent == "5" ? misshapen(line, 1) : meaning(sent, 1)
 }
 
 # What the check at the end line has found.

@@ -1,23 +1,24 @@
 //! Many calls as one, for `walk` built with `batched`: the pulses that are left of a phase, and the bytes of a line
-//! before its end. And for `pace` a clock call whose test and pulse share their products.
+//! before its end. And for `pace` a clock call whose test and pulse share their products. Arcs are in `batched_arc`.
 
 use crate::board::{Answer, Board, Job, Refusal};
-use crate::motion::{Move, Point, Pulse};
+use crate::motion::{Motion, Move, Point, Pulse};
 use crate::number::all_in_24_bits;
 use crate::receive::{BREAK, RESET, RETURN, STOP};
 use crate::record::STORE;
 use crate::table::TABLE;
 
 impl Board {
-    /// Behind a pulse that a clock call has made: makes those that are left of its phase, at most `most` and as
+    /// Behind a pulse that a clock call has made: makes those that are left of its phase or arc, at most `most` and as
     /// long as `hand_on` asks for more, and says how many. The clock call has tested the state, and a pulse
     /// leaves a right one right.
     #[inline]
     pub fn glide(&mut self, most: u32, hand_on: impl FnMut(Pulse) -> bool) -> u32 {
         match &mut self.job {
-            Job::Direct(movement) | Job::Moving(movement) => {
-                movement.glide(&mut self.position, most, hand_on)
-            }
+            Job::Direct(motion) | Job::Moving(motion) => match motion {
+                Motion::Straight(movement) => movement.glide(&mut self.position, most, hand_on),
+                Motion::Arc(arc) => arc.glide(&mut self.position, most, hand_on),
+            },
             _ => 0,
         }
     }
@@ -28,13 +29,24 @@ impl Board {
     pub fn stride(&mut self, store: &[u8], table: &[u16]) -> Result<Answer, Refusal> {
         let moves = !self.standing && matches!(self.job, Job::Direct(_) | Job::Moving(_));
         if moves && store.len() == STORE && table.len() == TABLE && self.right(false) {
-            if let Job::Direct(movement) | Job::Moving(movement) = &mut self.job {
-                if let Some(pulse) = movement.tested_pulse(&mut self.position) {
-                    return Ok(Answer::Pulse(pulse));
-                }
+            if let Some(pulse) = self.tested_pulse() {
+                return Ok(Answer::Pulse(pulse));
             }
         }
         self.clock(store, table)
+    }
+
+    #[inline]
+    fn tested_pulse(&mut self) -> Option<Pulse> {
+        match &mut self.job {
+            Job::Direct(Motion::Straight(movement)) | Job::Moving(Motion::Straight(movement)) => {
+                movement.tested_pulse(&mut self.position)
+            }
+            Job::Direct(Motion::Arc(arc)) | Job::Moving(Motion::Arc(arc)) => {
+                arc.tested_pulse(&mut self.position)
+            }
+            _ => None,
+        }
     }
 
     /// Takes the bytes at the front that only lengthen the line, if lines are gathered, and says how many.

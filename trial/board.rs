@@ -1,6 +1,7 @@
 //! The board's state, and the test that refuses a state with 103.
 
-use crate::motion::{Move, Point, Pulse};
+use crate::arc::Turn;
+use crate::motion::{Motion, Point, Pulse};
 use crate::number::all_in_24_bits;
 use crate::record::{RECORDS, STORE};
 use crate::table::TABLE;
@@ -10,11 +11,11 @@ pub enum Job {
     Idle,
     Storing,
     /// A movement by a line.
-    Direct(Move),
+    Direct(Motion),
     /// A program, about to run the record at `place`.
     Ready,
     /// A program's movement; with no pulse left, the same as `Ready`.
-    Moving(Move),
+    Moving(Motion),
     /// Between the first and last pause of a delay: pauses after the next one.
     Delay(u32),
     /// A character wait: the character and the place to go to if it comes.
@@ -37,6 +38,8 @@ pub struct Board {
     pub origin: Point,
     pub axes: u8,
     pub three: bool,
+    /// For the arcs to come; one under way has its own.
+    pub turn: Turn,
     pub output: u8,
     pub used: u32,
     pub records: u32,
@@ -78,6 +81,7 @@ impl Board {
             origin: [0; 3],
             axes: 0,
             three: false,
+            turn: Turn::FRESH,
             output: 0,
             used: 0,
             records: 0,
@@ -136,9 +140,7 @@ impl Board {
             && self.depth <= 7
             && self.len <= 80
             && match &self.job {
-                Job::Direct(movement) | Job::Moving(movement) => {
-                    !movement_too || movement.right(&self.position)
-                }
+                Job::Direct(motion) | Job::Moving(motion) => !movement_too || motion.right(&self.position),
                 _ => true,
             }
     }

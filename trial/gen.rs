@@ -1,6 +1,9 @@
 //! `gen KIND SEED COUNT`: streams for trials, the same for the same seed. See README.md.
 
+mod arcs;
 mod damage;
+mod gen_arc;
+mod gen_arc_host;
 mod gen_ask;
 mod gen_calls;
 mod gen_chain;

@@ -2,6 +2,7 @@
 //! of them one more that an E may pass over.
 
 use crate::damage;
+use crate::gen_arc_host::Sent;
 use crate::gen_fault;
 use crate::gen_walk;
 use crate::program::{self, Span, Taste};
@@ -20,6 +21,7 @@ pub fn script(rng: &mut Rng, count: u64, out: &mut Vec<u8>) {
         stored: (0, 0, 0),
         starts: Vec::new(),
         endless: false,
+        arc: None,
     };
     for scene in 0..count {
         script.late = 2 * scene >= count;
@@ -40,7 +42,7 @@ pub struct Script<'a> {
     pub altered: bool,
     pub hurt_movement: bool,
     /// Whether what is sent in this scene comes to an end soon, but for a rare jump back.
-    tame: bool,
+    pub tame: bool,
     /// Whether half of the script is written: an E comes only then, since it may pass over the rest.
     pub late: bool,
     /// Used bytes, records and axes of the program sent last, if all of it was accepted.
@@ -49,6 +51,8 @@ pub struct Script<'a> {
     pub starts: Vec<usize>,
     /// Whether that program may run without end, if it was accepted.
     endless: bool,
+    /// The arc that a line of this scene has set off, if it was accepted.
+    pub arc: Option<Sent>,
 }
 
 impl Script<'_> {
@@ -71,6 +75,7 @@ impl Script<'_> {
     pub fn scene(&mut self) {
         let axes = self.rng.pick(&[1, 3, 7, 7]);
         self.tame = self.rng.once_in(4);
+        self.arc = None;
         self.mark_once_in(4);
         if self.altered {
             self.repair();
@@ -86,14 +91,16 @@ impl Script<'_> {
             let z = self.rng.below(2);
             self.line(&format!("@0z{z}"));
         }
-        if self.rng.once_in(3) {
-            self.move_directly(axes);
-        } else {
-            self.store(axes);
-            if self.rng.once_in(8) && !self.tame {
-                self.table();
+        match self.rng.below(10) {
+            0..=1 => self.move_directly(axes),
+            2..=3 if axes != 1 || self.rng.once_in(5) => self.arc_directly(axes),
+            _ => {
+                self.store(axes);
+                if self.rng.once_in(8) && !self.tame {
+                    self.table();
+                }
+                self.line("@0S");
             }
-            self.line("@0S");
         }
         if self.tame {
             self.run_quietly();
@@ -117,7 +124,7 @@ impl Script<'_> {
     }
 
     /// Now and then farther than a few steps. The edges of 24 bits take too long for a run to its end.
-    fn span(&mut self) -> Span {
+    pub fn span(&mut self) -> Span {
         let edges = if self.tame { u64::MAX } else { 60 };
         Span { reach: if self.rng.once_in(30) { 400 } else { 7 }, edges }
     }
@@ -191,7 +198,7 @@ impl Script<'_> {
         for _ in 0..self.rng.between(1, 14) {
             let calls = if self.rng.once_in(15) { 40 } else { self.rng.below(6) };
             self.clocks(calls);
-            match self.rng.below(16) {
+            match self.rng.below(17) {
                 0..=2 => self.stop(axes),
                 3..=6 => {
                     let answer = self.rng.between(33, 41) as u8;
@@ -204,6 +211,7 @@ impl Script<'_> {
                 11 => self.say("S".to_string()),
                 12 => self.line("@0S"),
                 13..=14 if !calm => self.table(),
+                15 | 16 if !calm && self.arc.is_some() => self.alter_arc(),
                 _ => {}
             }
         }

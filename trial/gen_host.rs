@@ -87,6 +87,23 @@ const WRONG_LINES: &[&str] = &[
     "V -1",
     "V",
     "V 1 1",
+    "H plane 3",
+    "H plane -1",
+    "H turn 1",
+    "H turn -2",
+    "H arcplane 3",
+    "H arcplane 2",
+    "H arcturn 1",
+    "H centre1 -8388609",
+    "H centre2 4286578688",
+    "H centre3 0",
+    "H start1 -8388609",
+    "H start2 4286578688",
+    "H start3 1",
+    "H arcspeed 65536",
+    "H arcspeed -1",
+    "H length -1",
+    "H length 4294967296",
     "F 1",
     "F ",
     "f",
@@ -110,6 +127,7 @@ impl Script<'_> {
                 self.say(format!("H {name} 500"));
             }
         }
+        self.repair_arc();
     }
 
     /// The host writes to the store or to its fields.
@@ -191,7 +209,7 @@ impl Script<'_> {
     /// The host alters the state, and mostly mends it after a call.
     pub fn alter(&mut self) {
         self.altered = true;
-        let (name, values): (&str, &[i64]) = match self.rng.below(12) {
+        let (name, values): (&str, &[i64]) = match self.rng.below(14) {
             0 => (
                 self.rng.pick(&["x", "y", "z"]),
                 &[0, 1, 3, -2, 8_388_607, 8_388_608, -8_388_608, 4_286_578_687],
@@ -208,6 +226,8 @@ impl Script<'_> {
             7 => ("phase", &[0, 1, 2, 3, 255]),
             8 => ("made", &[0, 1, 2, 3, 7, 8_388_607, 4_294_967_295]),
             9 => (self.rng.pick(&["speed1", "speed2", "speed3"]), &[29, 30, 10_000, 10_001, 0, 65_535]),
+            10 => ("plane", &[0, 1, 2]),
+            11 => ("turn", &[0, -1]),
             _ => (
                 self.rng.pick(&RESTING_POINTS),
                 &[0, 1, -1, 4, -7, 8_388_607, 8_388_608, -8_388_608, 4_286_578_687],
@@ -232,7 +252,7 @@ impl Script<'_> {
             "axes" => 7,
             "depth" | "len" | "over" | "phase" | "made" => 0,
             "speed1" | "speed2" | "speed3" => 500,
-            "place" | "standing" => return,
+            "place" | "standing" | "plane" | "turn" => return,
             _ => 0,
         };
         if !self.rng.once_in(4) {

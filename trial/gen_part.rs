@@ -1,5 +1,6 @@
 //! Parts of a join: small sound programs as lines, and how lines lie in a store.
 
+use crate::arcs;
 use crate::program::{self, Span};
 use crate::rng::Rng;
 
@@ -114,6 +115,10 @@ fn plain(rng: &mut Rng, axes: u8) -> String {
         0 => format!("0 {}", program::movement(rng, axes, false, span)),
         1 => format!("m {}", program::movement(rng, axes, true, span)),
         2..=3 => format!("n {}", rng.pick(&[1, 1, axes])),
-        _ => rng.pick(&["z0", "z1", "5 0", "5 65535", "1 33", "1 34", "1 126"]).to_string(),
+        4 => {
+            let (start, direction) = (arcs::start(rng, 9), arcs::direction(rng));
+            format!("y {}", arcs::numbers(rng, span, start, direction))
+        }
+        _ => rng.pick(&["z0", "z1", "5 0", "5 65535", "1 33", "1 34", "1 126", "e 1", "f -1"]).to_string(),
     }
 }

@@ -1,6 +1,7 @@
 //! Parts of a join that are mostly not accepted: numbers that do not fit the bytes, bytes that can't be read,
 //! programs that fail the check.
 
+use crate::arcs;
 use crate::gen_fault;
 use crate::gen_part::{record, Part};
 use crate::program::{self, Span};
@@ -46,7 +47,8 @@ fn byte(rng: &mut Rng, part: &mut Part) {
     }
     let head = if rng.once_in(2) { 12 } else { part.bytes.len() };
     let at = rng.below(head.min(part.bytes.len()) as u64) as usize;
-    part.bytes[at] = rng.pick(&[0, 1, 2, 3, 4, 8, 0xD7, 0x2B, b'0', b'1', b'3', b'm', b'z', 0xFE, 0xFF]);
+    part.bytes[at] =
+        rng.pick(&[0, 1, 2, 3, 4, 8, 0xD7, 0x2B, b'0', b'1', b'3', b'm', b'z', b'e', b'f', b'y', 0xFE, 0xFF]);
 }
 
 /// One record more, in front of the others.
@@ -58,18 +60,54 @@ fn add(part: &mut Part, bytes: Vec<u8>) {
 
 /// A record at the limits of what is right under these axes. If it is right, it passes the check.
 fn odd(rng: &mut Rng, axes: u8) -> String {
-    match rng.below(4) {
+    match rng.below(5) {
         0 => format!("n {}", rng.pick(&[0, 1, axes, axes + 1, 7, 8, 255])),
         1 => odd_movement(rng, axes),
         2 => {
+            let (start, direction) = (arcs::start(rng, 9), arcs::direction(rng));
+            let numbers = arcs::numbers(rng, Span { reach: 9, edges: 9 }, start, direction);
+            format!("y {}", arcs::wrong(rng, &numbers))
+        }
+        3 => {
             let other = rng.pick(&[1, 3, 7]);
             format!("m {}", program::movement(rng, other, true, Span { reach: 9, edges: 9 }))
         }
         _ => rng
             .pick(&[
-                "z 2", "z -1", "5 -1", "5 65535", "5 65536", "1 32", "1 33", "1 126", "1 127", "2 32,0",
-                "2 127,0", "3 -1,0", "3 1,0", "3 1,1", "3 0,0", "2 33,0", "6 0", "9 0", "3 0", "3 0,0,0",
-                "z 0,0", "5 1,1",
+                "z 2",
+                "z -1",
+                "5 -1",
+                "5 65535",
+                "5 65536",
+                "1 32",
+                "1 33",
+                "1 126",
+                "1 127",
+                "2 32,0",
+                "2 127,0",
+                "3 -1,0",
+                "3 1,0",
+                "3 1,1",
+                "3 0,0",
+                "2 33,0",
+                "6 0",
+                "9 0",
+                "3 0",
+                "3 0,0,0",
+                "z 0,0",
+                "5 1,1",
+                "e 0",
+                "e 2",
+                "e 3",
+                "e -1",
+                "e 0,0",
+                "f 0",
+                "f -1",
+                "f 1",
+                "f -2",
+                "y 1,600,0,1,0,1",
+                "y 0,600,0,0,0,1,1",
+                "y 1,600,0,1,0,0,1",
             ])
             .to_string(),
     }

@@ -1,6 +1,8 @@
 //! Inputs for `walk`: COUNT scenes of lines, programs and control codes.
 
+use crate::arcs;
 use crate::damage;
+use crate::gen_arc;
 use crate::gen_fault;
 use crate::program::{self, Span, Taste};
 use crate::rng::Rng;
@@ -22,7 +24,7 @@ fn scene(rng: &mut Rng, axes: &mut u8, out: &mut Vec<u8>) {
         *axes = rng.pick(&[1, 3, 7, 7]);
         line(rng, out, &format!("@0{axes}"));
     }
-    match rng.below(15) {
+    match rng.below(18) {
         0..=4 => {
             for _ in 0..rng.between(1, 6) {
                 let text = direct(rng, *axes);
@@ -31,6 +33,9 @@ fn scene(rng: &mut Rng, axes: &mut u8, out: &mut Vec<u8>) {
         }
         5..=9 => stored(rng, *axes, out),
         12..=14 => failing(rng, *axes, out),
+        15..=17 if *axes == 1 && !rng.once_in(4) => line(rng, out, "@0P"),
+        15..=16 => gen_arc::circles(rng, *axes, out),
+        17 => gen_arc::edge(rng, *axes, out),
         10 if rng.once_in(2) => long_line(rng, out),
         10 => edge(rng, *axes, out),
         _ => {
@@ -42,7 +47,7 @@ fn scene(rng: &mut Rng, axes: &mut u8, out: &mut Vec<u8>) {
 }
 
 /// A line with its return; now and then damaged, with a control code inside, or with CRLF.
-fn line(rng: &mut Rng, out: &mut Vec<u8>, text: &str) {
+pub fn line(rng: &mut Rng, out: &mut Vec<u8>, text: &str) {
     let start = out.len();
     let text = if rng.once_in(20) { damage::hurt(rng, text) } else { text.to_string() };
     let text = if text.contains(',') && rng.once_in(40) { spaces::misplaced(rng, &text) } else { text };
@@ -58,7 +63,7 @@ fn line(rng: &mut Rng, out: &mut Vec<u8>, text: &str) {
 }
 
 /// A line with its return and nothing else done to it.
-fn unharmed(out: &mut Vec<u8>, text: &str) {
+pub fn unharmed(out: &mut Vec<u8>, text: &str) {
     out.extend_from_slice(text.as_bytes());
     out.push(13);
 }
@@ -72,7 +77,7 @@ pub fn direct(rng: &mut Rng, axes: u8) -> String {
 fn unspaced(rng: &mut Rng, axes: u8) -> String {
     let gap = if rng.once_in(4) { " " } else { "" };
     let span = Span { reach: if rng.once_in(30) { 2_000 } else { 9 }, edges: 20_000 };
-    match rng.below(22) {
+    match rng.below(25) {
         0..=4 => format!("@0{}{gap}{}", rng.pick(&['A', 'a']), program::movement(rng, axes, false, span)),
         5..=7 => format!("@0{}{gap}{}", rng.pick(&['M', 'm']), program::movement(rng, axes, true, span)),
         8 => format!("@0n{gap}{}", rng.between(0, 8)),
@@ -87,6 +92,12 @@ fn unspaced(rng: &mut Rng, axes: u8) -> String {
         19 => {
             let text = format!("@0{}{gap}{}", rng.pick(&["A", "M"]), program::movement(rng, 7, true, span));
             lengthened(rng, &text)
+        }
+        20 => format!("@0e{gap}{}", rng.between(-1, 3)),
+        21 => format!("@0f{gap}{}", rng.between(-2, 1)),
+        22 => {
+            let direction = arcs::direction(rng);
+            format!("@0y{gap}{}", arcs::arc(rng, span, direction))
         }
         _ => odd(rng).to_string(),
     }
@@ -144,6 +155,30 @@ fn odd(rng: &mut Rng) -> &'static str {
         "@0A 5,600,7,700,3,800,-3,900",
         "@0M 5,600,7,700,3,800,1,900",
         "@0M 5,600,7,700,3,800,0,29",
+        "@0E0",
+        "@0F0",
+        "@0Y1,600,0,1,0,-1,-1",
+        "@0e",
+        "@0e ",
+        "@0e 2",
+        "@0e3",
+        "@0e0,0",
+        "@0f",
+        "@0f-0",
+        "@0f -1",
+        "@0f1",
+        "@0f0, 0",
+        "@0y",
+        "@0y1,600,0,1,0,-1",
+        "@0y1,600,0,1,0,-1,-1",
+        "@0y1,600,0,1,0,-1,1",
+        "@0y1, 600, 0, 0, 1, 1, -1",
+        "@0y1,600,0,0,-1,1,1",
+        "@0y 1,600,0,1,0,-1,-1,1",
+        "@0y0,600,0,0,0,1,1",
+        "@0y1,29,0,1,0,1,1",
+        "@0y8388608,5,0,1,0,-1,-1",
+        "@0y0,600,0,4000000,4000000,1,-1",
     ])
 }
 

@@ -1,8 +1,9 @@
 //! What a host may set in a board's state by name, and the state as one line.
 
 use crate::script::half;
+use trial::arc::Arc;
 use trial::board::{Board, Job};
-use trial::motion::Move;
+use trial::motion::{Motion, Move};
 use trial::number::push_decimal;
 
 const BELOW: i64 = -8_388_608;
@@ -21,7 +22,12 @@ pub fn set(board: &mut Board, name: &str, value: i64) -> Option<()> {
         "place" => board.place = half(value)?.into(),
         "over" => board.over = flag(value)?,
         "standing" => board.standing = flag(value)?,
-        _ => set_movement(movement(board)?, name, value)?,
+        "plane" => board.turn.plane = plane(value)?,
+        "turn" => board.turn.counter = counter_clockwise(value)?,
+        _ => match motion(board)? {
+            Motion::Straight(movement) => set_movement(movement, name, value)?,
+            Motion::Arc(arc) => set_arc(arc, name, value)?,
+        },
     }
     Some(())
 }
@@ -30,23 +36,41 @@ fn flag(value: i64) -> Option<bool> {
     (0..=1).contains(&value).then_some(value == 1)
 }
 
-fn movement(board: &mut Board) -> Option<&mut Move> {
+fn plane(value: i64) -> Option<u8> {
+    (0..=2).contains(&value).then_some(value as u8)
+}
+
+/// Whether a direction is -1; only this and 0 are any.
+fn counter_clockwise(value: i64) -> Option<bool> {
+    (-1..=0).contains(&value).then_some(value == -1)
+}
+
+fn motion(board: &mut Board) -> Option<&mut Motion> {
     match &mut board.job {
-        Job::Direct(movement) | Job::Moving(movement) => Some(movement),
+        Job::Direct(motion) | Job::Moving(motion) => Some(motion),
         _ => None,
     }
 }
 
-/// A position, an origin, or one axis of a movement's start or resting points.
+/// A position, an origin, one axis of a straight movement's start or resting points, or an arc's centre or start.
 fn counter<'a>(board: &'a mut Board, name: &str) -> Option<&'a mut i32> {
     let (point, axis) = name.split_at_checked(name.len().checked_sub(1)?)?;
+    if let Some(which) = "12".find(axis) {
+        let Motion::Arc(arc) = motion(board)? else { return None };
+        return match point {
+            "centre" => Some(&mut arc.centre[which]),
+            "start" => Some(&mut arc.start[which]),
+            _ => None,
+        };
+    }
     let axis = "xyz".find(axis)?;
     let point = match point {
         "" => return Some(&mut board.position[axis]),
         "o" => return Some(&mut board.origin[axis]),
         _ => ["start", "first", "second", "third"].iter().position(|&p| p == point)?,
     };
-    Some(&mut movement(board)?.points[point][axis])
+    let Motion::Straight(movement) = motion(board)? else { return None };
+    Some(&mut movement.points[point][axis])
 }
 
 fn set_movement(movement: &mut Move, name: &str, value: i64) -> Option<()> {
@@ -56,6 +80,18 @@ fn set_movement(movement: &mut Move, name: &str, value: i64) -> Option<()> {
         "speed1" => movement.speeds[0] = value.try_into().ok()?,
         "speed2" => movement.speeds[1] = value.try_into().ok()?,
         "speed3" => movement.speeds[2] = value.try_into().ok()?,
+        _ => return None,
+    }
+    Some(())
+}
+
+fn set_arc(arc: &mut Arc, name: &str, value: i64) -> Option<()> {
+    match name {
+        "arcplane" => arc.turn.plane = plane(value)?,
+        "arcturn" => arc.turn.counter = counter_clockwise(value)?,
+        "arcspeed" => arc.speed = value.try_into().ok()?,
+        "length" => arc.length = value.try_into().ok()?,
+        "made" => arc.made = value.try_into().ok()?,
         _ => return None,
     }
     Some(())
@@ -78,9 +114,9 @@ fn seen(counter: i32) -> i64 {
     (counter as i64 - BELOW).rem_euclid(1 << 32) + BELOW
 }
 
-/// Whether a movement under way has made exactly one pulse of its phase.
+/// Whether what is under way has made exactly one pulse of its phase or arc.
 pub fn first_of_a_phase(board: &Board) -> bool {
-    matches!(&board.job, Job::Direct(movement) | Job::Moving(movement) if movement.made == 1)
+    matches!(&board.job, Job::Direct(motion) | Job::Moving(motion) if motion.made() == 1)
 }
 
 /// A name and its values, each with a space before it.
@@ -119,5 +155,7 @@ pub fn push_state(out: &mut Vec<u8>, board: &Board) {
     field(job_name(&board.job), &[]);
     field("standing", &[board.standing as i64]);
     field("loops", &[board.depth as i64]);
+    field("plane", &[board.turn.plane as i64]);
+    field("direction", &[-(board.turn.counter as i64)]);
     out.push(b'\n');
 }

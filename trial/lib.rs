@@ -1,11 +1,14 @@
 //! A plain board in ordinary Rust, written from the paper: the second opinion on the proved one.
 #![allow(unexpected_cfgs)] // the planted slips: see README.md
 
+pub mod arc;
 pub mod batched;
+mod batched_arc;
 pub mod board;
 pub mod by_value;
 pub mod chain;
 pub mod check;
+mod direct;
 pub mod join;
 pub mod line;
 pub mod lister;

@@ -24,7 +24,9 @@ pub fn direct(text: &[u8]) -> Option<Line> {
         b'a' => b'A',
         b'm' => b'M',
         b's' => b'S',
-        b'A' | b'M' | b'S' | b'n' | b'N' | b'z' | b'P' | b'b' | b'B' | b'i' | b'k' => head,
+        b'A' | b'M' | b'S' | b'n' | b'N' | b'z' | b'P' | b'b' | b'B' | b'i' | b'k' | b'e' | b'f' | b'y' => {
+            head
+        }
         _ => return Some(Line { letter: 0, numbers: numbers(rest)? }),
     };
     Some(Line { letter, numbers: after_letter(tail)? })
@@ -35,7 +37,7 @@ pub fn storing(text: &[u8]) -> Option<Line> {
     let (&letter, tail) = text.split_first()?;
     match letter {
         b'9' if tail.is_empty() => Some(Line { letter, numbers: NONE }),
-        b'0' | b'm' | b'n' | b'z' | b'3' | b'5' | b'1' | b'2' => {
+        b'0' | b'm' | b'n' | b'z' | b'3' | b'5' | b'1' | b'2' | b'e' | b'f' | b'y' => {
             Some(Line { letter, numbers: after_letter(tail)? })
         }
         _ => None,

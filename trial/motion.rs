@@ -1,9 +1,45 @@
-//! A straight movement: its plan, its pulses, and the test that one under way must pass.
+//! A straight movement: its plan, its pulses, and the test that one under way must pass. And what moves at all.
 
+use crate::arc::Arc;
 use crate::number::all_in_24_bits;
 
 /// x, y and z.
 pub type Point = [i32; 3];
+
+/// What is under way: a straight movement or an arc.
+#[derive(Clone, Copy, PartialEq, Eq, Debug)]
+pub enum Motion {
+    Straight(Move),
+    Arc(Arc),
+}
+
+impl Motion {
+    /// Makes the next pulse on the lent counters, if one is left.
+    #[inline]
+    pub fn pulse(&mut self, counters: &mut Point) -> Option<Pulse> {
+        match self {
+            Motion::Straight(movement) => movement.pulse(counters),
+            Motion::Arc(arc) => arc.pulse(counters),
+        }
+    }
+
+    /// The test of refusal 103.
+    #[inline]
+    pub fn right(&self, at: &Point) -> bool {
+        match self {
+            Motion::Straight(movement) => movement.right(at),
+            Motion::Arc(arc) => arc.right(at),
+        }
+    }
+
+    /// Pulses made, of a phase or of an arc.
+    pub fn made(&self) -> u32 {
+        match self {
+            Motion::Straight(movement) => movement.made,
+            Motion::Arc(arc) => arc.made,
+        }
+    }
+}
 
 /// `points` are the start and the resting points after the first, second and third phase.
 /// `made` pulses of phase `phase` (0 to 2) are made; after a phase's last pulse the movement

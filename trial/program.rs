@@ -1,5 +1,6 @@
 //! Random movements and sound stored programs, as lines.
 
+use crate::arcs;
 use crate::rng::Rng;
 
 /// How far movements go: the greatest usual distance, and how rare the edges of 24 bits are.
@@ -99,6 +100,7 @@ fn block(rng: &mut Rng, taste: &Taste, lines: &mut Vec<String>, size: i64, depth
             }
             3 => jumps.push(hole(lines)),
             4 if rng.once_in(4) => hidden_mark(rng, taste, lines),
+            5 => lines.extend(arcs::records(rng, taste.axes, taste.span)),
             _ => lines.push(plain(rng, taste)),
         }
         starts.push(lines.len() - 1);

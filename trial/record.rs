@@ -1,5 +1,6 @@
 //! Records of the store: which are right, their bytes, finding one by the table, and all of them from the front.
 
+use crate::arc;
 use crate::number::in_24_bits;
 
 pub const STORE: usize = 16_384;
@@ -39,8 +40,9 @@ pub fn count_for(code: u8, axes: u8) -> Option<usize> {
         (b'0' | b'm', 1) => Some(2),
         (b'0' | b'm', 3) => Some(4),
         (b'0' | b'm', 7) => Some(8),
-        (b'n' | b'z' | b'5' | b'1', _) => Some(1),
+        (b'n' | b'z' | b'5' | b'1' | b'e' | b'f', _) => Some(1),
         (b'3' | b'2', _) => Some(2),
+        (b'y', _) => Some(7),
         _ => None,
     }
 }
@@ -57,6 +59,9 @@ pub fn refusal(code: u8, axes: u8, v: &[i32]) -> Option<u8> {
         b'5' => (0..=65_535).contains(&v[0]),
         b'1' => (33..=126).contains(&v[0]),
         b'2' => (33..=126).contains(&v[0]) && offset_right(v[1]),
+        b'e' => (0..=2).contains(&v[0]),
+        b'f' => v[0] == 0 || v[0] == -1,
+        b'y' => return stored_arc_refusal(v),
         _ => false,
     };
     (!right).then_some(b'1')
@@ -78,8 +83,24 @@ fn movement_refusal(absolute: bool, v: &[i32]) -> Option<u8> {
     if !z2_right || v.iter().step_by(2).any(|&d| !in_24_bits(d)) {
         return Some(b'1');
     }
-    let speeds = v.iter().skip(1).step_by(2);
-    speeds.clone().any(|s| !(30..=10_000).contains(s)).then_some(b'D')
+    v.iter().skip(1).step_by(2).any(|&s| !speed_right(s)).then_some(b'D')
+}
+
+/// A stored arc names directions; whether they are those that it needs is asked when it is run.
+fn stored_arc_refusal(v: &[i32]) -> Option<u8> {
+    if !arc_right(v) || v[5..].iter().any(|d| d.abs() != 1) {
+        return Some(b'1');
+    }
+    (!speed_right(v[1])).then_some(b'D')
+}
+
+/// The numbers of an arc but its speed and its directions: length, D and the start.
+pub fn arc_right(v: &[i32]) -> bool {
+    (0..=arc::LONGEST).contains(&v[0]) && in_24_bits(v[2]) && arc::start_right([v[3], v[4]])
+}
+
+pub fn speed_right(v: i32) -> bool {
+    (30..=10_000).contains(&v)
 }
 
 /// The record at byte `at`, if it is right and lies in the part in use.

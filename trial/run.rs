@@ -1,12 +1,12 @@
 //! The clock call: the next pulse, pause or record of what runs.
 
 use crate::board::{Answer, Board, Job, Loop, Refusal};
-use crate::motion;
+use crate::motion::{self, Motion};
 use crate::record::{self, Record};
 
 /// How a run ends in place of a record.
 enum End {
-    /// The character is sent and the store kept: 0 at the end place, 9 at a movement.
+    /// The character is sent and the store kept: 0 at the end place, 9 at a movement, 3, 1 or 9 at an arc.
     Sent(u8),
     /// G is sent and the store emptied.
     Broken,
@@ -22,11 +22,11 @@ impl Board {
         }
         Ok(match &mut self.job {
             Job::Idle | Job::Storing | Job::Wait(..) => Answer::Nothing,
-            Job::Direct(movement) => match movement.pulse(&mut self.position) {
+            Job::Direct(motion) => match motion.pulse(&mut self.position) {
                 Some(pulse) => Answer::Pulse(pulse),
                 None => self.end(End::Sent(b'0')),
             },
-            Job::Moving(movement) => match movement.pulse(&mut self.position) {
+            Job::Moving(motion) => match motion.pulse(&mut self.position) {
                 Some(pulse) => Answer::Pulse(pulse),
                 None => self.next_record(store, table),
             },
@@ -73,6 +73,7 @@ impl Board {
         let first = record.values[0];
         match record.code {
             b'0' | b'm' => return self.run_movement(&record),
+            b'y' => return self.run_arc(record.numbers()),
             b'3' if first > 0 => return self.run_loop(first as u32, record.values[1]),
             b'5' => return Ok(self.run_delay(first as u32)),
             b'3' => {
@@ -87,6 +88,8 @@ impl Board {
             }
             b'n' => self.set_origin(first as u8),
             b'z' => self.three = first == 1,
+            b'e' => self.turn.plane = first as u8,
+            b'f' => self.turn.counter = first == -1,
             _ => {
                 self.go_on(Job::Ready);
                 return Ok(Answer::Send(first as u8));
@@ -123,15 +126,32 @@ impl Board {
     fn run_movement(&mut self, record: &Record) -> Result<Answer, End> {
         let setting = self.setting(self.store_axes);
         let planned = motion::plan(&setting, record.code == b'm', record.numbers());
-        let mut movement = planned.ok_or(End::Sent(b'9'))?;
-        match movement.pulse(&mut self.position) {
+        let movement = planned.ok_or(End::Sent(b'9'))?;
+        Ok(self.set_off(Motion::Straight(movement)))
+    }
+
+    /// Its ranges and its speed are right: the record could be read. The store's axes say whether its plane fits.
+    fn run_arc(&mut self, numbers: &[i32]) -> Result<Answer, End> {
+        if !self.turn.fits(self.store_axes) {
+            return Err(End::Sent(b'3'));
+        }
+        if !self.turn.expects(numbers) {
+            return Err(End::Sent(b'1'));
+        }
+        let arc = self.turn.arc(&self.position, numbers).ok_or(End::Sent(b'9'))?;
+        Ok(self.set_off(Motion::Arc(arc)))
+    }
+
+    /// The first pulse of what a record moves; with none it is done.
+    fn set_off(&mut self, mut motion: Motion) -> Answer {
+        match motion.pulse(&mut self.position) {
             Some(pulse) => {
-                self.go_on(Job::Moving(movement));
-                Ok(Answer::Pulse(pulse))
+                self.go_on(Job::Moving(motion));
+                Answer::Pulse(pulse)
             }
             None => {
                 self.go_on(Job::Ready);
-                Ok(Answer::Done)
+                Answer::Done
             }
         }
     }

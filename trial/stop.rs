@@ -1,6 +1,7 @@
 //! `stop`: the stop trial. `stop emit SEED COUNT` writes a script for `calls`: each movement or
 //! program once unstopped and once with stops; `stop check COUNT` compares the two in what `calls` printed.
 
+mod arcs;
 mod program;
 mod rng;
 
@@ -83,8 +84,11 @@ struct Case {
 fn case(rng: &mut Rng) -> Case {
     let axes = rng.pick(&[1, 3, 7, 7]);
     let span = Span { reach: rng.pick(&[3, 9, 9, 40]), edges: 100 };
+    let direction = arcs::direction(rng);
     let mut lines =
         vec![format!("@0{axes}"), format!("@0z{}", rng.below(2)), format!("@0B0,{}", rng.below(256))];
+    lines.push(format!("@0e{}", arcs::plane(rng, axes)));
+    lines.push(format!("@0f{direction}"));
     if rng.once_in(2) {
         let near = Span { reach: 9, edges: u64::MAX };
         lines.push(format!("@0A{}", program::movement(rng, axes, false, near)));
@@ -95,6 +99,10 @@ fn case(rng: &mut Rng) -> Case {
         let absolute = rng.once_in(3);
         let letter = if absolute { 'M' } else { 'A' };
         let start = format!("@0{letter}{}", program::movement(rng, axes, absolute, span));
+        return Case { lines, start: program::spaced(rng, start), answers };
+    }
+    if axes != 1 && rng.once_in(4) {
+        let start = format!("@0y{}", arcs::arc(rng, span, direction));
         return Case { lines, start: program::spaced(rng, start), answers };
     }
     let taste = Taste { axes, span, waits: true, long: false };
@@ -139,14 +147,24 @@ fn stand(guide: &mut Guide, rng: &mut Rng) {
         return;
     }
     for _ in 0..rng.below(4) {
-        match rng.below(9) {
+        match rng.below(10) {
             0 => guide.byte(253),
             1 => guide.clocks(1),
             2 => guide.byte(rng.below(253) as u8),
             3 => (0..90).for_each(|_| guide.byte(b'1')),
-            4 => guide.line(rng.pick(&["@0P", "@0b0", "@0S1", "@0b9", "5", "", "@0S1, 1", "@0P ,1"])),
-            5 => guide.line(rng.pick(&["@07", "@0k", "@0i", "@0N1", "@0n1", "@0z1", "@0z0", "@0B0, 9"])),
-            6 => guide.line(rng.pick(&["@0A5, 600", "@0M1,600,2, 700", "@0A1,30,1,30,1,30,1,30", "9"])),
+            4 => guide.line(rng.pick(&["@0P", "@0b0", "@0S1", "@0b9", "5", "", "@0S1, 1", "@0P ,1", "@0E1"])),
+            8 => {
+                guide.line(rng.pick(&["@0y4,600,0,2,0,-1,-1", "@0y0,600,0,0,1,1,-1", "@0f0", "@0e0", "@0y"]))
+            }
+            5 => guide
+                .line(rng.pick(&["@07", "@0k", "@0i", "@0N1", "@0n1", "@0z1", "@0z0", "@0B0, 9", "@0e2"])),
+            6 => guide.line(rng.pick(&[
+                "@0A5, 600",
+                "@0M1,600,2, 700",
+                "@0A1,30,1,30,1,30,1,30",
+                "9",
+                "@0f-1",
+            ])),
             7 => guide.refused(rng),
             _ => guide.clocks(3),
         }

@@ -3,7 +3,7 @@
 use crate::rng::Rng;
 use crate::Bench;
 use trial::board::{Answer, Job};
-use trial::motion::Move;
+use trial::motion::{Motion, Move};
 
 /// A board some pulses into a movement of up to 9 steps on each axis.
 fn moving(rng: &mut Rng) -> Bench {
@@ -17,7 +17,7 @@ fn moving(rng: &mut Rng) -> Bench {
 
 fn movement(b: &mut Bench) -> Option<&mut Move> {
     match &mut b.board.job {
-        Job::Direct(movement) | Job::Moving(movement) => Some(movement),
+        Job::Direct(Motion::Straight(movement)) | Job::Moving(Motion::Straight(movement)) => Some(movement),
         _ => None,
     }
 }

@@ -2,7 +2,7 @@
 
 use crate::{short, Bench};
 use trial::board::{Board, Job, Loop};
-use trial::motion::Move;
+use trial::motion::{Motion, Move};
 
 fn clock(b: &mut Bench) -> Result<String, u8> {
     b.board.clock(&b.store, &b.table).map(short)
@@ -47,7 +47,7 @@ fn fields_that_may_disagree() {
 
 fn movement(b: &mut Bench) -> &mut Move {
     match &mut b.board.job {
-        Job::Direct(m) | Job::Moving(m) => m,
+        Job::Direct(Motion::Straight(m)) | Job::Moving(Motion::Straight(m)) => m,
         _ => panic!("no movement"),
     }
 }

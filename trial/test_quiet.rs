@@ -97,7 +97,7 @@ fn made_decides_what_is_a_first_pulse() {
 
 #[test]
 fn the_call_tried_at_the_end_is_not_kept() {
-    let state = "S axes 1 position 0 0 0 origin 0 0 0 three 0 output 0 used 0 records 0 store_axes 0 job Direct standing 0 loops 0";
+    let state = "S axes 1 position 0 0 0 origin 0 0 0 three 0 output 0 used 0 records 0 store_axes 0 job Direct standing 0 loops 0 plane 0 direction 0";
     assert_eq!(behind(MOVE, "S|Q 0|Q 0|S"), format!("{state}|Q more|Q more|{state}"));
     assert!(behind(MOVE, "Q 2|C 2").ends_with("|Q more|C Send 48|C Nothing"));
     assert!(behind(MOVE, "Q 3").ends_with("|Q over"));

@@ -36,7 +36,7 @@ fn generated_tables() {
     let answers = ["B 104", "C 104", "F 0", "F 102", "F 104", "F G"];
     let mut seen = [0; 6];
     let (mut led_elsewhere, mut to_g, mut altered) = (0, 0, 0);
-    for seed in 0..4_000 {
+    for seed in 0..6_000 {
         let script = script(seed);
         let said = printed(script.as_bytes());
         for (times, answer) in seen.iter_mut().zip(answers) {

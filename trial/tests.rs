@@ -1,7 +1,10 @@
 //! Hand-worked cases from the paper's sentences, for the trial board alone.
 #![cfg(test)]
 
+mod arcs;
 mod damage;
+mod gen_arc;
+mod gen_arc_host;
 mod gen_calls;
 mod gen_fault;
 mod gen_host;
@@ -19,9 +22,14 @@ mod rng;
 mod script;
 mod shrink_join;
 mod spaces;
+mod test_arc;
+mod test_arc_host;
+mod test_arc_lines;
+mod test_arc_random;
 mod test_ask;
 mod test_ask_join;
 mod test_batched;
+mod test_batched_arc;
 mod test_chain;
 mod test_check;
 mod test_fault;

@@ -1,6 +1,6 @@
 """How the cases for `calls` are written down: each step is a list of pairs, a line of the script and what it prints.
 
-Nothing here runs a board: replies, answers and states are written by hand, and pulses by the paper's formula.
+Nothing here runs a board: replies, answers, states and the pulses of arcs are written by hand, other pulses by the paper's formula.
 """
 CASES = []
 WRONG = "?"  # a wrong line prints this and its number
@@ -80,6 +80,11 @@ def pulses(d, speed):
     return answers
 
 
+def turns(moves, speed=600):
+    """The pulses of an arc, which are worked out by hand: `x- y+` and so on."""
+    return ["Pulse %s %d" % ("".join(m[1] if a == m[0] else "." for a in "xyz"), speed) for m in moves.split()]
+
+
 def x(d, speed=600):
     return pulses([d, 0, 0], speed)
 
@@ -125,9 +130,9 @@ def refused(number, call="B 64"):
     return [(call, [call[0] + " %d" % number])]
 
 
-def state(axes=0, position=(0, 0, 0), origin=(0, 0, 0), three=0, output=0, held=(0, 0, 0), job="Idle", standing=0, loops=0):
-    """`held` are the bytes and records in use and the store's axes."""
+def state(axes=0, position=(0, 0, 0), origin=(0, 0, 0), three=0, output=0, held=(0, 0, 0), job="Idle", standing=0, loops=0, turn=(0, 0)):
+    """`held` are the bytes and records in use and the store's axes, `turn` the plane and the direction."""
     said = "S axes %d position %d %d %d" % ((axes,) + position)
     said += " origin %d %d %d three %d output %d" % (origin + (three, output))
     said += " used %d records %d store_axes %d" % held
-    return [("S", [said + " job %s standing %d loops %d" % (job, standing, loops)])]
+    return [("S", [said + " job %s standing %d loops %d plane %d direction %d" % ((job, standing, loops) + turn)])]

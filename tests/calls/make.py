@@ -3,6 +3,8 @@
 import os
 
 import group_breaks
+import group_circles
+import group_circles_altered
 import group_damage
 import group_listing
 import group_named

@@ -109,9 +109,13 @@ def kinds(axes):
     pairs = {1: 1, 3: 2, 7: 4}[axes]
     target = [way, speed] * pairs if pairs < 4 else [way, speed] * 3 + [range(1), speed]
     masks = [mask for mask in range(1, 8) if mask | axes == axes]
+    left, right, sign = range(-4000000, 0), range(1, 4000001), (1, -1)
+    starts = [(u, range(-4000000, 4000001)) for u in (left, right)] + [(range(1), v) for v in (left, right)]
     return [(b"0", "relative", [way, speed] * pairs), (b"m", "absolute", target), (b"n", "origin", [masks]),
             (b"z", "mode", [range(2)]), (b"3", "jump", [range(1), offset]), (b"3", "loop", [range(1, 2**15), range(-2**15, 0)]),
-            (b"5", "delay", [range(2**16)]), (b"1", "send", [character]), (b"2", "wait", [character, offset])]
+            (b"5", "delay", [range(2**16)]), (b"1", "send", [character]), (b"2", "wait", [character, offset]),
+            (b"e", "plane", [range(3)]), (b"f", "direction", [range(-1, 1)])] + [
+            (b"y", "arc", [range(2**23), speed, way, u, v, sign, sign]) for u, v in starts]
 
 
 def program(used, records, axes, data):

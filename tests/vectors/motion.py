@@ -1,12 +1,13 @@
 #!/usr/bin/env python3
-"""Writes crates/motion_pulses/stdin and stdout: movements, and their pulses by 01's formula in exact integers.
+"""Writes crates/motion_pulses/stdin and stdout: movements, and their pulses by 01's formula in exact integers; circles, and their pulses
+by the rule of 02, §3.
 
 An independent calculation: it works on signed numbers and quotients and knows neither counts nor words nor the code's test.
 Run in the root of the repository: `python3 tests/vectors/motion.py` writes both files, `--check` compares them.
 """
 import sys
 
-LOW, HIGH = -8388608, 8388607
+from circle_rule import HIGH, LOW, PLANES, centre, circle_of, reach, refusal, turned
 
 
 def case(axes, words, at=(0, 0, 0), origin=(0, 0, 0), three=0, absolute=0, few=100):
@@ -87,6 +88,66 @@ CASES = [
 ]
 
 
+def circle(numbers, axes=3, plane=0, counter=0, at=(0, 0, 0), few=100):
+    return axes, plane, counter, tuple(at), tuple(numbers), few
+
+
+def fitting(x, y, length=None, speed=600, counter=0, **more):
+    """A circle with the directions that fit; without a length, the whole of it and one pulse more."""
+    whole = 4 * (abs(x) + abs(y)) + 1
+    return circle(circle_of(whole if length is None else length, speed, counter, x, y), counter=counter, **more)
+
+
+def near(x, y, first, second, **more):
+    """A circle whose centre stands at two places."""
+    place = {PLANES[more["plane"]][0]: first + x, PLANES[more["plane"]][1]: second + y}
+    return fitting(x, y, length=2, at=[place.get(i, 5) for i in range(3)], axes=7, **more)
+
+
+GOOD = circle_of(3, 600, 0, 3, 4)
+
+CIRCLES = [
+    # 02's own
+    circle((4, 600, 0, 2, 0, -1, 1), counter=1),
+    # both ways round from the axes, the nearest points, the diagonals
+    *(fitting(x, y, counter=counter) for counter in (0, 1)
+      for x, y in ((1, 0), (0, 1), (-1, 0), (0, -1), (1, 1), (-1, 1), (-1, -1), (1, -1), (3, 0), (0, -4))),
+    # both moves leave the same distance: the first axis
+    *(fitting(x, y) for x, y in ((1, 2), (-2, 1), (-1, -2), (2, -1), (3, 4), (-5, 4))),
+    *(fitting(x, y, counter=1) for x, y in ((2, 1), (-1, 2), (-2, -1), (1, -2), (4, 3), (-4, 5))),
+    # each plane, beside a third axis
+    *(fitting(x, y, plane=plane, counter=counter, axes=7, at=(7, -8, 9)) for plane in (0, 1, 2) for counter in (0, 1) for x, y in ((2, 0), (-1, 3))),
+    # several rounds, a part of one, no pulse, one pulse
+    fitting(2, 1, length=50),
+    fitting(7, -3, length=20, counter=1, speed=30),
+    fitting(7, -3, length=0),
+    fitting(0, 9, length=1, speed=10000),
+    # D is unused
+    *(circle((*GOOD[:2], d, *GOOD[3:])) for d in (LOW, HIGH, -1)),
+    # large ones: the first and the last pulses
+    fitting(0, -1, length=HIGH, few=5),
+    fitting(4000000, 0, length=1000000, counter=1, few=4),
+    fitting(2700000, 2700000, length=300000, few=4),
+    fitting(-3999999, 17, length=70000, few=4, at=(0, HIGH - 4000017, 0)),
+    # 9: the centre plus or minus the whole part of the radius plus one, each side by itself
+    *(near(x, y, *c, plane=plane) for plane, x, y in ((0, 3, 4), (1, 1, 1), (2, -2, 2))
+      for r in (reach(x, y),) for c in ((HIGH - r, 0), (HIGH - r + 1, 0), (LOW + r, 0), (LOW + r - 1, 0), (0, HIGH - r), (0, HIGH - r + 1), (0, LOW + r), (0, LOW + r - 1))),
+    circle(circle_of(0, 600, 0, 4000000, 4000000)),
+    # 3: a plane whose axes are not set
+    *(circle(GOOD, axes=axes, plane=plane) for axes, plane in ((0, 0), (1, 0), (1, 1), (3, 1), (3, 2), (7, 2))),
+    circle((HIGH + 1, 29, 0, 0, 0, 0, 0), axes=1),
+    # 1: the arc length, D, the start, directions that are none, directions that do not fit
+    *(circle((*GOOD[:i], n, *GOOD[i + 1:])) for i, n in ((0, -1), (0, HIGH + 1), (2, LOW - 1), (2, HIGH + 1), (3, 4000001), (3, -4000001), (4, 4000001), (4, -4000001),
+                                                        (5, 0), (5, 2), (6, 0), (6, -2))),
+    circle((3, 600, 0, 0, 0, 1, -1)),
+    *(circle((3, 600, 0, x, y, a, b), counter=counter) for counter in (0, 1) for x, y in ((3, 4), (2, 0), (0, -1)) for a in (1, -1) for b in (1, -1)),
+    circle((3, 29, 0, 3, 4, -1, -1)),
+    # D before 9, and the last speeds
+    *(circle((3, v, 0, 3, 4, 1, -1)) for v in (29, 30, 10000, 10001)),
+    circle((3, 29, 0, 4000000, 4000000, 1, -1)),
+]
+
+
 def phases(axes, three, absolute, at, origin, words):
     """The phases as distances and a speed, or None where a resting point leaves 24 bits or the numbers are no movement's."""
     pairs = {1: 1, 3: 2, 7: 4}[axes]
@@ -126,11 +187,42 @@ def shown(axes, three, absolute, at, origin, words, few):
     return [f"N {total}", "S 1 0"] + [pulse(plan, i) for i in wanted] + ["S 1 0", f"E {end}", f"R {end}"]
 
 
+def test_103(plane, at, numbers, point):
+    """Whether a circle planned at one place passes 103 at another, and one count beside on the y axis."""
+    _, _, _, x, y, *_ = numbers
+    told = []
+    for p in (point, [point[0], (point[1] - LOW ^ 1) + LOW, point[2]]):
+        where = [p[i] - c for i, c in zip(PLANES[plane], centre(plane, at, x, y))]
+        told.append(where != [0, 0] and all(abs(n) <= reach(x, y) for n in where))
+    return "S " + " ".join(str(int(t)) for t in told)
+
+
+def shown_circle(axes, plane, counter, at, numbers, few):
+    refused = refusal(axes, plane, counter == 1, at, numbers)
+    if refused:
+        return [refused]
+    length, speed, _, x, y, *_ = numbers
+    first, second = PLANES[plane]
+    middle = centre(plane, at, x, y)
+    value, point, out = x * x + y * y, list(at), []
+    for k in range(length):
+        a, b = turned(counter == 1, value, point[first] - middle[0], point[second] - middle[1])
+        point[first], point[second] = point[first] + a, point[second] + b
+        if k < few or k >= length - few:
+            signs = ["."] * 3
+            signs[first], signs[second] = "-.+"[a + 1], "-.+"[b + 1]
+            out.append(f"P {''.join(signs)} {speed}")
+    return ([f"N {length}", f"C {middle[0]} {middle[1]}", test_103(plane, at, numbers, at)] + out
+            + [test_103(plane, at, numbers, point), "E " + " ".join(str(n) for n in point)])
+
+
 def files():
-    lines = [str(len(CASES))]
+    lines = [str(len(CASES) + len(CIRCLES))]
     for axes, three, absolute, at, origin, words, few in CASES:
         lines.append(" ".join(str(n) for n in (axes, three, absolute, *at, *origin, *words, few)))
-    out = [line for c in CASES for line in shown(*c)]
+    for axes, plane, counter, at, numbers, few in CIRCLES:
+        lines.append(" ".join(str(n) for n in (axes, 0, 2, *at, plane, -counter, 0, *numbers, 0, few)))
+    out = [line for c in CASES for line in shown(*c)] + [line for c in CIRCLES for line in shown_circle(*c)]
     folder = "crates/motion_pulses/"
     return {folder + "stdin": "\n".join(lines) + "\n", folder + "stdout": "\n".join(out) + "\n"}
 

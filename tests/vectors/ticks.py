@@ -1,14 +1,18 @@
 #!/usr/bin/env python3
 """Writes crates/engine_ticks/stdin and stdout: steps on an engine, and every answer of its clock calls by 01's sentences
-and those of 02, §6.
+and those of 02, §3 and §6.
 
-An independent model: signed numbers, quotients, lists of pulses made beforehand, a stack of open loops; it knows neither counts nor
-words nor the code's jobs. Run in the root of the repository: `python3 tests/vectors/ticks.py` writes both files, `--check` compares.
+An independent model: signed numbers, quotients, lists of pulses made beforehand, circles around a centre, a stack of open loops; it knows
+neither counts nor words nor the code's jobs. Run in the root of the repository: `python3 tests/vectors/ticks.py` writes both files,
+`--check` compares.
 """
+import math
 import sys
 
+from circle_rule import PLANES, centre, circle_of, reach, refusal, right_arc, turned
+
 LOW, HIGH = -8388608, 8388607
-CODES = {ord(c): c for c in "0mnz3512"}
+CODES = {ord(c): c for c in "0mnz3512efy"}
 
 
 # ---- records
@@ -30,9 +34,15 @@ def right(axes, code, numbers):
         if c == "m" and n == 4 and ways[3] != 0:
             return False
         return all(LOW <= d <= HIGH for d in ways) and all(30 <= v <= 10000 for v in speeds)
+    if c == "y":
+        return len(numbers) == 7 and right_arc(numbers) and 30 <= numbers[1] <= 10000
     if len(numbers) != (2 if c in "32" else 1):
         return False
     a = numbers[0]
+    if c == "e":
+        return a in (0, 1, 2)
+    if c == "f":
+        return a in (0, -1)
     if c == "n":
         return 1 <= a <= min(7, axes)
     if c == "z":
@@ -84,14 +94,52 @@ def pulses(axes, three, absolute, at, origin, numbers):
     return out
 
 
+# ---- circles
+
+class Arc:
+    """An arc under way: its pulses go by where the axes of its plane stand."""
+
+    def __init__(self, engine, numbers):
+        self.engine, self.axes, self.counter = engine, PLANES[engine.plane], engine.counter
+        self.left, self.speed, _, x, y, *_ = numbers
+        self.value, self.reach = x * x + y * y, reach(x, y)
+        self.centre = centre(engine.plane, engine.at, x, y)
+
+    def __bool__(self):
+        return self.left > 0
+
+    def point(self):
+        return [self.engine.at[i] - c for i, c in zip(self.axes, self.centre)]
+
+    def pop(self, _):
+        self.left -= 1
+        signs = [0, 0, 0]
+        for i, s in zip(self.axes, turned(self.counter, self.value, *self.point())):
+            signs[i] = s
+        return signs, self.speed
+
+    def sound(self):
+        return self.point() != [0, 0] and all(abs(n) <= self.reach for n in self.point())
+
+
+def arc(engine, axes, numbers):
+    """The arc that a circle's line or record gives, or the character that refuses it."""
+    refused = refusal(axes, engine.plane, engine.counter, engine.at, numbers)
+    return refused or Arc(engine, numbers)
+
+
 # ---- the engine
 
 class Engine:
     def __init__(self, axes, store, table):
         self.store, self.table = store, table
-        self.axes, self.at, self.origin, self.three = axes, [0, 0, 0], [0, 0, 0], False
+        self.set_axes(axes)
         self.used, self.records, self.held = 0, 0, 0
         self.stop()
+
+    def set_axes(self, axes):
+        self.axes, self.at, self.origin, self.three = axes, [0, 0, 0], [0, 0, 0], False
+        self.plane, self.counter = 0, False
 
     def stop(self):
         self.mode, self.left, self.pauses, self.place, self.loops, self.wait = "idle", [], 0, 0, [], None
@@ -100,6 +148,8 @@ class Engine:
         return self.mode in ("direct", "program") and self.wait is None
 
     def sound(self):
+        if isinstance(self.left, Arc) and not self.left.sound():
+            return False
         return self.used <= 16384 and self.records <= 1000 and len(self.loops) <= 7 and self.axes in (0, 1, 3, 7) and self.held in (0, 1, 3, 7)
 
     def fetch(self):
@@ -145,12 +195,13 @@ class Engine:
     def record(self, code, numbers):
         own = self.place
         a = numbers[0]
+        self.left = []
         if code in "32":
             return self.turn(code, own, a, own + numbers[1])
-        if code in "0m":
-            left = pulses(self.held, self.three, code == "m", self.at, self.origin, numbers)
-            if left is None:
-                return self.ends(ord("9"))
+        if code in "0my":
+            left = arc(self, self.held, numbers) if code == "y" else pulses(self.held, self.three, code == "m", self.at, self.origin, numbers)
+            if left is None or isinstance(left, str):
+                return self.ends(ord(left or "9"))
             self.place += 1
             self.left = left
             return self.pulse() if left else "D"
@@ -159,6 +210,10 @@ class Engine:
             self.origin = [p if a >> i & 1 else o for i, (p, o) in enumerate(zip(self.at, self.origin))]
         if code == "z":
             self.three = a == 1
+        if code == "e":
+            self.plane = a
+        if code == "f":
+            self.counter = a == -1
         if code == "5" and a > 0:
             self.pauses = a - 1
             return "W"
@@ -192,9 +247,11 @@ class Engine:
             self.wait = None
 
     def begin(self, absolute, numbers):
-        left = pulses(self.axes, self.three, absolute, self.at, self.origin, numbers)
-        if left is None:
-            return 57
+        return self.directly(pulses(self.axes, self.three, absolute, self.at, self.origin, numbers))
+
+    def directly(self, left):
+        if left is None or isinstance(left, str):
+            return ord(left or "9")
         if not left:
             return 48
         self.mode, self.left = "direct", left
@@ -202,7 +259,8 @@ class Engine:
 
     def shown(self):
         held = [self.used, self.records, self.held]
-        return "E " + " ".join(str(n) for n in self.at + self.origin + [int(self.three)] + held + [int(self.runs()), int(self.sound())])
+        modes = [int(self.three), self.plane, -int(self.counter)]
+        return "E " + " ".join(str(n) for n in self.at + self.origin + modes + held + [int(self.runs()), int(self.sound())])
 
 
 # ---- steps: each is a line of eleven numbers, and what it prints
@@ -258,6 +316,29 @@ class Script:
         self.step(7, absolute, 0, *numbers)
         self.out.append(f"B {self.e.begin(absolute == 1, numbers)}")
 
+    def plane(self, number):
+        self.step(19, number)
+        self.e.plane = number
+
+    def direction(self, number):
+        self.step(20, number)
+        self.e.counter = number == -1
+
+    def circle(self, *numbers):
+        self.step(21, 0, 0, *numbers)
+        self.out.append(f"B {self.e.directly(arc(self.e, self.e.axes, numbers))}")
+
+    def tried(self, *numbers):
+        """A circle, and its first pulse if it has one."""
+        self.circle(*numbers)
+        if self.e.mode == "direct":
+            self.calls(1)
+            self.cease()
+
+    def axes(self, number):
+        self.step(22, number)
+        self.e.set_axes(number)
+
     def poke(self, at, byte):
         self.step(8, at, byte)
         self.store[at] = byte
@@ -297,7 +378,7 @@ class Script:
         if e.mode == "storing":
             e.used = e.records = e.held = 0
         e.stop()
-        e.axes, e.at, e.origin, e.three = 0, [0, 0, 0], [0, 0, 0], False
+        e.set_axes(0)
 
     def empty(self):
         self.step(15)
@@ -501,6 +582,202 @@ def altered(s):
     s.show()
 
 
+# starts on the axes, on the diagonals, and others
+STARTS = ((2, 0), (0, 2), (-2, 0), (0, -2), (1, 0), (0, 1), (-1, 0), (0, -1), (1, 1), (-1, 1), (1, -1), (-1, -1), (3, 4), (-5, 2), (2, -7))
+
+
+def circles(s):
+    # 02's own: Y+, X-, Y+, X-
+    s.fresh(3)
+    s.direction(-1)
+    s.circle(4, 600, 0, 2, 0, -1, 1)
+    s.calls(6)
+    s.show()
+    # every start both ways round, a pulse or two past the whole circle
+    for direction in (0, -1):
+        s.fresh(3)
+        s.direction(direction)
+        for i, (x, y) in enumerate(STARTS):
+            whole = 4 * (abs(x) + abs(y)) + i % 3
+            s.circle(*circle_of(whole, 30 + i, direction, x, y))
+            s.calls(whole + 2)
+            s.show()
+    # every plane, beside a third axis that does not rest at 0; 3D is not looked at
+    for plane in (0, 1, 2):
+        for direction in (0, -1):
+            s.fresh(7)
+            s.begin(0, 1, 600, -2, 600, 3, 600, 0, 600)
+            s.calls(7)
+            s.three(plane % 2)
+            s.plane(plane)
+            s.direction(direction)
+            for x, y in ((3, 0), (0, -3), (-2, 2), (1, -2)):
+                s.circle(*circle_of(9, 10000, direction, x, y))
+                s.calls(10)
+            s.show()
+    # the directions sent: one pair fits each start
+    for direction in (0, -1):
+        s.fresh(3)
+        s.direction(direction)
+        for x, y in ((2, 0), (0, 2), (-2, 0), (0, -2), (1, 0), (0, -1), (5, 3), (-5, 3)):
+            for a in (1, -1):
+                for b in (1, -1):
+                    s.tried(3, 600, 0, x, y, a, b)
+        s.show()
+    refused_circles(s)
+    # plane and direction stay until axes are set or a reset
+    s.fresh(7)
+    s.plane(2)
+    s.direction(-1)
+    s.circle(*circle_of(20, 600, -1, 3, 3))
+    s.calls(7)
+    s.cease()
+    s.show()
+    s.axes(3)
+    s.show()
+    s.circle(*circle_of(5, 600, 0, 0, 1))
+    s.calls(6)
+    s.plane(1)
+    s.direction(-1)
+    s.show()
+    s.reset()
+    s.show()
+    # 103: another point within the bounds, one beyond them, the centre; also after the last pulse
+    for far, start, length in ((5, 2, 0), (5, 2, 1), (6, 2, 1), (6, 2, 2), (3, 3, 1)):
+        s.fresh(3)
+        s.begin(0, far, 600, 0, 600)
+        s.calls(far + 1)
+        s.circle(*circle_of(length + 1, 600, 0, start, 0))
+        s.calls(length)
+        s.show()
+        for axes in (1, 2):
+            s.zero(axes)
+            s.show()
+        s.cease()
+        s.show()
+    s.fresh(3)
+    s.begin(0, 5, 600, 0, 600)
+    s.calls(6)
+    s.circle(*circle_of(5, 600, -1, 2, 0)[:5], -1, -1)
+    s.calls(2)
+    s.zero(1)
+    s.show()
+    s.calls(4)
+    s.show()
+
+
+def refused_circles(s):
+    """3, 1, D and 9, each before the next; the last numbers that are allowed."""
+    for axes in (0, 1, 3, 7):
+        s.fresh(axes)
+        for plane in (0, 1, 2):
+            s.plane(plane)
+            s.circle(2, 600, 0, 1, 0, -1, -1)
+            s.calls(3)
+            s.circle(2, 29, 0, 0, 0, 1, 1)
+        s.show()
+    s.fresh(3)
+    good = (2, 600, 0, 5, 5, 1, -1)
+    for i, n in ((0, -1), (0, HIGH + 1), (0, HIGH), (0, 0), (2, LOW - 1), (2, LOW), (2, HIGH), (2, HIGH + 1), (1, 29), (1, 30), (1, 10000), (1, 10001),
+                 (3, 4000000), (3, 4000001), (4, 4000000), (4, 4000001), (5, 0), (5, 2), (5, -1), (6, 0), (6, 1), (6, -2)):
+        s.tried(*good[:i], n, *good[i + 1:])
+    s.circle(2, 29, 0, 5, 5, -1, -1)
+    s.circle(2, 29, 0, 4000000, 4000000, 1, -1)
+    s.circle(2, 600, 0, 0, 0, 1, -1)
+    s.circle(0, 29, 0, 5, 5, 1, -1)
+    s.circle(0, 600, 0, 4000000, 4000000, 1, -1)
+    s.circle(0, 600, 0, 5, 5, -1, -1)
+    s.circle(0, 600, 0, 5, 5, 1, -1)
+    s.show()
+    # 9: the least start on the other axis with which the bounds leave 24 bits, and the one before it
+    s.zero(3)
+    for x in (4000000, -4000000):
+        room = HIGH - abs(x) - 1 if x < 0 else -LOW - x - 1
+        y = math.isqrt((room + 1) ** 2 - x * x)
+        while math.isqrt(x * x + y * y) <= room:
+            y += 1
+        for n in (y - 1, y, 1 - y, -y):
+            s.tried(*circle_of(HIGH, 600, 0, x, n))
+            s.zero(3)
+            s.tried(*circle_of(HIGH, 600, 0, n, x))
+            s.zero(3)
+    s.show()
+
+
+def circle_programs(s):
+    # plane and direction of the program stay after it; a circle of no pulse takes one call; a circle of several rounds
+    s.fresh(7)
+    s.program(("e", 1), ("f", -1), ("y", *circle_of(5, 600, -1, 2, 1)), ("y", *circle_of(0, 600, -1, 2, 1)), ("1", 65), ("e", 2), ("y", *circle_of(3, 700, -1, 0, 1)))
+    s.start()
+    s.calls(14)
+    s.show()
+    s.start()
+    s.calls(9)
+    s.hear(65)
+    s.cease()
+    s.show()
+    s.axes(3)
+    s.start()
+    s.calls(14)
+    s.show()
+    s.fresh(3)
+    s.program(("y", *circle_of(12, 600, 0, 0, 3)), ("3", 2, -1), ("0", 1, 600, 1, 600), ("n", 3), ("f", -1), ("y", *circle_of(4, 30, -1, -1, 0)), ("5", 1))
+    s.start()
+    s.calls(50)
+    s.show()
+    s.program(("2", 65, 2), ("f", -1), ("y", *circle_of(2, 600, 0, 1, 1)), ("5", 2), ("z", 1), ("y", *circle_of(2, 600, 0, 1, 1)))
+    s.start()
+    s.calls(2)
+    s.hear(65)
+    s.calls(9)
+    s.direction(0)
+    s.start()
+    s.calls(1)
+    s.hear(65)
+    s.calls(9)
+    s.start()
+    s.calls(1)
+    s.hear(66)
+    s.calls(3)
+    s.show()
+    # 3, 1 and 9 end the program where it stands, and keep the store
+    unfit, far = (2, 600, 0, 1, 1, -1, 1), (2, 600, 0, 4000000, 4000000, 1, -1)
+    for records in ((("e", 1), ("y", *circle_of(2, 600, 0, 1, 1))), (("e", 2), ("y", *unfit)), (("e", 2), ("y", *far)), (("y", *unfit),), (("y", *far),),
+                    (("f", -1), ("y", *circle_of(2, 600, 0, 1, 1))), (("y", 2, 600, 0, 4000000, 4000000, 1, 1),), (("y", *circle_of(2, 600, 0, 1, 1)), ("f", -1), ("3", 1, -2))):
+        s.fresh(3)
+        s.program(("0", 1, 600, 0, 600), *records, ("1", 33))
+        s.start()
+        s.calls(7)
+        s.show()
+        s.start()
+        s.calls(3)
+        s.cease()
+    for axes in (0, 1, 3, 7):
+        s.fresh(axes)
+        s.program(("e", 2), ("f", -1), ("y", *circle_of(2, 600, -1, 1, 1)))
+        s.start()
+        s.calls(5)
+        s.show()
+    # what a host altered: plane, direction, code, count, arc length, speed, D, start, directions; the store's axes
+    good = (("e", 0), ("f", 0), ("y", *circle_of(300, 285, 0, 0, 5)))
+    s.fresh(3)
+    s.program(*good)
+    for at, byte in ((4, 3), (12, 1), (18, 102), (19, 6), (19, 8), (23, 128), (22, 128), (25, 0), (25, 39), (31, 1), (30, 127), (30, 128), (36, 0), (38, 61),
+                     (38, 62), (40, 0), (40, 2), (44, 1)):
+        before = s.store[at]
+        s.poke(at, byte)
+        s.start()
+        s.calls(4)
+        s.show()
+        s.poke(at, before)
+        s.hold(48, 3, 3)
+    for axes in (0, 1, 2, 7):
+        s.hold(48, 3, axes)
+        s.start()
+        s.calls(4)
+        s.show()
+
+
 class Dice:
     """A fixed row of numbers."""
 
@@ -545,9 +822,40 @@ def mixed(s):
         s.show()
 
 
+def some_circles(d, axes, n):
+    """Records with circles; most of them fit the direction set last before them."""
+    out, counter = [], False
+    for i in range(n):
+        kind = d.roll(6)
+        if kind == 0:
+            out.append(("e", 0 if axes == 3 and d.roll(5) else d.roll(3)))
+        elif kind == 1:
+            counter = not counter
+            out.append(("f", -int(counter)))
+        elif kind < 5:
+            x, y = d.roll(11) - 5, d.roll(11) - 5
+            out.append(("y", *circle_of(d.roll(9), 30 + d.roll(900), counter != (d.roll(8) == 0), x or 1, y)))
+        else:
+            out.append(some_record(d, axes, i, n))
+    return out
+
+
+def mixed_circles(s):
+    d = Dice(20140501)
+    for axes in (3, 7) * 9:
+        s.fresh(axes)
+        n = 2 + d.roll(7)
+        s.program(*some_circles(d, axes, n))
+        s.start()
+        for _ in range(3):
+            s.calls(12 + d.roll(20))
+            s.hear(65 + d.roll(2))
+        s.show()
+
+
 def files():
     s = Script()
-    for part in (directs, programs, altered, mixed):
+    for part in (directs, programs, altered, mixed, circles, circle_programs, mixed_circles):
         part(s)
     folder = "crates/engine_ticks/"
     text = f"{len(s.lines)}\n" + "\n".join(s.lines) + "\n"

@@ -1,6 +1,6 @@
 """How the cases for `walk` are written down.
 
-Nothing here runs a board: replies are written by hand, and pulses by the paper's formula.
+Nothing here runs a board: replies and the pulses of arcs are written by hand, other pulses by the paper's formula.
 `lines` ends each line with a carriage return; `R(text)` is one `R` line per reply.
 """
 CASES = []
@@ -30,6 +30,11 @@ def P(d, speed):
             signs += "." if step == 0 else "+" if v > 0 else "-"
         printed.append("P %s %d" % (signs, speed))
     return printed
+
+
+def T(moves, speed=600):
+    """The pulses of an arc, which are worked out by hand: `x- y+` and so on."""
+    return ["P %s %d" % ("".join(m[1] if a == m[0] else "." for a in "xyz"), speed) for m in moves.split()]
 
 
 def all_reply(reply, *texts):

@@ -28,8 +28,8 @@ case("shape", "`@0`, a letter, at most one space, numbers parted by commas with 
      lines("@07") + given, ["R 0"] + said)
 
 given, said = all_reply(
-    "5", *["@0" + c + "1" for c in "CcDdEeFfGgHhIJjKLlOopQqRrTtUuVvWwXxYyZ"], "@0N1\n", "@0!", "@0~", "9", "0 1,600", "z1")
-case("letters", "only A a M m S s n N z P b B i k are letters; storing codes are none here",
+    "5", *["@0" + c + "1" for c in "CcDdEFGgHhIJjKLlOopQqRrTtUuVvWwXxYZ"], "@0N1\n", "@0!", "@0~", "9", "0 1,600", "z1")
+case("letters", "only A a M m S s n N z P b B i k e f y are letters; storing codes are none here",
      lines("@07") + given, ["R 0"] + said)
 
 case("small_letters", "A, M and S may be small; the others may not",

@@ -3,6 +3,8 @@
 import os
 
 import group_check
+import group_circles
+import group_circles_stored
 import group_lines
 import group_long
 import group_movement

@@ -7,32 +7,23 @@ those is not made here as well. Reads standard input, writes standard output.
 import re
 import sys
 
-LOW, HIGH, LIMIT = -8388608, 8388607, 100000
-DIRECT = re.compile(rb"@0(?:([AaMmSsnNzPbBik])( ?-?\d{1,8}(?:, ?-?\d{1,8})*)?|(-?\d{1,8}(?:, ?-?\d{1,8})*))\Z")
-STORED = re.compile(rb"(?:(9)|([0mnz3512])( ?-?\d{1,8}(?:, ?-?\d{1,8})*)?)\Z")
-PAIRS = {1: 1, 3: 2, 7: 4}
+import oracle_arc as arc
+from oracle_check import faults
+from oracle_right import HIGH, LOW, Refused, refuse, right, within
 
-
-class Refused(Exception):
-    pass
-
-
-def refuse(wrong, reply):
-    if wrong:
-        raise Refused(reply)
+LIMIT = 100000
+DIRECT = re.compile(rb"@0(?:([AaMmSsnNzPbBikefy])( ?-?\d{1,8}(?:, ?-?\d{1,8})*)?|(-?\d{1,8}(?:, ?-?\d{1,8})*))\Z")
+STORED = re.compile(rb"(?:(9)|([0mnz3512efy])( ?-?\d{1,8}(?:, ?-?\d{1,8})*)?)\Z")
 
 
 def numbers(text):
     return [int(v) for v in text.split(b",")] if text else []
 
 
-def within(v, low, high):
-    return low <= v <= high
-
-
 class Board:
     def __init__(self, program=(), program_axes=0):
         self.axes, self.three = 0, False
+        self.plane, self.direction = 0, 0
         self.at, self.origin = [0, 0, 0], [0, 0, 0]
         self.line = b""
         self.storing = None
@@ -71,9 +62,22 @@ class Board:
                 step = "".join("-.+"[self.at[a] - before[a] + 1] for a in range(3))
                 yield "P %s %d" % (step, speed)
 
-    def movement(self, phases):
-        yield from self.pulses(phases)
+    def movement(self, pulses):
+        yield from pulses
         yield "R 0"
+
+    # Circles: the refusals that depend on the board, and the pulses of an arc, which are worked out as they are made.
+    def arc(self, v):
+        """The axes and the pulses of an arc, or 9. Its plane fits and its directions are right."""
+        axes = arc.PLANES[self.plane]
+        refuse(arc.leaves([self.at[a] for a in axes], v[3:5], LOW, HIGH), "9")
+        return self.round(axes, arc.path(v[3:5], self.direction), v[0], v[1])
+
+    def round(self, axes, path, length, speed):
+        for _ in range(length):
+            which, sign = next(path)
+            self.at[axes[which]] += sign
+            yield "P %s %d" % ("".join("." if a != axes[which] else "-.+"[sign + 1] for a in range(3)), speed)
 
     # A program: each yield is one clock call; a yield of WAIT is none and gets the byte.
     def run(self):
@@ -88,6 +92,15 @@ class Board:
                     yield "R 9"
                     return
                 yield from self.pulses(phases) if phases else [None]
+            elif code == "y":
+                try:
+                    refuse(not arc.fits(self.plane, self.program_axes), "3")
+                    refuse(v[5:] != arc.expected(v[3:5], self.direction), "1")
+                    pulses = self.arc(v)
+                except Refused as refused:
+                    yield "R " + refused.args[0]
+                    return
+                yield from pulses if v[0] else [None]
             elif code == "5":
                 yield from [None] * max(1, v[0])
             elif code == "1":
@@ -103,11 +116,15 @@ class Board:
         yield "R 0"
 
     def plain(self, code, v, place, loops):
-        """Runs n, z, a jump or a loop, and says how far to go; open loops are [place, backs made]."""
+        """Runs n, z, e, f, a jump or a loop, and says how far to go; open loops are [place, backs made]."""
         if code == "n":
             self.set_origin(v[0])
         elif code == "z":
             self.three = v[0] == 1
+        elif code == "e":
+            self.plane = v[0]
+        elif code == "f":
+            self.direction = v[0]
         elif v[0] == 0:
             return v[1]
         else:
@@ -149,23 +166,6 @@ class Board:
             self.line += bytes([byte])
         return ""
 
-    def right(self, code, v, axes):
-        """The tests 7, 3, 1, D of a movement, n, z or another record."""
-        count = {"n": 1, "z": 1, "3": 2, "5": 1, "1": 1, "2": 2}.get(code, 2 * PAIRS[axes])
-        refuse(len(v) != count, "7")
-        if code == "n":
-            refuse(v[0] not in [m for m in range(1, 8) if m | axes == axes], "3")
-        elif code in "0m":
-            refuse(any(not within(d, LOW, HIGH) for d in v[0::2]), "1")
-            refuse(code == "m" and axes == 7 and v[6] != 0, "1")
-            refuse(any(not within(s, 30, 10000) for s in v[1::2]), "D")
-        elif code == "3":
-            refuse(not within(v[0], 0, 32767) or not within(v[1], -32768, 32767 if v[0] == 0 else -1), "1")
-        else:
-            low, high = {"z": (0, 1), "5": (0, 65535)}.get(code, (33, 126))
-            refuse(not within(v[0], low, high), "1")
-            refuse(code == "2" and not within(v[1], -32768, 32767), "1")
-
     def stored(self, line):
         shape = STORED.match(line)
         refuse(not shape, "5")
@@ -177,7 +177,7 @@ class Board:
                 raise Refused("G%s%04d" % min(found, key=lambda fault: (fault[1], fault[0])))
             return "0"
         code, v = shape[2].decode(), numbers(shape[3])
-        self.right(code, v, self.program_axes)
+        right(code, v, self.program_axes)
         used = sum(4 + 4 * len(w) for _, w in self.storing)
         refuse(len(self.storing) == 1000 or used + 4 + 4 * len(v) > 16384, "6")
         self.storing.append((code, v))
@@ -189,21 +189,22 @@ class Board:
         letter = (shape[1] or b"").decode()
         letter = letter.upper() if letter in "ams" else letter
         v = numbers(shape[2] or shape[3])
-        refuse(letter and letter in "AMnNziS" and not self.axes, "4")
-        if letter and letter in "AMnNz":
-            self.right({"A": "0", "M": "m", "N": "n"}.get(letter, letter), v, self.axes)
+        refuse(letter and letter in "AMnNziSefy" and not self.axes, "4")
+        if letter and letter in "AMnNzefy":
+            right({"A": "0", "M": "m", "N": "n"}.get(letter, letter), v, self.axes, (self.plane, self.direction))
         else:
             refuse(len(v) != {"": 1, "b": 1, "B": 2}.get(letter, 0), "7")
         if letter and letter in "AM":
             phases = self.phases(letter == "M", v, self.axes)
             if phases:
-                self.job = self.movement(phases)
+                self.job = self.movement(self.pulses(phases))
             return "" if phases else "0"
         return getattr(self, "line_" + (letter or "axes"))(*v)
 
     def line_axes(self, value):
         refuse(value not in (1, 3, 7), "3")
         self.axes, self.three, self.at, self.origin = value, False, [0, 0, 0], [0, 0, 0]
+        self.plane, self.direction = 0, 0
         return "0"
 
     def line_n(self, mask):
@@ -219,6 +220,20 @@ class Board:
     def line_z(self, value):
         self.three = value == 1
         return "0"
+
+    def line_e(self, plane):
+        self.plane = plane
+        return "0"
+
+    def line_f(self, direction):
+        self.direction = direction
+        return "0"
+
+    def line_y(self, *v):
+        pulses = self.arc(list(v))
+        if v[0]:
+            self.job = self.movement(pulses)
+        return "" if v[0] else "0"
 
     def line_P(self):
         return "0" + "".join("%06X" % (p % 2 ** 24) for p in self.at)
@@ -253,24 +268,6 @@ class Board:
             self.waiting = self.answer is self
         except StopIteration:
             self.job = None
-
-
-def faults(program):
-    """The check at 9: every fault as its letter and place, each condition looked at by itself, with sets of ranges."""
-    ranges, ways = {}, []
-    for place, (code, v) in enumerate(program):
-        if code == "3" and v[0] > 0:
-            ranges[place] = set(range(place + v[1], place + 1))
-        elif code in "32":
-            ways.append((place, place + v[1]))
-    holding = lambda p: [i for i, r in ranges.items() if p in r]
-    crossing = lambda i, j: ranges[i] & ranges[j] and not ranges[i] <= ranges[j] and not ranges[j] <= ranges[i]
-    reachable = lambda t: within(t, 0, len(program))
-    return ([("a", p) for p, t in ways if not reachable(t)]
-            + [("b", p) for p, r in ranges.items() if min(r) < 0]
-            + [("c", max(i, j)) for i in ranges for j in ranges if crossing(i, j)]
-            + [("d", p) for p in range(len(program)) if len(holding(p)) > 7]
-            + [("e", p) for p, t in ways if reachable(t) and holding(p) != holding(t)])
 
 
 def main():

@@ -94,25 +94,27 @@ impl Board {
         ensures { λ r. ⌜ r ≡ affected letter words ports self ⌝ }
     {
         let e = self.engine;
+        let w = words[0];
+        let named = low(w);
         match letter {
             Letter::Wrong => self.replies(e, b'5'),
-            Letter::Axes => self.replies(e.set_axes(low(words[0])), b'0'),
+            Letter::Axes => self.replies(e.set_axes(named), b'0'),
             Letter::Relative => self.begin(e.begin(false, words)),
             Letter::Absolute => self.begin(e.begin(true, words)),
-            Letter::Origin => self.replies(e.set_origin(low(words[0])), b'0'),
-            Letter::Zero => self.replies(e.set_zero(low(words[0])), b'0'),
-            Letter::Three => self.replies(e.set_three(words[0] == 1), b'0'),
+            Letter::Origin => self.replies(e.set_origin(named), b'0'),
+            Letter::Zero => self.replies(e.set_zero(named), b'0'),
+            Letter::Three => self.replies(e.set_three(w == 1), b'0'),
             Letter::Position => self.with_engine(e).says(Saying::Positions),
             Letter::Input => {
-                let byte = port_at(ports, words[0]);
+                let byte = port_at(ports, w);
                 self.with_engine(e).says(Saying::Port(byte))
             }
             Letter::Output => self.replies(e.set_output(low(words[1])), b'0'),
             Letter::Store => self.replies(e.store(), b'0'),
             Letter::Empty => self.replies(e.empty(), b'0'),
             Letter::Start => self.start(),
-            Letter::Plane => self.replies(e.set_plane(words[0]), b'0'),
-            Letter::Direction => self.replies(e.set_direction(words[0]), b'0'),
+            Letter::Plane => self.replies(e.set_plane(w), b'0'),
+            Letter::Direction => self.replies(e.set_direction(w), b'0'),
             Letter::Circle => self.begin(e.begin_circle(words)),
         }
     }

@@ -98,7 +98,7 @@ fn kind_of(t: Travel) -> Moving {
     }
 }
 
-pub(crate) fn moving(job: Job) -> Moving {
+pub(crate) fn under_way(job: Job) -> Moving {
     match job {
         Job::Idle => Moving::Nothing,
         Job::Storing => Moving::Nothing,

@@ -9,13 +9,11 @@ use Rattle.motion.specs.declared.Counters.{Counters}
 use Rattle.motion.specs.declared.Moved.{Moved}
 use Rattle.motion.specs.declared.Moved.the-variants as moved
 use Rattle.motion.specs.declared.Mark.{Mark}
-use Rattle.motion.specs.declared.Beat.{Beat}
 use Rattle.motion.specs.declared.Beaten.{Beaten}
 use Rattle.motion.specs.declared.Beaten.the-variants as beat
 use Rattle.motion.specs.Sound.{counted}
 use Rattle.motion.specs.Pulse.{stepTo}
 use Rattle.circle.specs.declared.Pair.{Pair}
-use Rattle.circle.specs.declared.Ways.{Ways}
 use Rattle.circle.specs.declared.Arc.{Arc}
 use Rattle.circle.specs.Rule.{pair, onPlane, onAxes, measure, waysAt, moveOf}
 

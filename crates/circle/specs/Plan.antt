@@ -1,6 +1,6 @@
 -- How a circle is planned from its line or record: its refusals in their order, and its arc (02, §3).
 use Prim.Native.Nat.{ℕ, zero, suc, _+_, _-_, _*_}
-use mathlib.Core.Bool.{Bool, not, _&&_, _||_}
+use mathlib.Core.Bool.{Bool, not, _&&_}
 use mathlib.Core.List.{List, [], _∷_}
 use lib.Dec.{ltb, leb, eqb}
 use lib.IntN.{pos}
@@ -8,7 +8,7 @@ use lib.ListN.{getD}
 use Rattle.count.specs.Chars.{ch}
 use Rattle.count.specs.Pick.{pick}
 use Rattle.count.specs.Paper.{Paper, says}
-use Rattle.count.specs.Numbers.{half, full, value, count, signed, word}
+use Rattle.count.specs.Numbers.{half, full, value, count, word}
 use Rattle.count.specs.Ranges.{names, nth, inSpeed, rightArc}
 use Rattle.motion.specs.declared.Sign.{Sign}
 use Rattle.motion.specs.declared.Sign.the-variants.{Minus, Rest, Plus}

@@ -1,5 +1,4 @@
 -- What 103 asks of an arc under way (02, §3, last sentence; 01, "Calls", row 103, on speeds).
-use Prim.Native.Nat.{ℕ}
 use mathlib.Core.Bool.{Bool, not, _&&_}
 use lib.Dec.{leb, eqb}
 use Rattle.count.specs.Pick.{pick}

@@ -3,7 +3,7 @@ ghost use mathlib.Core.Path.{_≡_};
 ghost use Prim.Native.Nat.{_≤_, _<_, _*_};
 ghost use Rattle.count.specs.Numbers.{far};
 ghost use Rattle.motion.specs.Phase.{moved};
-ghost use Rattle.circle.specs.Rule.{pair, ways, onPlane, onAxes, side, measure, against, turning, waysAt, rests, shifted, off, moveOf};
+ghost use Rattle.circle.specs.Rule.{onPlane, onAxes, side, measure, against, turning, waysAt, rests, shifted, off, moveOf};
 use super::Direction;
 use super::Pair;
 use super::Plane;

@@ -1,5 +1,5 @@
 -- The ranges that lines and records ask of their numbers (01, "Lines": both tables and the paragraph under the second; 02, §3 for circles).
-use mathlib.Core.Bool.{Bool, true, false, not, _&&_, _||_}
+use mathlib.Core.Bool.{Bool, false, not, _&&_, _||_}
 use mathlib.Core.List.{List}
 use Prim.Native.Nat.{ℕ, _/_, _%_}
 use lib.Dec.{eqb}
@@ -84,7 +84,7 @@ rightSpeeds axes l =
     (pick (eqb axes 3) (inSpeed (nth l 1) && inSpeed (nth l 3))
     (pick (eqb axes 7) (inSpeed (nth l 1) && inSpeed (nth l 3) && inSpeed (nth l 5) && inSpeed (nth l 7)) false))
 
--- ---- the numbers of circles (02, §3, sentences 1, 2, 8 and 10, and the refusals)
+-- ---- the numbers of circles (02, §3: its first sentence, the one on starts and D, and the refusals)
 
 -- a plane: 0 to 2
 unfoldable pub inPlane : ℤ → Bool

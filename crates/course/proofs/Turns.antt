@@ -6,8 +6,8 @@ use mathlib.Core.List.{List, _++_}
 use native.Mathlib.Omega.{arith}
 use borrow.Rule.Slice.PartMut.{putMid}
 use lib.ListN.{length, take, drop}
-use Rattle.motion.specs.work.Here.{nextOf}
-use Rattle.motion.specs.declared.Move.{Move}
+use Rattle.travel.specs.declared.Travel.{Travel}
+use Rattle.travel.specs.work.Beat.{nextOf}
 use Rattle.record.specs.Memory.{Memory}
 use Rattle.record.specs.Table.{fetchOf}
 use Rattle.engine.specs.declared.Engine.{Engine}
@@ -86,7 +86,7 @@ module _ (e : Engine) (limit : ℕ) (out : List ℕ) where
   abbrev mapLeft : (Gone → Engine) → Left Gone → Left Engine
   mapLeft f x = record { state = f (x .state); calls = x .calls; len = x .len; out = x .out }
 
-  module _ {m : Move} {g : Glided} {d : Engine} {last : List ℕ} (q : G.glided g last ≡ G.gliding limit m (e .at) out) where
+  module _ {m : Travel} {g : Glided} {d : Engine} {last : List ℕ} (q : G.glided g last ≡ G.gliding limit m (e .at) out) where
     direct-left : e .run .job ≡ job.Direct m → d ≡ glided (g .at) (g .rest) e
         → _≡_ {A = Left Engine} (record { state = d; calls = g .calls; len = g .len; out = last }) (leftBy (glideJob (e .run .job) limit e) out)
     unfolding glideJob glided

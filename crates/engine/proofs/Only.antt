@@ -10,6 +10,7 @@ use Rattle.engine.proofs.Engine.runs.Reads as runs
 use Rattle.engine.proofs.Engine.sound.Reads as sound
 use Rattle.engine.proofs.Engine.hear.Reads as hear
 use Rattle.engine.proofs.Engine.begin.Reads as begin
+use Rattle.engine.proofs.Engine.begin_circle.Reads as begin-circle
 use Rattle.engine.proofs.Engine.start.Reads as start
 use Rattle.engine.proofs.Engine.cease.Reads as cease
 use Rattle.engine.proofs.Engine.reset.Reads as reset
@@ -17,6 +18,8 @@ use Rattle.engine.proofs.Engine.set_axes.Reads as set-axes
 use Rattle.engine.proofs.Engine.set_zero.Reads as set-zero
 use Rattle.engine.proofs.Engine.set_origin.Reads as set-origin
 use Rattle.engine.proofs.Engine.set_three.Reads as set-three
+use Rattle.engine.proofs.Engine.set_plane.Reads as set-plane
+use Rattle.engine.proofs.Engine.set_direction.Reads as set-direction
 use Rattle.engine.proofs.Engine.set_output.Reads as set-output
 use Rattle.engine.proofs.Engine.set_held.Reads as set-held
 use Rattle.engine.proofs.Engine.empty.Reads as empty
@@ -41,6 +44,9 @@ hear-one κs a r r′ s s′ p q = p ∙ sym q
 pub begin-one : (κs : _) (a : _) (r r′ : _) (s s′ : _) → begin.Post κs a r s → begin.Post κs a r′ s′ → r ≡ r′
 begin-one κs a r r′ s s′ p q = p ∙ sym q
 
+pub begin-circle-one : (κs : _) (a : _) (r r′ : _) (s s′ : _) → begin-circle.Post κs a r s → begin-circle.Post κs a r′ s′ → r ≡ r′
+begin-circle-one κs a r r′ s s′ p q = p ∙ sym q
+
 pub start-one : (κs : _) (a : _) (r r′ : _) (s s′ : _) → start.Post κs a r s → start.Post κs a r′ s′ → r ≡ r′
 start-one κs a r r′ s s′ p q = p ∙ sym q
 
@@ -61,6 +67,12 @@ set-origin-one κs a r r′ s s′ p q = p ∙ sym q
 
 pub set-three-one : (κs : _) (a : _) (r r′ : _) (s s′ : _) → set-three.Post κs a r s → set-three.Post κs a r′ s′ → r ≡ r′
 set-three-one κs a r r′ s s′ p q = p ∙ sym q
+
+pub set-plane-one : (κs : _) (a : _) (r r′ : _) (s s′ : _) → set-plane.Post κs a r s → set-plane.Post κs a r′ s′ → r ≡ r′
+set-plane-one κs a r r′ s s′ p q = p ∙ sym q
+
+pub set-direction-one : (κs : _) (a : _) (r r′ : _) (s s′ : _) → set-direction.Post κs a r s → set-direction.Post κs a r′ s′ → r ≡ r′
+set-direction-one κs a r r′ s s′ p q = p ∙ sym q
 
 pub set-output-one : (κs : _) (a : _) (r r′ : _) (s s′ : _) → set-output.Post κs a r s → set-output.Post κs a r′ s′ → r ≡ r′
 set-output-one κs a r r′ s s′ p q = p ∙ sym q

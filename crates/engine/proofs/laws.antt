@@ -4,6 +4,7 @@ pub mod Laws
 pub mod Kept
 pub mod Lines
 pub mod Fetches
+pub mod Endings
 pub mod Accepted
 pub mod Runs
 pub mod Work

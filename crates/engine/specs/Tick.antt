@@ -15,7 +15,7 @@ use Rattle.travel.specs.declared.Travel.{Travel}
 use Rattle.travel.specs.declared.Planned.{Planned}
 use Rattle.travel.specs.declared.Planned.the-variants as planned
 use Rattle.travel.specs.Next.{Next}
-use Rattle.travel.specs.Next.Next as next
+use Rattle.travel.specs.Next.Next.{Made, Over}
 use Rattle.travel.specs.Plan.{planOf, circleOf}
 use Rattle.record.specs.declared.Record.{Record}
 use Rattle.record.specs.Fault.{isMovement, isAbsolute}
@@ -69,8 +69,8 @@ onTo j e = withRun e (running j (e .run .place + 1) (e .run .loops))
 
 -- a movement's first pulse needs no call before it; one without a pulse takes one call
 abbrev pub moving : Next → Engine → Told
-moving (next.Made s) e = told (onTo (job.Moving (s .rest)) e) (answer.Pulse (s .signs) (s .speed))
-moving next.Over e = told (onTo job.Ready e) answer.Done
+moving (Made s) e = told (onTo (job.Moving (s .rest)) e) (answer.Pulse (s .signs) (s .speed))
+moving Over e = told (onTo job.Ready e) answer.Done
 
 -- it is planned as it is run, under the store's axes; 9, or a circle's 3 or 1, ends the program without a pulse of it and keeps the store
 abbrev pub movingBy : Rule → Planned → Engine → Told
@@ -115,13 +115,13 @@ fetched rule Wrong e = failed e
 
 -- a direct movement or circle sends 0 by one call after its last pulse
 abbrev pub directly : Next → Engine → Told
-directly (next.Made s) e = told (withJob e (job.Direct (s .rest))) (answer.Pulse (s .signs) (s .speed))
-directly next.Over e = finished (ch "0") e
+directly (Made s) e = told (withJob e (job.Direct (s .rest))) (answer.Pulse (s .signs) (s .speed))
+directly Over e = finished (ch "0") e
 
 -- one of a program with no pulse left gives way to the next record
 abbrev pub movingOn : Rule → Fetching → Next → Engine → Told
-movingOn rule fetch (next.Made s) e = told (withJob e (job.Moving (s .rest))) (answer.Pulse (s .signs) (s .speed))
-movingOn rule fetch next.Over e = fetched rule (fetch (e .run .place)) e
+movingOn rule fetch (Made s) e = told (withJob e (job.Moving (s .rest))) (answer.Pulse (s .signs) (s .speed))
+movingOn rule fetch Over e = fetched rule (fetch (e .run .place)) e
 
 -- idle, storing and waiting: nothing
 abbrev pub tickedBy : Rule → Fetching → Job → Engine → Told

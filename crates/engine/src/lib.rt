@@ -1,4 +1,5 @@
 // What runs: the state of axes, store and run, and one clock call on it. It knows no line, no stop and no standing.
+mod circles;
 mod records;
 mod sound;
 mod state;
@@ -21,8 +22,8 @@ pub enum Answer {
     Nothing,
 }
 
-// What is under way: nothing; storing; a direct movement or circle; a program between records, in a movement, in a delay with so many pauses after
-// the next one, or waiting for a character with its target.
+// What is under way: nothing; storing; a direct movement or circle; a program between records, in a movement or circle, in a delay with so
+// many pauses after the next one, or waiting for a character with its target.
 pub enum Job {
     Idle,
     Storing,

@@ -3,7 +3,6 @@ ghost use mathlib.Core.Path.{_≡_};
 ghost use Prim.Native.Nat.{_<_, _+_};
 ghost use lib.ListN.{getD};
 ghost use Rattle.motion.specs.Plan.{asked};
-ghost use Rattle.circle.specs.Plan.{planeOf, directionOf};
 ghost use Rattle.travel.specs.Plan.{planOf, circleOf};
 ghost use Rattle.travel.specs.work.Beat.{nextOf};
 ghost use Rattle.program.specs.Onward.{onwardOf};

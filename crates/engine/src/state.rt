@@ -2,20 +2,15 @@
 ghost use mathlib.Core.Path.{_≡_};
 ghost use Prim.Native.Nat.{_<_};
 ghost use Rattle.count.specs.Pick.{pick};
-ghost use Rattle.motion.specs.Plan.{asked};
-ghost use Rattle.circle.specs.Plan.{atFirst, planeOf, directionOf};
-ghost use Rattle.travel.specs.Plan.{planOf, circleOf};
 ghost use Rattle.program.specs.Onward.{noLoops};
 ghost use Rattle.engine.specs.work.Glide.{glided};
 ghost use Rattle.count.specs.Ranges.{names};
-ghost use Rattle.engine.specs.State.{withAt, withOrigin, withThree, withCircling, withPlane, withDirection, withOutput, withHeld, withRun, running, withJob, zeroes, mixed, axesOf, originOf, zeroOf, idle, ceased, started, nothingHeld, emptied, fresh, storingOf, keptBy, resetOf, heard, begun, begunBy, beginOf, circleBegun};
+ghost use Rattle.engine.specs.State.{withAt, withOrigin, withThree, withOutput, withHeld, withRun, running, withJob, zeroes, mixed, axesOf, originOf, zeroOf, idle, ceased, started, nothingHeld, emptied, fresh, storingOf, keptBy, resetOf, heard, begun, begunBy, beginOf, circleBegun};
 use super::Begun;
 use super::Engine;
 use super::Job;
 use super::Run;
-use circle::Circling;
-use circle::Direction;
-use circle::Plane;
+use super::circles::circling_first;
 use motion::Counters;
 use program::Loop;
 use program::Loops;
@@ -32,15 +27,6 @@ fn at_zero() -> Counters
         y: 8388608,
         z: 8388608,
     }
-}
-
-// Plane 0, clockwise.
-fn circling_first() -> Circling
-    ensures { λ r. ⌜ r ≡ atFirst ⌝ }
-{
-    let plane = Plane::XY;
-    let direction = Direction::Clockwise;
-    Circling { plane, direction }
 }
 
 fn no_loops() -> Loops
@@ -201,34 +187,6 @@ impl Engine {
         let mut e = self;
         e.three = on;
         e
-    }
-
-    fn with_circling(self, circling: Circling) -> Engine
-        ensures { λ r. ⌜ r ≡ withCircling self circling ⌝ }
-    {
-        let mut e = self;
-        e.circling = circling;
-        e
-    }
-
-    // The plane of circles, by its number.
-    pub fn set_plane(self, w: u32) -> Engine
-        ensures { λ r. ⌜ r ≡ withPlane (planeOf w) self ⌝ }
-    {
-        let circling = self.circling;
-        let direction = circling.direction;
-        let plane = circle::plane_of(w);
-        self.with_circling(Circling { plane, direction })
-    }
-
-    // Their direction, by its number.
-    pub fn set_direction(self, w: u32) -> Engine
-        ensures { λ r. ⌜ r ≡ withDirection (directionOf w) self ⌝ }
-    {
-        let circling = self.circling;
-        let plane = circling.plane;
-        let direction = circle::direction_of(w);
-        self.with_circling(Circling { plane, direction })
     }
 
     pub fn set_output(self, v: u8) -> Engine

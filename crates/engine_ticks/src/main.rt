@@ -1,6 +1,10 @@
 // Clock calls on programs of every kind. The first number says how many steps follow. Each is eleven numbers: its kind, then what it is
 // of; what a step prints stands at its function.
+use circle::Circling;
+use circle::Direction;
+use circle::Plane;
 use engine::Answer;
+use engine::Begun;
 use engine::Engine;
 use engine::Run;
 use libc::STDIN_FILENO;
@@ -93,13 +97,41 @@ fn show_answer(answer: Answer) {
     }
 }
 
-// E, the positions, the origins, 3D, the part in use, whether it runs and whether it passes 103.
+fn plane_byte(p: Plane) -> u8 {
+    match p {
+        Plane::XY => 48,
+        Plane::XZ => 49,
+        Plane::YZ => 50,
+    }
+}
+
+fn show_direction(d: Direction) {
+    match d {
+        Direction::Clockwise => {
+            io::write_all(STDOUT_FILENO, b" 0");
+        }
+        Direction::Counter => {
+            io::write_all(STDOUT_FILENO, b" -1");
+        }
+    }
+}
+
+fn show_circling(c: Circling) {
+    let plane = c.plane;
+    let bytes = [32, plane_byte(plane)];
+    io::write_all(STDOUT_FILENO, &bytes);
+    let direction = c.direction;
+    show_direction(direction);
+}
+
+// E, the positions, the origins, 3D, plane and direction, the part in use, whether it runs and whether it passes 103.
 fn show_engine(e: Engine) {
     let held = e.held;
     io::write_all(STDOUT_FILENO, b"E");
     show_point(e.at);
     show_point(e.origin);
     show_bool(e.three);
+    show_circling(e.circling);
     show_space();
     show_number(held.used as u32);
     show_space();
@@ -130,9 +162,8 @@ fn words_of(w: [u32; 11]) -> [u32; 8] {
     [w[3], w[4], w[5], w[6], w[7], w[8], w[9], w[10]]
 }
 
-// A direct movement: B and the reply.
-fn direct(e: Engine, absolute: bool, words: [u32; 8]) -> Engine {
-    let b = e.begin(absolute, words);
+// A direct movement or circle: B and the reply.
+fn begun(b: Begun) -> Engine {
     io::write_all(STDOUT_FILENO, b"B ");
     show_number(b.reply as u32);
     io::write_all(STDOUT_FILENO, b"\n");
@@ -179,7 +210,7 @@ fn act(e: Engine, store: &[u8], table: &[u16], w: [u32; 11]) -> Engine {
         4 => e.start(),
         5 => ticks(e, store, table, w[1]),
         6 => e.hear(byte_of(w[1])),
-        7 => direct(e, w[1] == 1, words_of(w)),
+        7 => begun(e.begin(w[1] == 1, words_of(w))),
         8 => e,
         9 => e.set_held(held_as(w)),
         10 => run_as(e, w),
@@ -190,6 +221,10 @@ fn act(e: Engine, store: &[u8], table: &[u16], w: [u32; 11]) -> Engine {
         15 => e.empty(),
         16 => e.set_output(byte_of(w[1])),
         18 => e,
+        19 => e.set_plane(w[1]),
+        20 => e.set_direction(w[1]),
+        21 => begun(e.begin_circle(words_of(w))),
+        22 => e.set_axes(byte_of(w[1])),
         _ => {
             show_engine(e);
             e

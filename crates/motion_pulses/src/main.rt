@@ -1,5 +1,9 @@
-// The pulses of the movements on standard input. The first number says how many movements follow. Each is the axes, 3D, absolute,
-// the positions, the origins, the eight numbers, and how many of its first and last pulses to print.
+// The pulses of the movements and circles on standard input. The first number says how many follow. Each is the axes, 3D, absolute, the
+// positions, the origins, the eight numbers, and how many of its first and last pulses to print. A circle has 2 for absolute, and its plane
+// and direction for the first two origins.
+mod arcs;
+
+use arcs::show_arc;
 use libc::STDIN_FILENO;
 use libc::STDOUT_FILENO;
 use motion::Counters;
@@ -7,6 +11,7 @@ use motion::Move;
 use motion::Next;
 use motion::Planned;
 use motion::Sign;
+use motion::Signs;
 use motion::Stepped;
 
 fn narrow(w: u32) -> u8 {
@@ -58,34 +63,47 @@ fn show_point(c: Counters) {
     io::write_all(STDOUT_FILENO, b"\n");
 }
 
-fn show_pulse(s: Stepped) {
-    let signs = s.signs;
+fn show_signs(signs: Signs, speed: u16) {
     let x = signs.x;
     let y = signs.y;
     let z = signs.z;
     let bytes = [80, 32, sign_byte(x), sign_byte(y), sign_byte(z), 32];
     io::write_all(STDOUT_FILENO, &bytes);
-    show_number(s.speed as u32);
+    show_number(speed as u32);
     io::write_all(STDOUT_FILENO, b"\n");
 }
 
-// Whether the movement passes the test of 103 here, and one count beside.
-fn show_sound(m: Move, at: Counters) {
-    let beside = Counters {
+fn show_pulse(s: Stepped) {
+    let signs = s.signs;
+    show_signs(signs, s.speed);
+}
+
+// One count beside.
+fn beside_of(at: Counters) -> Counters {
+    Counters {
         x: at.x,
         y: at.y ^ 1,
         z: at.z,
-    };
-    if m.sound(at) {
+    }
+}
+
+fn show_two(here: bool, beside: bool) {
+    if here {
         io::write_all(STDOUT_FILENO, b"S 1");
     } else {
         io::write_all(STDOUT_FILENO, b"S 0");
     }
-    if m.sound(beside) {
+    if beside {
         io::write_all(STDOUT_FILENO, b" 1\n");
     } else {
         io::write_all(STDOUT_FILENO, b" 0\n");
     }
+}
+
+// Whether the movement passes the test of 103 here, and one count beside.
+fn show_sound(m: Move, at: Counters) {
+    let beside = beside_of(at);
+    show_two(m.sound(at), m.sound(beside));
 }
 
 // All pulses of a movement, of which the first and the last few are printed.
@@ -115,7 +133,7 @@ fn run(start: Move, from: Counters, few: u32) {
     show_point(m.resting());
 }
 
-fn show(words: [u32; 18]) {
+fn show_straight(words: [u32; 18]) {
     let at = point(words[3], words[4], words[5]);
     let origin = point(words[6], words[7], words[8]);
     let given = [
@@ -145,6 +163,14 @@ fn show(words: [u32; 18]) {
     io::write_all(STDOUT_FILENO, b"\n");
     show_sound(m, at);
     run(m, at, words[17]);
+}
+
+fn show(words: [u32; 18]) {
+    if words[2] == 2 {
+        show_arc(words);
+    } else {
+        show_straight(words);
+    }
 }
 
 fn show_all(text: &[u8]) {

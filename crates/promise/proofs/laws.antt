@@ -1,6 +1,7 @@
 pub mod Demanded
 pub mod FakesAlways
 pub mod FakesBytes
+pub mod FakesCircles
 pub mod FakesCore
 pub mod FakesCount
 pub mod FakesFollows
@@ -16,9 +17,12 @@ pub mod Follows
 pub mod Gathering
 pub mod Guard
 pub mod KeepsAlways
+pub mod KeepsArcs
 pub mod KeepsAxes
 pub mod KeepsCalls
 pub mod KeepsChain
+pub mod KeepsCircles
+pub mod KeepsCircling
 pub mod KeepsEnd
 pub mod KeepsEvents
 pub mod KeepsJoin
@@ -36,6 +40,8 @@ pub mod KeepsSum
 pub mod KeepsTable
 pub mod KeepsTrip
 pub mod KeepsTwelve
+pub mod Letters
+pub mod Obeyed
 pub mod RouteBytes
 pub mod RouteCall
 pub mod RouteLed

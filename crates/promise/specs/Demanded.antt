@@ -7,6 +7,7 @@ use Rattle.promise.specs.Machine.{Machine}
 use Rattle.promise.specs.Demands.{RefusedLine, AcceptedLine, SilentReturn, RefusedCall, Quiet, SumOfPulses, Counted, NoDeadEnd, RoundTrip, EndAccepts, EndToEnd}
 use Rattle.promise.specs.Follows.{Follows}
 use Rattle.promise.specs.Named.{EndNames, AcceptedExactly}
+use Rattle.promise.specs.Circles.{CirclesRequested}
 use Rattle.promise.specs.Spaces.{SpacesChangeNothing}
 use Rattle.promise.specs.Route.{Routes, StartRoutes}
 use Rattle.promise.specs.Three.{DemandThree}
@@ -43,5 +44,7 @@ pub record Requested (m : Machine) : Type 0 where
   -- §1: which record is at fault, and why; accepted is what has no fault
   pub end-names : EndNames m
   pub accepted-exactly : (h : Held) (store : List ℕ) → AcceptedExactly h store
+  -- §3: circles
+  pub circles : CirclesRequested m
   -- §8: lines that differ only in the spaces after their commas
   pub spaces : SpacesChangeNothing m

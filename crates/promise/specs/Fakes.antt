@@ -13,7 +13,9 @@ use Rattle.count.specs.Paper.{Paper, says}
 use Rattle.sheet.specs.declared.Converted.{Converted}
 use Rattle.sheet.specs.Chain.{results, chained, chainOf}
 use Rattle.motion.specs.declared.Counters.{Counters}
-use Rattle.motion.specs.Next.{pulseOf}
+use Rattle.travel.specs.declared.Travel.{Travel}
+use Rattle.travel.specs.declared.Travel.the-variants as travel
+use Rattle.travel.specs.Next.{pulseOf}
 use Rattle.record.specs.declared.Record.{Record}
 use Rattle.record.specs.Memory.{Memory, storeFits, tableFits}
 use Rattle.record.specs.Places.{Records, recordsOf}
@@ -88,10 +90,14 @@ sinceStop shows tells = record {
   list = λ store text s. ours .list store text (s .0);
 }
 
--- from the first stop on the positions of a movement are those of its end, while its pulses are still answered
+-- from the first stop on the positions of a straight movement are those of its end, while its pulses are still answered
+abbrev pub endOf : Travel → Counters → Counters
+endOf (travel.Straight m) at = m .third
+endOf (travel.Round a) at = at
+
 abbrev pub claimed : Job → Counters → Counters
-claimed (job.Direct m) at = m .third
-claimed (job.Moving m) at = m .third
+claimed (job.Direct m) at = endOf m at
+claimed (job.Moving m) at = endOf m at
 claimed job.Idle at = at
 claimed job.Storing at = at
 claimed job.Ready at = at

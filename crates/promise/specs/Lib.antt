@@ -10,7 +10,9 @@ pub mod Stop
 pub mod Three
 pub mod Route
 pub mod Table
-pub mod Demanded
 pub mod Twelve
+pub mod Circles
+pub mod Demanded
 pub mod Fakes
 pub mod FakesStore
+pub mod FakesCircles

@@ -112,7 +112,7 @@ abbrev pub speedsOf : List Paper → List ℤ
 speedsOf [] = []
 speedsOf (a ∷ l) = speedOf a ++ speedsOf l
 
--- what a run leaves beside the memory: positions, origins, output, 3D, axes, the store's part in use, job, place, loops
+-- what a run leaves beside the memory: positions, origins, output, 3D, plane and direction, axes, the store's part in use, job, place, loops
 abbrev pub final : Board → Engine
 final b = b .engine
 
@@ -173,7 +173,7 @@ module _ (m : Machine) where
     pub memory : RightMemory (p .1)
 
   -- ---- the same run: the clock answers other than nothing, with the axes of the pulses; the speeds of the pulses; the engine
-  -- (positions, origins, output, 3D, axes, the store's part in use, job, place, loops); the memory
+  -- (positions, origins, output, 3D, plane and direction, axes, the store's part in use, job, place, loops); the memory
   pub record Same (p : Place) (es fs : List Step) : Type 0 where
     pub axes : map unsped (answers p es) ≡ map unsped (answers p fs)
     pub speeds : speedsOf (answers p es) ≡ speedsOf (answers p fs)

@@ -14,6 +14,7 @@ use Rattle.count.specs.Paper.{Paper, says}
 use Rattle.sheet.specs.declared.Rate.the-variants.{PerMinute}
 use Rattle.sheet.specs.Sheet.{float, minusFloat, found, distanceOf, speedOf}
 use Rattle.sheet.specs.Sheet.{axis}
+use Rattle.circle.specs.Plan.{atFirst}
 use Rattle.engine.specs.State.{paper, zeroes, nothingHeld, idle}
 use Rattle.record.specs.Memory.{Memory}
 use Rattle.board.specs.declared.Board.{Board}
@@ -79,7 +80,7 @@ times (suc n) p q = p ∷ q ∷ times n p q
 
 -- a fresh board, set to axes 1, where x stands at a count, and at a number
 abbrev pub standsOn : ℕ → Board
-standsOn c = board (record { axes = 1; at = record { x = c; y = half; z = half }; origin = zeroes; three = false; output = 0; held = nothingHeld; run = idle }) false noLine
+standsOn c = board (record { axes = 1; at = record { x = c; y = half; z = half }; origin = zeroes; three = false; circling = atFirst; output = 0; held = nothingHeld; run = idle }) false noLine
 
 abbrev pub standsAt : ℤ → Board
 standsAt z = standsOn (count z)

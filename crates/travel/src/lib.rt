@@ -1,11 +1,11 @@
 // What moves is a kind: a straight movement or an arc, with one plan, one next pulse and one test of 103.
-mod planned;
+mod plans;
 mod pulse;
 
 use circle::Arc;
 use motion::Move;
-pub use planned::circle;
-pub use planned::plan;
+pub use plans::circle;
+pub use plans::plan;
 
 pub enum Travel {
     Straight(Move),

@@ -31,10 +31,11 @@ use Rattle.engine.specs.declared.Engine.{Engine}
 use Rattle.engine.specs.declared.Begun.{Begun}
 use Rattle.engine.specs.declared.Job.{Job}
 use Rattle.engine.specs.declared.Job.the-variants as job
-use Rattle.engine.specs.State.{withHeld, withThree, withOutput, axesOf, originOf, zeroOf, started, ceased, emptied, storingOf, beginOf, resetOf, heard}
+use Rattle.circle.specs.Plan.{planeOf, directionOf}
+use Rattle.engine.specs.State.{withHeld, withThree, withPlane, withDirection, withOutput, axesOf, originOf, zeroOf, started, ceased, emptied, storingOf, beginOf, circleBegun, resetOf, heard}
 use Rattle.engine.specs.Sound.{axesKnown, soundOf}
 use Rattle.engine.proofs.laws.Facts.{facts}
-use Rattle.engine.proofs.laws.Lines.{Still, start-keeps, cease-keeps, empty-keeps, three-keeps, origin-keeps, output-keeps, held-keeps, store-keeps, axes-keeps, zero-keeps, reset-keeps, hear-keeps, begin-keeps}
+use Rattle.engine.proofs.laws.Lines.{Still, start-keeps, cease-keeps, empty-keeps, three-keeps, plane-keeps, direction-keeps, origin-keeps, output-keeps, held-keeps, store-keeps, axes-keeps, zero-keeps, reset-keeps, hear-keeps, begin-keeps, circle-keeps}
 use Rattle.board.specs.declared.Board.{Board}
 use Rattle.board.specs.declared.Line.{Line}
 use Rattle.board.specs.declared.Saying.{Saying}
@@ -135,6 +136,12 @@ module _ (b : Board) (h : sound b ≡ true) (still : b .standing ≡ false → S
   affected-okay letter.Store n l ports w p = done-sound (storingOf (b .engine)) (b .standing) (store-keeps (b .engine) (sound-engine b h))
   affected-okay letter.Empty n l ports w p = done-sound (emptied (b .engine)) (b .standing) (empty-keeps (b .engine) (sound-engine b h))
   affected-okay letter.Start n l ports w p = start-okay (b .standing) (eqb (b .engine .held .records) 0) (eqb (b .engine .axes) (b .engine .held .axes))
+  affected-okay letter.Plane n l ports w p =
+      done-sound (withPlane (planeOf (getD l 0 0)) (b .engine)) (b .standing) (plane-keeps (b .engine) (sound-engine b h) (planeOf (getD l 0 0)))
+  affected-okay letter.Direction n l ports w p =
+      done-sound (withDirection (directionOf (getD l 0 0)) (b .engine)) (b .standing) (direction-keeps (b .engine) (sound-engine b h) (directionOf (getD l 0 0)))
+  affected-okay letter.Circle n l ports w p =
+      let g = circleBegun l (b .engine) in begun-okay (eqb (g .reply) 0) g (circle-keeps (b .engine) (sound-engine b h) l)
 
   obeyed-by : (d : Direct) (ports : List ℕ) (t : Bool) → eqb (lineFault (b .engine .axes) (b .standing) d) 48 ≡ t
       → okay (pick t (affected (d .letter) (d .words) ports b) (repliedWith b (b .engine) (lineFault (b .engine .axes) (b .standing) d)))

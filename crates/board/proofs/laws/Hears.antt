@@ -9,8 +9,8 @@ use lib.Dec.{leb, ltb}
 use lib.ListN.{length, drop}
 use Rattle.count.specs.Pick.{pick}
 use Rattle.count.proofs.laws.Truth.{and-left, and-right}
-use Rattle.motion.specs.work.Here.{nextOf}
-use Rattle.motion.specs.Next.{pulseOf}
+use Rattle.travel.specs.Next.{pulseOf}
+use Rattle.travel.specs.work.Beat.{nextOf}
 use Rattle.record.specs.Memory.{Memory, RightMemory}
 use Rattle.record.specs.Table.{fetchOf}
 use Rattle.record.specs.Listing.{Telling, listOf}

@@ -5,7 +5,7 @@ use mathlib.Core.Bool.{Bool, true, false, not, _&&_, _||_}
 use mathlib.Core.List.{List, [], _∷_}
 use native.Mathlib.Nat.{mod-eq-of-lt}
 use native.Mathlib.Omega.{arith}
-use borrow.Author.Tests.{eqb-true, leb-true}
+use borrow.Author.Tests.{eqb-true, leb-true, ne-eqb}
 use lib.Dec.{eqb, leb}
 use lib.IntN.{pos}
 use lib.ListN.{getD}
@@ -13,10 +13,19 @@ use Rattle.count.specs.Pick.{pick}
 use Rattle.count.specs.Numbers.{within, signed}
 use Rattle.count.specs.Ranges.{inByte, inZero}
 use Rattle.count.proofs.laws.Laws.{within-up, within-zero}
-use Rattle.count.proofs.laws.Truth.{and-left, and-right}
-use Rattle.motion.specs.declared.Planned.{Planned}
-use Rattle.motion.specs.declared.Planned.the-variants as planned
-use Rattle.motion.specs.Plan.{asked, planOf}
+use Rattle.count.proofs.laws.Truth.{never, and-left, and-right}
+use Rattle.motion.specs.declared.Counters.{Counters}
+use Rattle.motion.specs.declared.Planned.{Planned as StraightPlan}
+use Rattle.motion.specs.declared.Planned.the-variants as straight
+use Rattle.motion.specs.Plan.{Asked, asked, planOf as straightPlan}
+use Rattle.circle.specs.declared.Circling.{Circling}
+use Rattle.circle.specs.declared.Bent.{Bent}
+use Rattle.circle.specs.declared.Bent.the-variants as bent
+use Rattle.circle.specs.Plan.{bendOf, bentPaper}
+use Rattle.circle.proofs.laws.Papers.{isReply, bend-replies}
+use Rattle.travel.specs.declared.Planned.{Planned}
+use Rattle.travel.specs.declared.Planned.the-variants as planned
+use Rattle.travel.specs.Plan.{straightly, roundly, planOf, circleOf, refusal}
 use Rattle.record.specs.Memory.{Memory}
 use Rattle.record.specs.Fault.{isCode, countRight, axesRight, rangesRight, speedsRight, numbersReply, faultOf}
 use Rattle.record.proofs.laws.Faultless.{fault-none}
@@ -25,11 +34,11 @@ use Rattle.line.specs.declared.Letter.the-variants as letter
 use Rattle.line.specs.declared.Direct.{Direct}
 use Rattle.engine.specs.declared.Engine.{Engine}
 use Rattle.engine.specs.declared.Begun.{Begun}
-use Rattle.engine.specs.State.{axesOf, originOf, zeroOf, withOutput, started, begunBy, beginOf}
+use Rattle.engine.specs.State.{axesOf, originOf, zeroOf, withOutput, started, begunBy, beginOf, circleBegun}
 use Rattle.engine.specs.Sound.{axesKnown}
 use Rattle.board.specs.declared.Board.{Board}
 use Rattle.board.specs.State.{board, noLine, lineDone, Said, said}
-use Rattle.board.specs.Direct.{isWrong, heardStanding, needsAxes, countFits, axesFit, rangesFit, speedsFit, isOutside, restsOutside, isStart, first, replyOf, effect, effectOf, started-with, acceptedSaid, directSaid}
+use Rattle.board.specs.Direct.{isWrong, heardStanding, needsAxes, countFits, axesFit, rangesFit, speedsFit, planReply, isStart, first, replyOf, effect, effectOf, started-with, acceptedSaid, directSaid}
 use Rattle.board.specs.declared.Saying.the-variants as saying
 use Rattle.board.specs.work.Work.{spoke, spokeOf, repliedWith, silentWith, begunWith, startedBy, affected, obeyed, axesFault, inputFault, outputFault, numbersFault, lineFault}
 use Rattle.board.proofs.laws.Stores.{four}
@@ -53,6 +62,9 @@ numbers-as letter.Output axes n l = refl
 numbers-as letter.Store axes n l = refl
 numbers-as letter.Empty axes n l = refl
 numbers-as letter.Start axes n l = refl
+numbers-as letter.Plane axes n l = refl
+numbers-as letter.Direction axes n l = refl
+numbers-as letter.Circle axes n l = refl
 
 -- with what comes behind them
 numbers-so : (k : Letter) (axes n : ℕ) (l : List ℕ) (o : ℕ)
@@ -68,10 +80,10 @@ three false true c f o = refl
 three false false true f o = refl
 three false false false f o = refl
 
--- 9, 8 and G behind them
+-- what refuses a plan, 8 and G behind them
 abbrev restOf : Letter → Engine → Bool → List ℕ → ℕ
 restOf k e s l =
-    pick (restsOutside k e l) 57
+    pick (not (eqb (planReply k e l) 48)) (planReply k e l)
     (pick (isStart k && not s && eqb (e .held .records) 0) 56
     (pick (isStart k && not s && not (eqb (e .axes) (e .held .axes))) 71 48))
 
@@ -153,12 +165,39 @@ begun-by : (t : Bool) (b : Board) (g : Begun) (m : Memory)
 begun-by true b g m = refl
 begun-by false b g m = refl
 
-begin-so : (p : Planned) (b : Board) (m : Memory)
-    → pick (eqb (pick (isOutside p) 57 48) 48) (acceptedSaid (started-with (begunBy p (b .engine)) (b .standing)) m) (said (lineDone b) (pick (isOutside p) 57 48 ∷ []) m)
+-- the reply to a plan
+abbrev planned-reply : ℕ → ℕ
+planned-reply r = pick (not (eqb r 48)) r 48
+
+refused-by : (t : Bool) (r : ℕ) (b : Board) (m : Memory) → eqb r 48 ≡ t → eqb r 0 ≡ false
+    → pick (eqb (pick (not t) r 48) 48) (acceptedSaid (effect (b .engine) (b .standing) (pick (eqb r 0) [] (r ∷ []))) m) (said (lineDone b) (pick (not t) r 48 ∷ []) m)
+    ≡ spoke (pick (eqb r 0) (silentWith b (b .engine)) (repliedWith b (b .engine) r)) m
+refused-by true r b m e z = rw z
+refused-by false r b m e z = rw (e, z)
+
+begin-so : (p : Planned) (b : Board) (m : Memory) → eqb (refusal p) 0 ≡ false
+    → pick (eqb (planned-reply (refusal p)) 48) (acceptedSaid (started-with (begunBy p (b .engine)) (b .standing)) m) (said (lineDone b) (planned-reply (refusal p) ∷ []) m)
     ≡ spoke (begunWith b (begunBy p (b .engine))) m
 unfolding begunWith
-begin-so (planned.Going v) b m = begun-by (eqb (begunBy (planned.Going v) (b .engine) .reply) 0) b (begunBy (planned.Going v) (b .engine)) m
-begin-so planned.Outside b m = refl
+begin-so (planned.Going v) b m z = begun-by (eqb (begunBy (planned.Going v) (b .engine) .reply) 0) b (begunBy (planned.Going v) (b .engine)) m
+begin-so (planned.Refused r) b m z = refused-by (eqb r 48) r b m refl z
+
+-- what refuses a plan is a character, and so not the 0 of a reply that is still to come
+straight-by : (p : StraightPlan) → eqb (refusal (straightly p)) 0 ≡ false
+straight-by (straight.Going v) = refl
+straight-by straight.Outside = refl
+
+plan-replies : (q : Asked) → eqb (refusal (planOf q)) 0 ≡ false
+unfolding planOf
+plan-replies q = straight-by (straightPlan q)
+
+round-by : (p : Bent) → isReply (bentPaper p .number) ≡ true → eqb (refusal (roundly p)) 0 ≡ false
+round-by (bent.Going a) h = refl
+round-by (bent.Refused r) h = ne-eqb r 0 (λ e. never (ap isReply (sym e) ∙ h))
+
+circle-replies : (axes : ℕ) (c : Circling) (at : Counters) (l : List ℕ) → eqb (refusal (circleOf axes c at l)) 0 ≡ false
+unfolding circleOf
+circle-replies axes c at l = round-by (bendOf axes c at l) (bend-replies axes c at l)
 
 start-by : (s r a : Bool) (b : Board) (e : Engine) (m : Memory) → b .standing ≡ s
     → pick (eqb (pick (true && not s && r) 56 (pick (true && not s && not a) 71 48)) 48)
@@ -175,13 +214,13 @@ module _ (axes n : ℕ) (l ports : List ℕ) (b : Board) (m : Memory) where
       → pick (eqb (restOf k (b .engine) (b .standing) l) 48) (acceptedSaid (effectOf k l ports (b .engine) (b .standing)) m)
       (said (lineDone b) (restOf k (b .engine) (b .standing) l ∷ []) m)
       ≡ spoke (affected k l ports b) m
-  unfolding startedBy beginOf
+  unfolding startedBy beginOf circleBegun
   effect-so letter.Wrong p = refl
   effect-so letter.Axes p =
       let q : getD l 0 0 % 256 ≡ getD l 0 0 = mod-eq-of-lt (axes-small n (getD l 0 0) p) in
       ap (λ (w : ℕ). said (board (axesOf w (b .engine)) (b .standing) noLine) (48 ∷ []) m) (sym q)
-  effect-so letter.Relative p = begin-so (planOf (asked (b .engine .axes) (b .engine .three) (b .engine .at) (b .engine .origin) false l)) b m
-  effect-so letter.Absolute p = begin-so (planOf (asked (b .engine .axes) (b .engine .three) (b .engine .at) (b .engine .origin) true l)) b m
+  effect-so letter.Relative p = let q = asked (b .engine .axes) (b .engine .three) (b .engine .at) (b .engine .origin) false l in begin-so (planOf q) b m (plan-replies q)
+  effect-so letter.Absolute p = let q = asked (b .engine .axes) (b .engine .three) (b .engine .at) (b .engine .origin) true l in begin-so (planOf q) b m (plan-replies q)
   effect-so letter.Origin p =
       let q : getD l 0 0 % 256 ≡ getD l 0 0 = mod-eq-of-lt (named-small axes n l p) in
       ap (λ (w : ℕ). said (board (originOf w (b .engine)) (b .standing) noLine) (48 ∷ []) m) (sym q)
@@ -197,6 +236,10 @@ module _ (axes n : ℕ) (l ports : List ℕ) (b : Board) (m : Memory) where
   effect-so letter.Store p = refl
   effect-so letter.Empty p = refl
   effect-so letter.Start p = start-by (b .standing) (eqb (b .engine .held .records) 0) (eqb (b .engine .axes) (b .engine .held .axes)) b (started (b .engine)) m refl
+  effect-so letter.Plane p = refl
+  effect-so letter.Direction p = refl
+  effect-so letter.Circle p =
+      begin-so (circleOf (b .engine .axes) (b .engine .circling) (b .engine .at) l) b m (circle-replies (b .engine .axes) (b .engine .circling) (b .engine .at) l)
 
 -- ---- the whole line
 

@@ -15,7 +15,7 @@ use Rattle.record.specs.Memory.{Memory}
 use Rattle.record.specs.Bytes.{encode}
 use Rattle.record.specs.Fault.{isCode, countRight, axesRight, rangesRight, speedsRight, numbersReply, faultOf}
 use Rattle.record.proofs.laws.Faultless.{fault-none}
-use Rattle.record.proofs.laws.Shapes.{Shape, one, two, eight, shape, four as four-numbers}
+use Rattle.record.proofs.laws.Shapes.{Shape, one, two, seven, eight, shape, four as four-numbers}
 use Rattle.record.specs.Keep.{Storing, storing, longer, hasRoom, storeOf}
 use Rattle.line.specs.declared.Code.{Code}
 use Rattle.line.specs.declared.Code.the-variants as code
@@ -87,6 +87,7 @@ eight-most : {n : ℕ} {l : List ℕ} → Shape n l → n ≤ 8
 eight-most (one e p) = omega arith
 eight-most (two e p q) = omega arith
 eight-most (four-numbers e p q r s) = omega arith
+eight-most (seven e p q r s t u v) = omega arith
 eight-most (eight e p q r s t u v w) = omega arith
 
 pub count-small : (axes c n : ℕ) (l : List ℕ) → faultOf axes c n l ≡ 48 → n ≤ 8
@@ -111,7 +112,8 @@ code-okay : (b : ℕ) → okay (codeOf b) ≡ true
 unfolding codeOf isCode
 code-okay b =
     one-okay b 48 _ _ refl refl (one-okay b 109 _ _ refl refl (one-okay b 110 _ _ refl refl (one-okay b 122 _ _ refl refl
-    (one-okay b 51 _ _ refl refl (one-okay b 53 _ _ refl refl (one-okay b 49 _ _ refl refl (one-okay b 50 _ _ refl refl (end-okay (eqb b 57)))))))))
+    (one-okay b 51 _ _ refl refl (one-okay b 53 _ _ refl refl (one-okay b 49 _ _ refl refl (one-okay b 50 _ _ refl refl
+    (one-okay b 101 _ _ refl refl (one-okay b 102 _ _ refl refl (one-okay b 121 _ _ refl refl (end-okay (eqb b 57))))))))))))
 
 stored-okay : (k : Code) (n : Numbers) → okay k ≡ true → okay (stored k n .code) ≡ true
 stored-okay k (are l) p = p

@@ -1,11 +1,10 @@
 -- The test of 103 on an arc as facts, and what a plane's axes are on the three. Assumes nothing.
 use mathlib.Core.Path.{_≡_, refl}
 use mathlib.Core.Bool.{Bool, true, false, not, _&&_}
-use Prim.Native.Nat.{ℕ, _+_, _-_, _*_, _≤_, _<_}
+use Prim.Native.Nat.{ℕ, _+_, _*_, _≤_, _<_}
 use native.Mathlib.Omega.{arith}
 use lib.Dec.{ltb, leb, eqb}
 use borrow.Author.Tests.{lt-ltb, le-leb, ltb-true, ltb-false, leb-true, eqb-true, eqb-false}
-use Rattle.count.specs.Pick.{pick}
 use Rattle.count.specs.Numbers.{far, half, full}
 use Rattle.count.proofs.laws.Truth.{and-left, and-right, both}
 use Rattle.motion.specs.declared.Counters.{Counters}

@@ -1,18 +1,18 @@
 -- The pulses of an arc that 103 lets pass: it makes every pulse that is left, each moves one axis of its plane by one, and it passes again
 -- after it. Assumes nothing.
 use mathlib.Core.Path.{_≡_, refl, sym, ap, _∙_}
-use mathlib.Core.Bool.{Bool, true, false, not, _&&_}
-use Prim.Native.Nat.{ℕ, _+_, _-_, _≤_, _<_}
+use mathlib.Core.Bool.{Bool, true, false, _&&_}
+use Prim.Native.Nat.{ℕ, _+_, _≤_, _<_}
 use native.Mathlib.Omega.{arith}
 use lib.Dec.{ltb}
 use borrow.Author.Tests.{lt-ltb, le-ltb, ltb-true, ltb-false}
 use Rattle.count.specs.Pick.{pick}
 use Rattle.count.proofs.laws.Truth.{both}
+use Rattle.motion.specs.declared.Signs.{Signs}
 use Rattle.motion.specs.declared.Counters.{Counters}
 use Rattle.motion.specs.declared.Moved.{Moved}
 use Rattle.motion.specs.declared.Moved.the-variants as moved
 use Rattle.motion.specs.declared.Beat.{Beat}
-use Rattle.motion.specs.declared.Beaten.{Beaten}
 use Rattle.motion.specs.declared.Beaten.the-variants as beat
 use Rattle.motion.specs.Phase.{movedAll}
 use Rattle.motion.specs.Sound.{speedRight, counted}
@@ -23,7 +23,7 @@ use Rattle.motion.proofs.laws.Steps.{steps-room, steps-small, step-made}
 use Rattle.circle.specs.declared.Pair.{Pair}
 use Rattle.circle.specs.declared.Ways.{Ways}
 use Rattle.circle.specs.declared.Arc.{Arc}
-use Rattle.circle.specs.Rule.{onPlane, onAxes, rests, shifted, waysAt, moveOf}
+use Rattle.circle.specs.Rule.{onPlane, onAxes, shifted, waysAt, moveOf}
 use Rattle.circle.specs.Arc.{startValue, arcSigns, countedPair, nextMark, beatTo, arcBeat, withMade, arcLeft}
 use Rattle.circle.specs.Plan.{reachOf}
 use Rattle.circle.specs.Sound.{pointSound, arcUnderWay}
@@ -105,6 +105,21 @@ never p = let z : _≡_ {A = ℕ} 0 1 = cc in absurd (omega arith)
 never′ : {A : Type 0} {b : Beat} → beat.Over ≡ beat.Made b → A
 never′ p = let z : _≡_ {A = ℕ} 0 1 = cc in absurd (omega arith)
 
+same : {b c : Beat} → beat.Made b ≡ beat.Made c → b ≡ c
+same e = cc
+
+marked-by : (t : Bool) (a : Arc) (s : Signs) (v : Moved) {b : Beat} → pick t (beatTo a s v) beat.Over ≡ beat.Made b → b .mark ≡ nextMark a
+marked-by true a s (moved.To there) {b} e = ap (λ (c : Beat). c .mark) (sym (same e))
+marked-by true a s moved.Outside e = never′ e
+marked-by false a s v e = never′ e
+
+-- any arc's pulse leaves it at the next mark, in its one phase
+pub beat-marked : (a : Arc) (at : Counters) {b : Beat} → arcBeat a at ≡ beat.Made b → b .mark ≡ nextMark a
+unfolding arcBeat
+beat-marked a at e =
+    marked-by (ltb (a .made) (a .length) && (counted at && countedPair (a .centre) && countedPair (a .start))) a (arcSigns a at)
+    (stepTo at (arcSigns a at)) e
+
 -- what a pulse of such an arc leaves
 pub record Taken (a : Arc) (at : Counters) (b : Beat) : Type 0 where
   pub is : b ≡ theBeat a at
@@ -114,9 +129,6 @@ pub record Taken (a : Arc) (at : Counters) (b : Beat) : Type 0 where
   pub sound : arcUnderWay (withMade a (b .mark .made)) (b .at) ≡ true
   pub small : counted (b .at) ≡ true
   pub left : arcLeft a ≡ arcLeft (withMade a (b .mark .made)) + 1
-
-same : {b c : Beat} → beat.Made b ≡ beat.Made c → b ≡ c
-same e = cc
 
 module _ (a : Arc) (at : Counters) (u : arcUnderWay a at ≡ true) where
   taken-by : (b : Beat) → arcBeat a at ≡ beat.Made b → (a .made < a .length) → Taken a at b

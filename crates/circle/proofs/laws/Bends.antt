@@ -1,25 +1,25 @@
 -- A planned arc passes the test of 103 where it is planned, and has the length that was sent. Assumes nothing.
-use mathlib.Core.Path.{_≡_, refl, sym, ap, _∙_}
+use mathlib.Core.Path.{_≡_, refl, _∙_}
 use mathlib.Core.Bool.{Bool, true, false, not, _&&_}
 use mathlib.Core.List.{List}
 use Prim.Native.Nat.{ℕ, suc, _+_, _-_, _*_, _≤_, _<_}
 use native.Mathlib.Omega.{arith}
 use lib.Dec.{ltb, leb, eqb}
-use lib.IntN.{ℤ, pos, negsuc}
+use lib.IntN.{ℤ, pos, negsuc, _+ℤ_}
 use lib.ListN.{getD}
-use borrow.Author.Tests.{le-leb, lt-leb, ltb-true, ltb-false, leb-true, leb-false, ne-eqb, eq-eqb}
+use borrow.Author.Tests.{le-leb, ltb-true, ltb-false, leb-true, leb-false, ne-eqb, eq-eqb}
 use Rattle.count.specs.Chars.{ch}
 use Rattle.count.specs.Pick.{pick}
-use Rattle.count.specs.Numbers.{within, in24, far, half, full, count}
+use Rattle.count.specs.Numbers.{within, in24, far, half, full, value, count}
 use Rattle.count.specs.Ranges.{inStart, inZero, inSpeed, inArc, inWay, nth, rightArc}
+use Rattle.count.proofs.laws.Laws.{sub-pos, sub-neg, sub-eq, sub-plus, sub-minus}
 use Rattle.count.proofs.laws.Truth.{and-left, and-right, both}
 use Rattle.motion.specs.declared.Counters.{Counters}
-use Rattle.motion.specs.Sound.{speedRight, counted}
+use Rattle.motion.specs.Sound.{counted}
 use Rattle.motion.proofs.laws.Plans.{speed-word}
 use Rattle.circle.specs.declared.Circling.{Circling}
 use Rattle.circle.specs.declared.Pair.{Pair}
 use Rattle.circle.specs.declared.Arc.{Arc}
-use Rattle.circle.specs.declared.Bent.{Bent}
 use Rattle.circle.specs.declared.Bent.the-variants.{Going, Refused}
 use Rattle.circle.specs.Rule.{onPlane, measure}
 use Rattle.circle.specs.Arc.{zero}
@@ -125,6 +125,18 @@ module _ (at start : Pair) (s : startSound start ≡ true) (h : hasRoom (centreO
       let w = within-reach (far half (start .first)) (far half (start .second)) (measure zero start) (reachOf start) (measure-is start) (reach-high start) in
       let o = start-apart start s in
       point-sound start (centreOf at start) at (rw fx (w .0)) (rw fy (w .1)) (rw (fx, fy) o)
+
+-- THE CENTRE IS THE POSITION MINUS THE START: with the start added to it, it is the position
+pub centre-value : (at start : ℕ) → start ≤ at + half → value (less at start) +ℤ value start ≡ value at
+centre-value at start h = by (ltb start half) refl
+  where
+    by : (t : Bool) → ltb start half ≡ t → value (less at start) +ℤ value start ≡ value at
+    by true e =
+        let l = ltb-true start half e in
+        rw (sub-neg start half l) (sub-minus (less at start) half (half - suc start) ∙ sub-eq (less at start) (half + suc (half - suc start)) at half (omega arith))
+    by false e =
+        let l = ltb-false start half e in
+        rw (sub-pos start half l) (sub-plus (less at start) half (start - half) ∙ sub-eq (less at start + (start - half)) half at half (omega arith))
 
 -- ---- the plan
 

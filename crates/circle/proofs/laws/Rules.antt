@@ -1,5 +1,5 @@
 -- NO DEAD END OF AN ARC, whatever its direction: the rule's move goes on in the square. Assumes nothing.
-use mathlib.Core.Path.{_≡_, refl}
+use mathlib.Core.Path.{refl}
 use Prim.Native.Nat.{ℕ, _+_, _*_, _<_}
 use native.Mathlib.Omega.{arith}
 use Rattle.count.specs.Numbers.{far}

@@ -6,18 +6,16 @@ use Prim.Native.Nat.{ℕ, zero, suc, _+_, _-_, _*_, _≤_, _<_}
 use native.Mathlib.Nat.{mul-le-mul-right, mul-le-mul-left}
 use native.Mathlib.Omega.{arith}
 use lib.Dec.{ltb, leb}
-use borrow.Author.Tests.{lt-ltb, le-leb, lt-leb, ltb-true, ltb-false, leb-true, leb-false}
+use borrow.Author.Tests.{lt-ltb, le-leb, lt-leb, ltb-true, ltb-false}
 use Rattle.count.specs.Pick.{pick}
 use Rattle.count.specs.Numbers.{far, full}
 use Rattle.motion.specs.declared.Sign.{Sign}
 use Rattle.motion.specs.declared.Sign.the-variants.{Minus, Rest, Plus}
 use Rattle.motion.specs.Phase.{moved}
 use Rattle.motion.specs.Pulse.{hasStep}
-use Rattle.circle.specs.declared.Direction.{Direction}
-use Rattle.circle.specs.declared.Direction.the-variants.{Clockwise, Counter}
 use Rattle.circle.specs.declared.Pair.{Pair}
 use Rattle.circle.specs.declared.Ways.{Ways}
-use Rattle.circle.specs.Rule.{pair, ways, side, measure, against, turning, waysAt, rests, firstOnly, secondOnly, shifted, off, moveOf}
+use Rattle.circle.specs.Rule.{ways, side, measure, against, rests, shifted, off, moveOf}
 
 -- ---- one axis
 

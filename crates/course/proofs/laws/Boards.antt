@@ -7,8 +7,8 @@ use lib.ListN.{length}
 use borrow.Author.Tests.{eq-eqb}
 use Rattle.count.specs.Pick.{pick}
 use Rattle.count.proofs.laws.Truth.{and-right, and-true, and-false}
-use Rattle.motion.specs.work.Here.{nextOf}
-use Rattle.motion.specs.Next.{pulseOf}
+use Rattle.travel.specs.Next.{pulseOf}
+use Rattle.travel.specs.work.Beat.{nextOf}
 use Rattle.record.specs.Memory.{Memory, RightMemory}
 use Rattle.record.specs.Table.{fetchOf}
 use Rattle.engine.specs.declared.Engine.{Engine}

@@ -5,11 +5,10 @@ use mathlib.Core.Path.{_≡_, refl, ap, sym, _∙_}
 use mathlib.Core.Bool.{true}
 use native.Mathlib.Omega.{arith}
 use Rattle.motion.specs.declared.Counters.{Counters}
-use Rattle.motion.specs.declared.Next.{Next}
-use Rattle.motion.specs.declared.Next.the-variants as next
-use Rattle.motion.specs.work.Here.{nextOf, withinOf}
-use Rattle.motion.specs.work.Made.{made}
-use Rattle.motion.proofs.laws.Within.{within-next}
+use Rattle.travel.specs.Next.{Next}
+use Rattle.travel.specs.Next.Next.{Made, Over}
+use Rattle.travel.specs.work.Beat.{nextOf, withinOf, made}
+use Rattle.travel.proofs.laws.Within.{within-next}
 use Rattle.record.specs.Memory.{Memory}
 use Rattle.record.specs.Table.{fetchOf}
 use Rattle.engine.specs.declared.Engine.{Engine}
@@ -24,7 +23,7 @@ use Rattle.course.specs.work.Machine.{Way, stays, then}
 use Rattle.course.specs.work.Glide.{Gone, here, glides, glideOn, glideSaid, goneBy, saidBy}
 use Rattle.course.specs.work.Going.{glideJob, goWay, inDirect, inMoving, tickNext, tickSaid}
 
--- ---- a pulse of the movement is a clock call of the engine that holds it
+-- ---- a pulse of what moves is a clock call of the engine that holds it
 
 abbrev Same : Memory → (Gone → Engine) → Gone → Type 0
 Same mem put t = (runsOf (put t) ≡ true) × (tickNext mem (put t) ≡ put (glideOn t)) × (tickSaid mem (put t) ≡ glideSaid t)
@@ -32,13 +31,13 @@ Same mem put t = (runsOf (put t) ≡ true) × (tickNext mem (put t) ≡ put (gli
 module _ (mem : Memory) (e : Engine) (t : Gone) where
   direct-by : (x : Next) → nextOf (t .rest) (t .at) ≡ x → made x ≡ true
       → (directly x (inDirect e t) .engine ≡ inDirect e (goneBy x t)) × (answerText (directly x (inDirect e t) .answer) ≡ saidBy x)
-  direct-by (next.Made s) p q = (ap (λ (c : Counters). inDirect e (here (s .rest) c)) (sym (next-moved (t .rest) (t .at) s refl p)), refl)
-  direct-by next.Over p q = let z : _≡_ {A = ℕ} 0 1 = cc in absurd (omega arith)
+  direct-by (Made s) p q = (ap (λ (c : Counters). inDirect e (here (s .rest) c)) (sym (next-moved (t .rest) (t .at) s refl p)), refl)
+  direct-by Over p q = let z : _≡_ {A = ℕ} 0 1 = cc in absurd (omega arith)
 
   moving-by : (x : Next) → nextOf (t .rest) (t .at) ≡ x → made x ≡ true
       → (movingOn nextOf (fetchOf (e .held) mem) x (inMoving e t) .engine ≡ inMoving e (goneBy x t)) × (answerText (movingOn nextOf (fetchOf (e .held) mem) x (inMoving e t) .answer) ≡ saidBy x)
-  moving-by (next.Made s) p q = (ap (λ (c : Counters). inMoving e (here (s .rest) c)) (sym (next-moved (t .rest) (t .at) s refl p)), refl)
-  moving-by next.Over p q = let z : _≡_ {A = ℕ} 0 1 = cc in absurd (omega arith)
+  moving-by (Made s) p q = (ap (λ (c : Counters). inMoving e (here (s .rest) c)) (sym (next-moved (t .rest) (t .at) s refl p)), refl)
+  moving-by Over p q = let z : _≡_ {A = ℕ} 0 1 = cc in absurd (omega arith)
 
   same-direct : glides t ≡ true → Same mem (inDirect e) t
   unfolding glides ticked runsOf

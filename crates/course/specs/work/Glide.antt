@@ -5,11 +5,11 @@ use mathlib.Core.List.{List, []}
 use Rattle.motion.specs.declared.Counters.{Counters}
 use Rattle.travel.specs.declared.Travel.{Travel}
 use Rattle.travel.specs.Next.{Next}
-use Rattle.travel.specs.Next.Next as next
+use Rattle.travel.specs.Next.Next.{Made, Over}
 use Rattle.travel.specs.work.Beat.{withinOf, made}
 use Rattle.course.specs.declared.Glided.{Glided}
 use Rattle.course.specs.Text.{pulseText}
-use Rattle.course.specs.work.Machine.{Way, way, Left, leftBy}
+use Rattle.course.specs.work.Machine.{way, Left, leftBy}
 
 pub record Gone : Type 0 where
   pub rest : Travel
@@ -19,12 +19,12 @@ abbrev pub here : Travel → Counters → Gone
 here m at = record { rest = m; at = at }
 
 abbrev pub goneBy : Next → Gone → Gone
-goneBy (next.Made s) g = here (s .rest) (s .at)
-goneBy next.Over g = g
+goneBy (Made s) g = here (s .rest) (s .at)
+goneBy Over g = g
 
 abbrev pub saidBy : Next → List ℕ
-saidBy (next.Made s) = pulseText (s .signs) (s .speed)
-saidBy next.Over = []
+saidBy (Made s) = pulseText (s .signs) (s .speed)
+saidBy Over = []
 
 unfoldable pub glides : Gone → Bool
 glides g = made (withinOf (g .rest) (g .at))

@@ -1,19 +1,19 @@
 -- An accepted program that nobody alters never ends with G: whatever its waits hear, every call keeps the store's part in use, and one
--- after which nothing runs has sent 0 or 9. Where it reaches the end place it sends 0 and is idle. (A record `1` may send the
--- character G itself; the run then goes on.) Assumes nothing.
+-- after which nothing runs has sent 0, or 9, 3 or 1 of a movement or circle. Where it reaches the end place it sends 0 and is idle. (A
+-- record `1` may send the character G itself; the run then goes on.) Assumes nothing.
 use Prim.Native.Nat.{ℕ, zero, suc, _+_, _<_}
-use mathlib.Core.Path.{_≡_, refl, sym, ap, subst}
+use mathlib.Core.Path.{_≡_, refl, sym, ap, _∙_, subst}
 use mathlib.Core.Bool.{Bool, true, false}
 use mathlib.Core.List.{List}
-use mathlib.Core.Logic.{_⊎_, inl, inr}
 use native.Mathlib.Numerals.{add-one}
 use native.Mathlib.Omega.{arith}
 use lib.Dec.{ltb, eqb}
 use lib.ListN.{length, getD}
 use borrow.Author.Tests.{le-ltb, eq-eqb, ne-eqb, ltb-true, ltb-false, eqb-false}
 use Rattle.count.specs.Pick.{pick}
-use Rattle.motion.specs.declared.Move.{Move}
+use Rattle.travel.specs.declared.Travel.{Travel}
 use Rattle.record.specs.declared.Record.{Record}
+use Rattle.record.specs.Bytes.{isRight}
 use Rattle.record.specs.Bytes.Fetch.{Got, End, Wrong}
 use Rattle.program.specs.declared.Loops.{Loops}
 use Rattle.program.specs.declared.Way.{Way}
@@ -23,6 +23,7 @@ use Rattle.program.specs.Program.{recordIn}
 use Rattle.program.proofs.laws.Run.{Accepted}
 use Rattle.program.proofs.laws.Sends.{on-other}
 use Rattle.program.proofs.laws.Discipline.{Disciplined, FaresBy, Fares, fares}
+use Rattle.engine.specs.declared.Answer.{Answer}
 use Rattle.engine.specs.declared.Answer.the-variants as answer
 use Rattle.engine.specs.declared.Job.{Job}
 use Rattle.engine.specs.declared.Job.the-variants as job
@@ -30,6 +31,7 @@ use Rattle.engine.specs.declared.Engine.{Engine}
 use Rattle.engine.specs.declared.Told.{Told}
 use Rattle.engine.specs.Tick.{Rule, afterPause, ticked, runsOf, listFetch}
 use Rattle.engine.proofs.laws.Cases.{Plain, wayOf, RecordCases, record-cases, readsBy, Cases, cases}
+use Rattle.engine.proofs.laws.Endings.{isEnding, refused-ends}
 
 -- ---- the list machine's fetch
 
@@ -71,10 +73,16 @@ pub record OnList (l : List Record) (e : Engine) : Type 0 where
   pub count : e .held .records ≡ length l
   pub fair : JobFair l (e .run .job) (e .run .place) (e .run .loops)
 
--- what a call or a byte comes to: the store's part in use stays, and where nothing runs any more 0 or 9 was sent
+-- its last call
+pub record Ended (a : Answer) : Type 0 where
+  pub byte : ℕ
+  pub sent : a ≡ answer.Send byte
+  pub one : isEnding byte ≡ true
+
+-- what a call or a byte comes to: the store's part in use stays, and where nothing runs any more one of these was sent
 pub record NoG (e : Engine) (t : Told) : Type 0 where
   pub held : t .engine .held ≡ e .held
-  pub ends : runsOf e ≡ true → t .engine .run .job ≡ job.Idle → (t .answer ≡ answer.Send 48) ⊎ (t .answer ≡ answer.Send 57)
+  pub ends : runsOf e ≡ true → t .engine .run .job ≡ job.Idle → Ended (t .answer)
 
 pub record Fair (l : List Record) (e : Engine) (t : Told) : Type 0 where
   pub none : NoG e t
@@ -104,10 +112,10 @@ pause-goes (suc q) e = let z : _≡_ {A = ℕ} 0 1 = cc in omega arith
 ready-goes : Goes job.Ready
 ready-goes e = let z : _≡_ {A = ℕ} 0 1 = cc in omega arith
 
-direct-goes : (m : Move) → Goes (job.Direct m)
+direct-goes : (m : Travel) → Goes (job.Direct m)
 direct-goes m e = let z : _≡_ {A = ℕ} 0 1 = cc in omega arith
 
-moving-goes : (m : Move) → Goes (job.Moving m)
+moving-goes : (m : Travel) → Goes (job.Moving m)
 moving-goes m e = let z : _≡_ {A = ℕ} 0 1 = cc in omega arith
 
 wait-goes : (c t : ℕ) → Goes (job.Wait c t)
@@ -123,6 +131,13 @@ module _ (axes : ℕ) (l : List Record) (a : Accepted axes l) (rule : Rule) (e :
   going-on : (t : Told) → t .engine .held ≡ e .held → Goes (t .engine .run .job)
       → JobFair l (t .engine .run .job) (t .engine .run .place) (t .engine .run .loops) → Fair l e t
   going-on t h g f = record { none = record { held = h; ends = λ p q. absurd (g q) }; on = f }
+
+  ended : (t : Told) (b : ℕ) → t .engine .held ≡ e .held → t .answer ≡ answer.Send b → isEnding b ≡ true
+      → JobFair l (t .engine .run .job) (t .engine .run .place) (t .engine .run .loops) → Fair l e t
+  ended t b h s o f = record { none = record { held = h; ends = λ p q. record { byte = b; sent = s; one = o } }; on = f }
+
+  right-here : (r : Record) → listFetch l place ≡ Got r → isRight axes r ≡ true
+  right-here r q = let g = list-got l place q in ap (isRight axes) (g .1) ∙ a .right place (g .0)
 
   here : readsBy (e .run .job) ≡ true → Disciplined l place open-loops
   here b = reads-fair l (e .run .job) place open-loops b (w .fair)
@@ -149,9 +164,10 @@ module _ (axes : ℕ) (l : List Record) (a : Accepted axes l) (rule : Rule) (e :
       record {
         pulse = λ p m s u v. going-on _ refl (moving-goes (s .rest)) (on p);
         still = λ p. going-on _ refl ready-goes (on p);
-        outside = λ p. record { none = record { held = refl; ends = λ u v. inr refl }; on = tt };
+        refused = λ b k p. ended _ b refl refl (refused-ends axes r (right-here r q) e b p k) tt;
         origin = λ p u. going-on _ refl ready-goes (on p);
         three = λ p u. going-on _ refl ready-goes (on p);
+        turned = λ p u c. going-on _ refl ready-goes (on p);
         pause = λ p t. going-on _ refl (pause-goes t) (pause-fair l t (place + 1) open-loops (on p));
         send = λ p u. going-on _ refl ready-goes (on p);
         to = λ p. going-on _ refl ready-goes (subst (λ (g : Going). FaresBy l g (wayOf r e)) p f);
@@ -166,10 +182,10 @@ module _ (axes : ℕ) (l : List Record) (a : Accepted axes l) (rule : Rule) (e :
       on = w .fair;
     };
     direct = λ m s p q. going-on _ refl (direct-goes (s .rest)) tt;
-    arrived = λ m p q. record { none = record { held = refl; ends = λ u v. inl refl }; on = tt };
+    arrived = λ m p q. ended _ 48 refl refl refl tt;
     on = λ m s p q. going-on _ refl (moving-goes (s .rest)) (here (ap readsBy p));
     pause = λ q p. going-on _ refl (pause-goes q) (pause-fair l q place open-loops (subst (λ (j : Job). JobFair l j place open-loops) p (w .fair)));
-    end = λ b p. record { none = record { held = refl; ends = λ u v. inl refl }; on = tt };
+    end = λ b p. ended _ 48 refl refl refl tt;
     wrong = λ b p. let d = here b .place-in in absurd (omega (arith, list-wrong l place p));
     got = λ b r p. record-cases rule r e (Fair l e) (record-fair r b p);
   }

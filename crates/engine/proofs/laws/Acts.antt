@@ -5,19 +5,17 @@ use mathlib.Core.Bool.{Bool, true, false, not, _&&_}
 use native.Mathlib.Omega.{arith}
 use Rattle.count.specs.Pick.{pick}
 use Rattle.motion.specs.declared.Counters.{Counters}
-use Rattle.motion.specs.declared.Move.{Move}
-use Rattle.motion.specs.declared.Stepped.{Stepped}
 use Rattle.motion.specs.declared.Beat.{Beat}
 use Rattle.motion.specs.declared.Beaten.{Beaten}
 use Rattle.motion.specs.declared.Beaten.the-variants as beat
-use Rattle.motion.specs.declared.Next.{Next}
-use Rattle.motion.specs.declared.Next.the-variants as next
 use Rattle.motion.specs.declared.Look.{Look}
 use Rattle.motion.specs.declared.Look.the-variants as look
-use Rattle.motion.specs.Sound.{underWay}
-use Rattle.motion.specs.work.Here.{nextOf}
-use Rattle.motion.specs.work.Beat.{markOf, atMark, beatOf, beaten, lookedBy, lookOf}
-use Rattle.motion.proofs.laws.Beats.{next-rest, hit, missed}
+use Rattle.travel.specs.declared.Travel.{Travel}
+use Rattle.travel.specs.Next.{Stepped, Next}
+use Rattle.travel.specs.Next.Next.{Made, Over}
+use Rattle.travel.specs.Sound.{underWay}
+use Rattle.travel.specs.work.Beat.{nextOf, markOf, atMark, beatOf, beaten, lookedBy, lookOf}
+use Rattle.travel.proofs.laws.Beats.{next-rest, hit, missed}
 use Rattle.program.specs.declared.Loops.{Loops}
 use Rattle.engine.specs.declared.Answer.the-variants as answer
 use Rattle.engine.specs.declared.Job.{Job}
@@ -37,15 +35,15 @@ use Rattle.engine.proofs.laws.Work.{next-moved}
 -- ---- a pulse without the movement
 
 -- with the movement at its mark it is the pulse that 01 tells of
-module _ (kind : Move → Job) (place : ℕ) (l : Loops) (m : Move) (e : Engine) where
-  pub pulsed-told : (s : Stepped) → nextOf m (e .at) ≡ next.Made s
+module _ (kind : Travel → Job) (place : ℕ) (l : Loops) (m : Travel) (e : Engine) where
+  pub pulsed-told : (s : Stepped) → nextOf m (e .at) ≡ Made s
       → pulsed (running (kind (atMark m (markOf (s .rest)))) place l) (beatOf s) e ≡ told (withRun e (running (kind (s .rest)) place l)) (answer.Pulse (s .signs) (s .speed))
   pulsed-told s p =
       let a = next-moved m (e .at) s refl p in
       let r = next-rest m (e .at) s p in
       λ i. record { engine = withRun (withAt e (a i)) (running (kind (r i)) place l); answer = answer.Pulse (s .signs) (s .speed) }
 
-module _ (m : Move) (e : Engine) {x : Beaten} (h : x ≡ beaten (nextOf m (e .at))) where
+module _ (m : Travel) (e : Engine) {x : Beaten} (h : x ≡ beaten (nextOf m (e .at))) where
   pub first-made : (b : Beat) → x ≡ beat.Made b
       → pulsed (running (job.Moving (atMark m (b .mark))) (e .run .place + 1) (e .run .loops)) b e ≡ moving (nextOf m (e .at)) e
   first-made b p =
@@ -59,7 +57,7 @@ module _ (m : Move) (e : Engine) {x : Beaten} (h : x ≡ beaten (nextOf m (e .at
 
 -- ---- what is decided
 
-module _ (m : Move) (j : Job) (at : Counters) where
+module _ (m : Travel) (j : Job) (at : Counters) where
   pub act-made : (b : Beat) {u : Under} {x : Beaten} → u ≡ underOf j → u ≡ under.Going m → x ≡ beaten (nextOf m at) → x ≡ beat.Made b → act.Pulse b ≡ actBy nextOf j at
   unfolding actBy
   act-made b p q e f =
@@ -87,8 +85,8 @@ module _ (j : Job) (at : Counters) {u : Under} (p : u ≡ underOf j) (q : u ≡ 
 
 -- looking is deciding, or 103
 look-by : (b : Bool) (n : Next) (j : Job) → lookAct (pick b (lookedBy n) look.Wrong) j ≡ pick b (pulseAct n j) act.Wrong
-look-by true (next.Made s) j = refl
-look-by true next.Over j = refl
+look-by true (Made s) j = refl
+look-by true Over j = refl
 look-by false n j = refl
 
 looked : (j : Job) (at : Counters) → lookBy j at ≡ pick (jobSound j at) (actBy nextOf j at) act.Wrong
@@ -120,8 +118,8 @@ rest-right (job.Delay q) = refl
 rest-right (job.Wait c t) = refl
 
 pulse-right : (n : Next) (j : Job) → isWrong (pulseAct n j) ≡ false
-pulse-right (next.Made s) j = refl
-pulse-right next.Over j = rest-right j
+pulse-right (Made s) j = refl
+pulse-right Over j = rest-right j
 
 under-right : (u : Under) (j : Job) (at : Counters) → isWrong (actUnder nextOf u j at) ≡ false
 under-right (under.Going m) j at = pulse-right (nextOf m at) j
@@ -143,17 +141,17 @@ seen-act e s = rw s
 -- ---- and doing it
 
 module _ (fetch : Fetching) (e : Engine) where
-  direct-by : (m : Move) (n : Next) → e .run .job ≡ job.Direct m → nextOf m (e .at) ≡ n → actedBy nextOf fetch (pulseAct n (job.Direct m)) e ≡ directly n e
-  direct-by m (next.Made s) p q =
+  direct-by : (m : Travel) (n : Next) → e .run .job ≡ job.Direct m → nextOf m (e .at) ≡ n → actedBy nextOf fetch (pulseAct n (job.Direct m)) e ≡ directly n e
+  direct-by m (Made s) p q =
       ap (λ (j : Job). pulsed (running (markedJob (markOf (s .rest)) j) (e .run .place) (e .run .loops)) (beatOf s) e) p
       ∙ pulsed-told job.Direct (e .run .place) (e .run .loops) m e s q
-  direct-by m next.Over p q = refl
+  direct-by m Over p q = refl
 
-  moving-by : (m : Move) (n : Next) → e .run .job ≡ job.Moving m → nextOf m (e .at) ≡ n → actedBy nextOf fetch (pulseAct n (job.Moving m)) e ≡ movingOn nextOf fetch n e
-  moving-by m (next.Made s) p q =
+  moving-by : (m : Travel) (n : Next) → e .run .job ≡ job.Moving m → nextOf m (e .at) ≡ n → actedBy nextOf fetch (pulseAct n (job.Moving m)) e ≡ movingOn nextOf fetch n e
+  moving-by m (Made s) p q =
       ap (λ (j : Job). pulsed (running (markedJob (markOf (s .rest)) j) (e .run .place) (e .run .loops)) (beatOf s) e) p
       ∙ pulsed-told job.Moving (e .run .place) (e .run .loops) m e s q
-  moving-by m next.Over p q = refl
+  moving-by m Over p q = refl
 
   job-by : (j : Job) → e .run .job ≡ j → actedBy nextOf fetch (actUnder nextOf (underOf j) j (e .at)) e ≡ tickedBy nextOf fetch j e
   job-by job.Idle p = refl

@@ -2,18 +2,21 @@
 use Prim.Native.Nat.{ℕ, zero, suc}
 use mathlib.Core.Path.{_≡_, refl, sym, ap, _∙_}
 use mathlib.Core.Bool.{Bool, true, false, _||_}
+use mathlib.Core.Logic.{_⊎_, inl, inr}
 use native.Mathlib.Omega.{arith}
 use lib.Dec.{eqb}
 use lib.ListN.{getD}
 use borrow.Author.Tests.{eqb-true}
 use Rattle.count.specs.Pick.{pick}
-use Rattle.motion.specs.declared.Move.{Move}
-use Rattle.motion.specs.declared.Stepped.{Stepped}
-use Rattle.motion.specs.declared.Next.{Next}
-use Rattle.motion.specs.declared.Next.the-variants as next
-use Rattle.motion.specs.declared.Planned.{Planned}
-use Rattle.motion.specs.declared.Planned.the-variants as planned
-use Rattle.motion.specs.Plan.{Asked, asked, planOf}
+use Rattle.motion.specs.Plan.{Asked, asked}
+use Rattle.circle.specs.declared.Circling.{Circling}
+use Rattle.circle.specs.Plan.{planeOf, directionOf, circling}
+use Rattle.travel.specs.declared.Travel.{Travel}
+use Rattle.travel.specs.declared.Planned.{Planned}
+use Rattle.travel.specs.declared.Planned.the-variants as planned
+use Rattle.travel.specs.Next.{Stepped, Next}
+use Rattle.travel.specs.Next.Next.{Made, Over}
+use Rattle.travel.specs.Plan.{planOf, circleOf}
 use Rattle.record.specs.declared.Record.{Record}
 use Rattle.record.specs.Fault.{isMovement, isAbsolute}
 use Rattle.record.specs.Bytes.{Fetch}
@@ -27,7 +30,7 @@ use Rattle.engine.specs.declared.Job.{Job}
 use Rattle.engine.specs.declared.Job.the-variants as job
 use Rattle.engine.specs.declared.Engine.{Engine}
 use Rattle.engine.specs.declared.Told.{Told}
-use Rattle.engine.specs.State.{withThree, withRun, withJob, running, originOf}
+use Rattle.engine.specs.State.{withThree, withCircling, withRun, withJob, running, originOf}
 use Rattle.engine.specs.Tick.{Rule, Fetching, told, finished, failed, onTo, moving, movingBy, afterPause, delaying, leading, performed, fetched, directly, movingOn, tickedBy, ticked, runsBy, runsOf}
 
 -- ---- one record
@@ -35,6 +38,31 @@ use Rattle.engine.specs.Tick.{Rule, Fetching, told, finished, failed, on
 -- what a stored movement is planned from
 abbrev pub askedBy : Record → Engine → Asked
 askedBy r e = asked (e .held .axes) (e .three) (e .at) (e .origin) (isAbsolute (r .code)) (r .words)
+
+-- a circle as it is planned when its record is run
+abbrev pub roundBy : Record → Engine → Planned
+roundBy r e = circleOf (e .held .axes) (e .circling) (e .at) (r .words)
+
+-- a stored movement's plan, and a circle's
+unfoldable pub plannedBy : Record → Engine → Planned
+plannedBy r e = pick (isMovement (r .code)) (planOf (askedBy r e)) (roundBy r e)
+
+-- the plan of a movement, and of what is none
+module _ (r : Record) (e : Engine) where
+  abbrev planBy : Bool → Planned
+  planBy t = pick t (planOf (askedBy r e)) (roundBy r e)
+
+  pub straight-plan : isMovement (r .code) ≡ true → plannedBy r e ≡ planOf (askedBy r e)
+  unfolding plannedBy
+  straight-plan p = ap planBy p
+
+  pub round-plan : isMovement (r .code) ≡ false → plannedBy r e ≡ roundBy r e
+  unfolding plannedBy
+  round-plan p = ap planBy p
+
+-- a movement's code, or a circle's
+abbrev pub Travels : ℕ → Type 0
+Travels code = (isMovement code ≡ true) ⊎ (code ≡ 121)
 
 -- where a jump, a loop or a wait leads
 abbrev pub wayOf : Record → Engine → Way
@@ -46,12 +74,13 @@ pub record Plain (r : Record) : Type 0 where
   pub no-wait : r .code ≡ 50 → ⊥
 
 pub record RecordCases (rule : Rule) (r : Record) (e : Engine) (P : Told → Type 0) : Type 0 where
-  pub pulse : Plain r → (m : Move) (s : Stepped) → planOf (askedBy r e) ≡ planned.Going m → rule m (e .at) ≡ next.Made s
+  pub pulse : Plain r → (m : Travel) (s : Stepped) → plannedBy r e ≡ planned.Going m → rule m (e .at) ≡ Made s
       → P (told (onTo (job.Moving (s .rest)) e) (answer.Pulse (s .signs) (s .speed)))
   pub still : Plain r → P (told (onTo job.Ready e) answer.Done)
-  pub outside : planOf (askedBy r e) ≡ planned.Outside → P (finished 57 e)
+  pub refused : (b : ℕ) → Travels (r .code) → plannedBy r e ≡ planned.Refused b → P (finished b e)
   pub origin : Plain r → r .code ≡ 110 → P (told (onTo job.Ready (originOf (getD (r .words) 0 0) e)) answer.Done)
   pub three : Plain r → (b : Bool) → P (told (onTo job.Ready (withThree e b)) answer.Done)
+  pub turned : Plain r → (r .code ≡ 101) ⊎ (r .code ≡ 102) → (c : Circling) → P (told (onTo job.Ready (withCircling e c)) answer.Done)
   pub pause : Plain r → (t : ℕ) → P (told (onTo (afterPause t) e) answer.Pause)
   pub send : Plain r → r .code ≡ 49 → P (told (onTo job.Ready e) (answer.Send (getD (r .words) 0 0)))
   pub to : wayOf r e .going ≡ going.To → P (told (withRun e (running job.Ready (wayOf r e .place) (wayOf r e .loops))) answer.Done)
@@ -74,13 +103,13 @@ module _ (rule : Rule) (r : Record) (e : Engine) (P : Told → Type 0) (c : Reco
   is : (k : ℕ) → eqb (r .code) k ≡ true → r .code ≡ k
   is k q = eqb-true (r .code) k q
 
-  moved-by : Plain r → (m : Move) (n : Next) → planOf (askedBy r e) ≡ planned.Going m → rule m (e .at) ≡ n → P (moving n e)
-  moved-by l m (next.Made s) p q = c .pulse l m s p q
-  moved-by l m next.Over p q = c .still l
+  moved-by : Plain r → (m : Travel) (n : Next) → plannedBy r e ≡ planned.Going m → rule m (e .at) ≡ n → P (moving n e)
+  moved-by l m (Made s) p q = c .pulse l m s p q
+  moved-by l m Over p q = c .still l
 
-  planned-by : Plain r → (p : Planned) → planOf (askedBy r e) ≡ p → P (movingBy rule p e)
-  planned-by l (planned.Going m) q = moved-by l m (rule m (e .at)) q refl
-  planned-by l planned.Outside q = c .outside q
+  planned-by : Plain r → Travels (r .code) → (p : Planned) → plannedBy r e ≡ p → P (movingBy rule p e)
+  planned-by l k (planned.Going m) q = moved-by l m (rule m (e .at)) q refl
+  planned-by l k (planned.Refused b) q = c .refused b k q
 
   delayed-by : Plain r → (t : ℕ) → P (delaying t e)
   delayed-by l zero = c .still l
@@ -98,12 +127,19 @@ module _ (rule : Rule) (r : Record) (e : Engine) (P : Told → Type 0) (c : Reco
   pub record-cases : P (performed rule r e)
   unfolding performed
   record-cases =
-      pick-by (isMovement (r .code)) (λ p. planned-by (movement-plain p) (planOf (askedBy r e)) refl)
-      (λ p. pick-by (eqb (r .code) 110) (λ q. c .origin (plain 110 (is 110 q) (λ z. omega arith) (λ z. omega arith)) (is 110 q))
+      let w = getD (r .words) 0 0 in
+      pick-by (isMovement (r .code)) (λ p. planned-by (movement-plain p) (inl p) (planOf (askedBy r e)) (straight-plan r e p))
+      (λ m. pick-by (eqb (r .code) 110) (λ q. c .origin (plain 110 (is 110 q) (λ z. omega arith) (λ z. omega arith)) (is 110 q))
       (λ p. pick-by (eqb (r .code) 122) (λ q. c .three (plain 122 (is 122 q) (λ z. omega arith) (λ z. omega arith)) (eqb (getD (r .words) 0 0) 1))
       (λ p. pick-by (eqb (r .code) 53) (λ q. delayed-by (plain 53 (is 53 q) (λ z. omega arith) (λ z. omega arith)) (getD (r .words) 0 0))
       (λ p. pick-by (eqb (r .code) 49) (λ q. c .send (plain 49 (is 49 q) (λ z. omega arith) (λ z. omega arith)) (is 49 q))
-      (λ p. led-by (wayOf r e .going) refl)))))
+      (λ p. pick-by (eqb (r .code) 101)
+      (λ q. c .turned (plain 101 (is 101 q) (λ z. omega arith) (λ z. omega arith)) (inl (is 101 q)) (circling (planeOf w) (e .circling .direction)))
+      (λ p. pick-by (eqb (r .code) 102)
+      (λ q. c .turned (plain 102 (is 102 q) (λ z. omega arith) (λ z. omega arith)) (inr (is 102 q)) (circling (e .circling .plane) (directionOf w)))
+      (λ p. pick-by (eqb (r .code) 121)
+      (λ q. planned-by (plain 121 (is 121 q) (λ z. omega arith) (λ z. omega arith)) (inr (is 121 q)) (roundBy r e) (round-plan r e m))
+      (λ p. led-by (wayOf r e .going) refl))))))))
 
 -- ---- one call
 
@@ -119,10 +155,10 @@ readsBy (job.Wait c t) = false
 
 pub record Cases (rule : Rule) (fetch : Fetching) (e : Engine) (P : Told → Type 0) : Type 0 where
   pub nothing : runsOf e ≡ false → P (told e answer.Nothing)
-  pub direct : (m : Move) (s : Stepped) → e .run .job ≡ job.Direct m → rule m (e .at) ≡ next.Made s
+  pub direct : (m : Travel) (s : Stepped) → e .run .job ≡ job.Direct m → rule m (e .at) ≡ Made s
       → P (told (withJob e (job.Direct (s .rest))) (answer.Pulse (s .signs) (s .speed)))
-  pub arrived : (m : Move) → e .run .job ≡ job.Direct m → rule m (e .at) ≡ next.Over → P (finished 48 e)
-  pub on : (m : Move) (s : Stepped) → e .run .job ≡ job.Moving m → rule m (e .at) ≡ next.Made s
+  pub arrived : (m : Travel) → e .run .job ≡ job.Direct m → rule m (e .at) ≡ Over → P (finished 48 e)
+  pub on : (m : Travel) (s : Stepped) → e .run .job ≡ job.Moving m → rule m (e .at) ≡ Made s
       → P (told (withJob e (job.Moving (s .rest))) (answer.Pulse (s .signs) (s .speed)))
   pub pause : (q : ℕ) → e .run .job ≡ job.Delay q → P (told (withJob e (afterPause q)) answer.Pause)
   pub end : readsBy (e .run .job) ≡ true → fetch (e .run .place) ≡ End → P (finished 48 e)
@@ -135,13 +171,13 @@ module _ (rule : Rule) (fetch : Fetching) (e : Engine) (P : Told → Type 0) (c 
   fetched-by l End q = c .end l q
   fetched-by l Wrong q = c .wrong l q
 
-  direct-by : (m : Move) (n : Next) → e .run .job ≡ job.Direct m → rule m (e .at) ≡ n → P (directly n e)
-  direct-by m (next.Made s) p q = c .direct m s p q
-  direct-by m next.Over p q = c .arrived m p q
+  direct-by : (m : Travel) (n : Next) → e .run .job ≡ job.Direct m → rule m (e .at) ≡ n → P (directly n e)
+  direct-by m (Made s) p q = c .direct m s p q
+  direct-by m Over p q = c .arrived m p q
 
-  on-by : (m : Move) (n : Next) → e .run .job ≡ job.Moving m → rule m (e .at) ≡ n → P (movingOn rule fetch n e)
-  on-by m (next.Made s) p q = c .on m s p q
-  on-by m next.Over p q = fetched-by (ap readsBy p) (fetch (e .run .place)) refl
+  on-by : (m : Travel) (n : Next) → e .run .job ≡ job.Moving m → rule m (e .at) ≡ n → P (movingOn rule fetch n e)
+  on-by m (Made s) p q = c .on m s p q
+  on-by m Over p q = fetched-by (ap readsBy p) (fetch (e .run .place)) refl
 
   job-by : (j : Job) → e .run .job ≡ j → (runsBy j ≡ false → runsOf e ≡ false) → P (tickedBy rule fetch j e)
   job-by job.Idle p f = c .nothing (f refl)

@@ -1,6 +1,6 @@
 -- What 103 asks of an engine is kept by every clock call, whatever is fetched, and by everything that lines and control codes do to it.
 -- Assumes nothing.
-use Prim.Native.Nat.{ℕ, zero, suc, _+_, _-_, _≤_, _<_}
+use Prim.Native.Nat.{ℕ, zero, suc, _+_, _≤_, _<_}
 use mathlib.Core.Path.{_≡_, refl, sym, ap, _∙_}
 use mathlib.Core.Bool.{Bool, true, false, _&&_}
 use native.Mathlib.Omega.{arith}
@@ -11,16 +11,16 @@ use Rattle.count.specs.Pick.{pick}
 use Rattle.count.specs.Numbers.{full}
 use Rattle.count.specs.Ranges.{nth}
 use Rattle.motion.specs.declared.Counters.{Counters}
-use Rattle.motion.specs.declared.Move.{Move}
-use Rattle.motion.specs.declared.Stepped.{Stepped}
-use Rattle.motion.specs.declared.Next.the-variants as next
 use Rattle.motion.specs.Phase.{movedAll}
-use Rattle.motion.proofs.laws.Plans.{plan-sound}
-use Rattle.motion.specs.work.Here.{nextOf}
-use Rattle.motion.specs.Next.{pulseOf}
-use Rattle.motion.proofs.laws.Onward.{next-keeps}
-use Rattle.motion.specs.Sound.{counted, underWay}
+use Rattle.motion.specs.Sound.{counted}
 use Rattle.motion.proofs.laws.Passed.{in24-of, counted-of}
+use Rattle.circle.specs.declared.Circling.{Circling}
+use Rattle.travel.specs.declared.Travel.{Travel}
+use Rattle.travel.specs.Next.{Stepped, pulseOf}
+use Rattle.travel.specs.Next.Next.{Made}
+use Rattle.travel.specs.Sound.{underWay}
+use Rattle.travel.specs.work.Beat.{nextOf}
+use Rattle.travel.proofs.laws.Onward.{next-keeps}
 use Rattle.record.specs.declared.Held.{Held}
 use Rattle.record.specs.declared.Record.{Record}
 use Rattle.program.specs.declared.Loops.{Loops}
@@ -32,13 +32,13 @@ use Rattle.engine.specs.declared.Job.the-variants as job
 use Rattle.engine.specs.declared.Engine.{Engine}
 use Rattle.engine.specs.declared.Told.{Told}
 use Rattle.count.specs.Ranges.{names}
-use Rattle.engine.specs.State.{withAt, withThree, withHeld, withRun, running, zeroes, mixed, originOf, ceased, emptied}
+use Rattle.engine.specs.State.{withAt, withThree, withCircling, withHeld, withRun, running, zeroes, mixed, originOf, ceased, emptied}
 use Rattle.engine.specs.Tick.{Fetching, afterPause, ticked}
 use Rattle.engine.specs.Sound.{axesKnown, jobSound, soundOf}
 use Rattle.engine.proofs.laws.Work.{next-moved}
-use Rattle.engine.proofs.laws.Cases.{askedBy, wayOf, RecordCases, record-cases, Cases, cases}
+use Rattle.engine.proofs.laws.Cases.{wayOf, RecordCases, record-cases, Cases, cases}
 use Rattle.engine.proofs.laws.Facts.{Sane, facts, sane}
-use Rattle.engine.proofs.laws.Laws.{rules-agree}
+use Rattle.engine.proofs.laws.Laws.{planned-sound, rules-agree}
 
 -- ---- the open loops stay at most seven
 
@@ -155,6 +155,18 @@ module _ (e : Engine) (s : Sane e) where
     job = s .job;
   }
 
+  pub circling-sane : (c : Circling) → Sane (withCircling e c)
+  circling-sane c = record {
+    at = s .at;
+    origin = s .origin;
+    axes = s .axes;
+    stored = s .stored;
+    used = s .used;
+    records = s .records;
+    loops = s .loops;
+    job = s .job;
+  }
+
   pub origin-sane : (axes : ℕ) → Sane (originOf axes e)
   origin-sane axes = record {
     at = s .at;
@@ -168,7 +180,7 @@ module _ (e : Engine) (s : Sane e) where
   }
 
   -- a pulse of a movement under way, direct or of a program
-  pub pulse-sane : (j : Job) (place : ℕ) (m : Move) (p : Stepped) → underWay m (e .at) ≡ true → nextOf m (e .at) ≡ next.Made p
+  pub pulse-sane : (j : Job) (place : ℕ) (m : Travel) (p : Stepped) → underWay m (e .at) ≡ true → nextOf m (e .at) ≡ Made p
       → ((c : Counters) → underWay (p .rest) c ≡ true → jobSound j c ≡ true)
       → Sane (withAt (withRun e (running j place (e .run .loops))) (movedAll (e .at) (p .signs)))
   pulse-sane j place m p u q f =
@@ -189,10 +201,10 @@ after-sound : (t : ℕ) (c : Counters) → jobSound (afterPause t) c ≡ true
 after-sound zero c = refl
 after-sound (suc t) c = refl
 
-job-under : (j : Job) (m : Move) (at : Counters) → j ≡ job.Direct m → jobSound j at ≡ true → underWay m at ≡ true
+job-under : (j : Job) (m : Travel) (at : Counters) → j ≡ job.Direct m → jobSound j at ≡ true → underWay m at ≡ true
 job-under j m at p h = ap (λ (k : Job). jobSound k at) (sym p) ∙ h
 
-moving-under : (j : Job) (m : Move) (at : Counters) → j ≡ job.Moving m → jobSound j at ≡ true → underWay m at ≡ true
+moving-under : (j : Job) (m : Travel) (at : Counters) → j ≡ job.Moving m → jobSound j at ≡ true → underWay m at ≡ true
 moving-under j m at p h = ap (λ (k : Job). jobSound k at) (sym p) ∙ h
 
 module _ (f : Fetching) (e : Engine) (s : Sane e) where
@@ -203,11 +215,12 @@ module _ (f : Fetching) (e : Engine) (s : Sane e) where
   record-kept r =
       let l = few-loops (e .run .loops) (s .loops) r (e .run .place) (e .held .records) in
       record {
-        pulse = λ k m g q u. pulse-sane e s (job.Moving (g .rest)) (e .run .place + 1) m g (plan-sound (askedBy r e) m (s .at) q) u (λ c w. w);
+        pulse = λ k m g q u. pulse-sane e s (job.Moving (g .rest)) (e .run .place + 1) m g (planned-sound r e m (s .at) q) u (λ c w. w);
         still = λ k. run-sane e s job.Ready (e .run .place + 1) (e .run .loops) (λ c. refl) (s .loops);
-        outside = λ q. ceased-sane e s;
+        refused = λ b k q. ceased-sane e s;
         origin = λ k q. run-sane (originOf (getD (r .words) 0 0) e) (origin-sane e s (getD (r .words) 0 0)) job.Ready (e .run .place + 1) (e .run .loops) (λ c. refl) (s .loops);
         three = λ k b. run-sane (withThree e b) (three-sane e s b) job.Ready (e .run .place + 1) (e .run .loops) (λ c. refl) (s .loops);
+        turned = λ k q c. run-sane (withCircling e c) (circling-sane e s c) job.Ready (e .run .place + 1) (e .run .loops) (λ p. refl) (s .loops);
         pause = λ k t. run-sane e s (afterPause t) (e .run .place + 1) (e .run .loops) (after-sound t) (s .loops);
         send = λ k q. run-sane e s job.Ready (e .run .place + 1) (e .run .loops) (λ c. refl) (s .loops);
         to = λ q. run-sane e s job.Ready (wayOf r e .place) (wayOf r e .loops) (λ c. refl) l;

@@ -1,23 +1,25 @@
 -- The laws of one clock call: both rules agree on a sound engine; idle, storing and waiting it answers nothing and changes nothing;
--- the counters move by the answer alone; an origin changes only by a record `n`; the store's part in use only by G. Assumes nothing.
+-- the counters move by the answer alone; an origin changes only by a record `n`, plane and direction only by `e` and `f`; the store's part
+-- in use only by G. Assumes nothing.
 use mathlib.Core.Path.{_≡_, refl, sym, ap, _∙_}
 use mathlib.Core.Bool.{Bool, true, false}
 use mathlib.Core.Logic.{_⊎_, inl, inr}
+use lib.Dec.{eqb}
 use Rattle.count.specs.Pick.{pick}
 use Rattle.count.proofs.laws.Truth.{never}
 use Rattle.motion.specs.declared.Counters.{Counters}
-use Rattle.motion.specs.declared.Move.{Move}
-use Rattle.motion.specs.declared.Next.{Next}
-use Rattle.motion.specs.declared.Next.the-variants as next
-use Rattle.motion.specs.declared.Planned.{Planned}
-use Rattle.motion.specs.declared.Planned.the-variants as planned
 use Rattle.motion.specs.Phase.{movedAll}
-use Rattle.motion.specs.Plan.{planOf}
-use Rattle.motion.proofs.laws.Plans.{plan-sound}
-use Rattle.motion.specs.work.Here.{nextOf}
-use Rattle.motion.specs.Next.{pulseOf}
-use Rattle.motion.proofs.laws.Onward.{next-is-pulse}
 use Rattle.motion.specs.Sound.{counted}
+use Rattle.travel.specs.declared.Travel.{Travel}
+use Rattle.travel.specs.declared.Planned.{Planned}
+use Rattle.travel.specs.declared.Planned.the-variants as planned
+use Rattle.travel.specs.Next.{Next, pulseOf}
+use Rattle.travel.specs.Next.Next.{Made, Over}
+use Rattle.travel.specs.Plan.{planOf}
+use Rattle.travel.specs.Sound.{underWay}
+use Rattle.travel.specs.work.Beat.{nextOf}
+use Rattle.travel.proofs.laws.Onward.{next-is-pulse}
+use Rattle.travel.proofs.laws.Plans.{plan-sound, circle-sound}
 use Rattle.record.specs.declared.Record.{Record}
 use Rattle.record.specs.Fault.{isMovement}
 use Rattle.record.specs.Bytes.{Fetch}
@@ -30,25 +32,48 @@ use Rattle.engine.specs.declared.Engine.{Engine}
 use Rattle.engine.specs.declared.Told.{Told}
 use Rattle.engine.specs.Tick.{Rule, Fetching, told, failed, moving, movingBy, performed, fetched, directly, movingOn, tickedBy, ticked, runsBy, runsOf}
 use Rattle.engine.specs.Sound.{jobSound, soundOf}
-use Rattle.engine.proofs.laws.Cases.{askedBy, record-cases, cases}
+use Rattle.engine.proofs.laws.Cases.{askedBy, roundBy, plannedBy, straight-plan, round-plan, record-cases, cases}
 use Rattle.engine.proofs.laws.Facts.{facts}
+
+-- ---- a stored movement and a stored circle
+
+-- 103 lets pass what is planned, of either kind
+pub planned-sound : (r : Record) (e : Engine) (m : Travel) → counted (e .at) ≡ true → plannedBy r e ≡ planned.Going m → underWay m (e .at) ≡ true
+planned-sound r e m h q = by (isMovement (r .code)) refl
+  where
+    by : (t : Bool) → isMovement (r .code) ≡ t → underWay m (e .at) ≡ true
+    by true p = plan-sound (askedBy r e) m h (sym (straight-plan r e p) ∙ q)
+    by false p = circle-sound (e .held .axes) (e .circling) (e .at) (r .words) m (sym (round-plan r e p) ∙ q)
 
 -- ---- both rules agree
 
+both : (t : Bool) {a b c d : Told} → a ≡ b → c ≡ d → pick t a c ≡ pick t b d
+both true p q = p
+both false p q = q
+
 module _ (e : Engine) (h : counted (e .at) ≡ true) where
-  planned-same : (p : Planned) → ((m : Move) → p ≡ planned.Going m → nextOf m (e .at) ≡ pulseOf m (e .at)) → movingBy nextOf p e ≡ movingBy pulseOf p e
+  planned-same : (p : Planned) → ((m : Travel) → p ≡ planned.Going m → nextOf m (e .at) ≡ pulseOf m (e .at)) → movingBy nextOf p e ≡ movingBy pulseOf p e
   planned-same (planned.Going m) f = ap (λ (n : Next). moving n e) (f m refl)
-  planned-same planned.Outside f = refl
+  planned-same (planned.Refused b) f = refl
 
-  first : (t : Bool) {a b : Told} (c : Told) → a ≡ b → pick t a c ≡ pick t b c
-  first true c p = p
-  first false c p = refl
+  straight-same : (r : Record) → movingBy nextOf (planOf (askedBy r e)) e ≡ movingBy pulseOf (planOf (askedBy r e)) e
+  straight-same r = planned-same (planOf (askedBy r e)) (λ m q. next-is-pulse m (e .at) (plan-sound (askedBy r e) m h q))
 
+  round-same : (r : Record) → movingBy nextOf (roundBy r e) e ≡ movingBy pulseOf (roundBy r e) e
+  round-same r = planned-same (roundBy r e) (λ m q. next-is-pulse m (e .at) (circle-sound (e .held .axes) (e .circling) (e .at) (r .words) m q))
+
+  -- a record is run by the rule where it is a movement's or a circle's alone
   performed-same : (r : Record) → performed nextOf r e ≡ performed pulseOf r e
   unfolding performed
   performed-same r =
-      first (isMovement (r .code)) _
-      (planned-same (planOf (askedBy r e)) (λ m q. next-is-pulse m (e .at) (plan-sound (askedBy r e) m h q)))
+      both (isMovement (r .code)) (straight-same r)
+      (both (eqb (r .code) 110) refl
+      (both (eqb (r .code) 122) refl
+      (both (eqb (r .code) 53) refl
+      (both (eqb (r .code) 49) refl
+      (both (eqb (r .code) 101) refl
+      (both (eqb (r .code) 102) refl
+      (both (eqb (r .code) 121) (round-same r) refl)))))))
 
   fetched-same : (x : Fetch) → fetched nextOf x e ≡ fetched pulseOf x e
   fetched-same (Got r) = performed-same r
@@ -56,8 +81,8 @@ module _ (e : Engine) (h : counted (e .at) ≡ true) where
   fetched-same Wrong = refl
 
   on-same : (f : Fetching) (n : Next) → movingOn nextOf f n e ≡ movingOn pulseOf f n e
-  on-same f (next.Made s) = refl
-  on-same f next.Over = fetched-same (f (e .run .place))
+  on-same f (Made s) = refl
+  on-same f Over = fetched-same (f (e .run .place))
 
   job-same : (f : Fetching) (j : Job) → jobSound j (e .at) ≡ true → tickedBy nextOf f j e ≡ tickedBy pulseOf f j e
   job-same f job.Idle p = refl
@@ -115,9 +140,10 @@ counters-move r f e = cases r f e (Moves e) (record {
   got = λ b g p. record-cases r g e (Moves e) (record {
     pulse = λ l m s p q. refl;
     still = λ l. refl;
-    outside = λ p. refl;
+    refused = λ b k p. refl;
     origin = λ l p. refl;
     three = λ l b. refl;
+    turned = λ l k c. refl;
     pause = λ l t. refl;
     send = λ p q. refl;
     to = λ p. refl;
@@ -143,9 +169,39 @@ origins-stay r f e h = cases r f e (Stays e) (record {
   got = λ b g p. record-cases r g e (Stays e) (record {
     pulse = λ l m s p q. refl;
     still = λ l. refl;
-    outside = λ q. refl;
+    refused = λ b k q. refl;
     origin = λ l q. absurd (h g p q);
     three = λ l b. refl;
+    turned = λ l k c. refl;
+    pause = λ l t. refl;
+    send = λ l q. refl;
+    to = λ q. refl;
+    waits = λ q. refl;
+    lost = λ q. refl;
+  });
+})
+
+abbrev Rounds : Engine → Told → Type 0
+Rounds e t = t .engine .circling ≡ e .circling
+
+-- PLANE AND DIRECTION CHANGE ONLY BY RECORDS `e` AND `f`
+pub circling-stays : (r : Rule) (f : Fetching) (e : Engine) → ((g : Record) → f (e .run .place) ≡ Got g → (g .code ≡ 101) ⊎ (g .code ≡ 102) → ⊥)
+    → ticked r f e .engine .circling ≡ e .circling
+circling-stays r f e h = cases r f e (Rounds e) (record {
+  nothing = λ p. refl;
+  direct = λ m s p q. refl;
+  arrived = λ m p q. refl;
+  on = λ m s p q. refl;
+  pause = λ q p. refl;
+  end = λ p q. refl;
+  wrong = λ p q. refl;
+  got = λ b g p. record-cases r g e (Rounds e) (record {
+    pulse = λ l m s p q. refl;
+    still = λ l. refl;
+    refused = λ b k q. refl;
+    origin = λ l q. refl;
+    three = λ l b. refl;
+    turned = λ l k c. absurd (h g p k);
     pause = λ l t. refl;
     send = λ l q. refl;
     to = λ q. refl;
@@ -172,9 +228,10 @@ held-stays r f e = cases r f e (Holds e) (record {
   got = λ b g p. record-cases r g e (Holds e) (record {
     pulse = λ l m s p q. inl refl;
     still = λ l. inl refl;
-    outside = λ p. inl refl;
+    refused = λ b k p. inl refl;
     origin = λ l p. inl refl;
     three = λ l b. inl refl;
+    turned = λ l k c. inl refl;
     pause = λ l t. inl refl;
     send = λ l p. inl refl;
     to = λ p. inl refl;

@@ -7,13 +7,18 @@ use native.Mathlib.Omega.{arith}
 use lib.Dec.{eqb}
 use Rattle.count.specs.Pick.{pick}
 use Rattle.motion.specs.declared.Counters.{Counters}
-use Rattle.motion.specs.declared.Move.{Move}
-use Rattle.motion.specs.declared.Planned.{Planned}
-use Rattle.motion.specs.declared.Planned.the-variants as planned
-use Rattle.motion.specs.Plan.{asked, planOf}
-use Rattle.motion.proofs.laws.Plans.{plan-sound}
-use Rattle.motion.specs.Next.{leftOf}
-use Rattle.motion.specs.Sound.{counted, underWay}
+use Rattle.motion.specs.Plan.{asked}
+use Rattle.motion.specs.Sound.{counted}
+use Rattle.circle.specs.declared.Plane.{Plane}
+use Rattle.circle.specs.declared.Direction.{Direction}
+use Rattle.circle.specs.Plan.{circling}
+use Rattle.travel.specs.declared.Travel.{Travel}
+use Rattle.travel.specs.declared.Planned.{Planned}
+use Rattle.travel.specs.declared.Planned.the-variants as planned
+use Rattle.travel.specs.Next.{leftOf}
+use Rattle.travel.specs.Plan.{planOf, circleOf}
+use Rattle.travel.specs.Sound.{underWay}
+use Rattle.travel.proofs.laws.Plans.{plan-sound, circle-sound}
 use Rattle.record.specs.declared.Held.{Held}
 use Rattle.program.specs.Onward.{noLoops}
 use Rattle.engine.specs.declared.Begun.{Begun}
@@ -21,10 +26,10 @@ use Rattle.engine.specs.declared.Job.{Job}
 use Rattle.engine.specs.declared.Job.the-variants as job
 use Rattle.engine.specs.declared.Engine.{Engine}
 use Rattle.engine.specs.work.Glide.{glidedBy, glided}
-use Rattle.engine.specs.State.{withAt, withThree, withOutput, withHeld, withRun, running, withJob, zeroes, mixed, axesOf, originOf, zeroOf, ceased, started, emptied, fresh, storingOf, keptBy, resetOf, heardBy, heard, begunBy, beginOf}
+use Rattle.engine.specs.State.{withAt, withThree, withPlane, withDirection, withOutput, withHeld, withRun, running, withJob, zeroes, mixed, axesOf, originOf, zeroOf, ceased, started, emptied, fresh, storingOf, keptBy, resetOf, heardBy, heard, begunBy, beginOf, circleBegun}
 use Rattle.engine.specs.Sound.{axesKnown, jobSound, soundOf}
 use Rattle.engine.proofs.laws.Facts.{Sane, facts, sane}
-use Rattle.engine.proofs.laws.Kept.{mixed-counted, zeroes-counted, run-sane, ceased-sane, held-sane, emptied-sane, three-sane, origin-sane}
+use Rattle.engine.proofs.laws.Kept.{mixed-counted, zeroes-counted, run-sane, ceased-sane, held-sane, emptied-sane, three-sane, circling-sane, origin-sane}
 
 -- nothing but a movement under way ties the job to the counters
 abbrev pub Still : Job → Type 0
@@ -51,6 +56,12 @@ module _ (e : Engine) (h : soundOf e ≡ true) where
 
   pub three-keeps : (b : Bool) → soundOf (withThree e b) ≡ true
   three-keeps b = sane (withThree e b) (three-sane e (facts e h) b)
+
+  pub plane-keeps : (p : Plane) → soundOf (withPlane p e) ≡ true
+  plane-keeps p = sane (withPlane p e) (circling-sane e (facts e h) (circling p (e .circling .direction)))
+
+  pub direction-keeps : (d : Direction) → soundOf (withDirection d e) ≡ true
+  direction-keeps d = sane (withDirection d e) (circling-sane e (facts e h) (circling (e .circling .plane) d))
 
   pub origin-keeps : (axes : ℕ) → soundOf (originOf axes e) ≡ true
   origin-keeps axes = sane (originOf axes e) (origin-sane e (facts e h) axes)
@@ -156,13 +167,13 @@ module _ (e : Engine) (h : soundOf e ≡ true) where
         job = q;
       }
 
-  begun-sane : (p : Planned) → ((m : Move) → p ≡ planned.Going m → underWay m (e .at) ≡ true) → Sane (begunBy p e .engine)
+  begun-sane : (p : Planned) → ((m : Travel) → p ≡ planned.Going m → underWay m (e .at) ≡ true) → Sane (begunBy p e .engine)
   begun-sane (planned.Going m) f = by (eqb (leftOf m) 0)
     where
       by : (q : Bool) → Sane (pick {A = Begun} q (record { engine = e; reply = 48 }) (record { engine = withJob e (job.Direct m); reply = 0 }) .engine)
       by true = facts e h
       by false = move-sane (job.Direct m) (e .at) (facts e h .at) (f m refl)
-  begun-sane planned.Outside f = facts e h
+  begun-sane (planned.Refused b) f = facts e h
 
   pub begin-keeps : (absolute : Bool) (words : List ℕ) → soundOf (beginOf absolute words e .engine) ≡ true
   unfolding beginOf
@@ -170,7 +181,13 @@ module _ (e : Engine) (h : soundOf e ≡ true) where
       let q = asked (e .axes) (e .three) (e .at) (e .origin) absolute words in
       sane (beginOf absolute words e .engine) (begun-sane (planOf q) (λ m p. plan-sound q m (facts e h .at) p))
 
-  glided-sane : (j : Job) (at : Counters) (rest : Move) → counted at ≡ true → underWay rest at ≡ true → Sane (glidedBy j at rest e)
+  pub circle-keeps : (words : List ℕ) → soundOf (circleBegun words e .engine) ≡ true
+  unfolding circleBegun
+  circle-keeps words =
+      sane (circleBegun words e .engine)
+      (begun-sane (circleOf (e .axes) (e .circling) (e .at) words) (λ m p. circle-sound (e .axes) (e .circling) (e .at) words m p))
+
+  glided-sane : (j : Job) (at : Counters) (rest : Travel) → counted at ≡ true → underWay rest at ≡ true → Sane (glidedBy j at rest e)
   glided-sane (job.Direct m) at rest p q = move-sane (job.Direct rest) at p q
   glided-sane (job.Moving m) at rest p q = move-sane (job.Moving rest) at p q
   glided-sane job.Idle at rest p q = facts e h
@@ -179,6 +196,6 @@ module _ (e : Engine) (h : soundOf e ≡ true) where
   glided-sane (job.Delay k) at rest p q = facts e h
   glided-sane (job.Wait c t) at rest p q = facts e h
 
-  pub glide-keeps : (at : Counters) (rest : Move) → counted at ≡ true → underWay rest at ≡ true → soundOf (glided at rest e) ≡ true
+  pub glide-keeps : (at : Counters) (rest : Travel) → counted at ≡ true → underWay rest at ≡ true → soundOf (glided at rest e) ≡ true
   unfolding glided
   glide-keeps at rest p q = sane (glided at rest e) (glided-sane (e .run .job) at rest p q)

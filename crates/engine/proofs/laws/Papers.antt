@@ -1,6 +1,6 @@
 -- What the engine answers by what the crates below say on paper: a plan's reply, a pulse, where a record leads, what is found at a
 -- place. Assumes nothing.
-use mathlib.Core.Path.{_≡_, refl, ap, _∙_}
+use mathlib.Core.Path.{_≡_, refl, sym, ap, _∙_}
 use mathlib.Core.Bool.{Bool, true, false, not}
 use mathlib.Core.List.{List, [], _∷_}
 use Prim.Native.Nat.{ℕ}
@@ -9,13 +9,14 @@ use lib.Dec.{eqb}
 use lib.IntN.{pos}
 use Rattle.count.specs.Pick.{pick}
 use Rattle.count.specs.Paper.{Paper, says}
-use Rattle.motion.specs.declared.Move.{Move}
-use Rattle.motion.specs.declared.Next.{Next}
-use Rattle.motion.specs.declared.Next.the-variants as next
-use Rattle.motion.specs.declared.Planned.{Planned}
-use Rattle.motion.specs.declared.Planned.the-variants as planned
-use Rattle.motion.specs.Plan.{asked, planOf, plannedPaper}
-use Rattle.motion.specs.Next.{nextPaper}
+use Rattle.motion.specs.Plan.{asked}
+use Rattle.travel.specs.declared.Travel.{Travel}
+use Rattle.travel.specs.declared.Travel.the-variants as travel
+use Rattle.travel.specs.declared.Planned.{Planned}
+use Rattle.travel.specs.declared.Planned.the-variants as planned
+use Rattle.travel.specs.Next.{Next, nextPaper}
+use Rattle.travel.specs.Next.Next.{Made, Over}
+use Rattle.travel.specs.Plan.{planOf, circleOf, travelPaper, plannedPaper}
 use Rattle.record.specs.declared.Held.{Held}
 use Rattle.record.specs.declared.Spot.{Spot}
 use Rattle.record.specs.declared.Spot.the-variants as spot
@@ -30,7 +31,7 @@ use Rattle.program.specs.Onward.{goingPaper}
 use Rattle.engine.specs.declared.Job.{Job}
 use Rattle.engine.specs.declared.Job.the-variants as job
 use Rattle.engine.specs.declared.Engine.{Engine}
-use Rattle.engine.specs.State.{paper, begun, begunBy, beginOf, noPulse, withJob}
+use Rattle.engine.specs.State.{paper, begun, begunBy, beginOf, circleBegun, noPulse, withJob}
 use Rattle.engine.specs.Tick.{Rule, Fetching, moving, movingBy, leading, performed, fetched, directly, movingOn, tickedBy, ticked}
 
 -- one call that sends the number of what is on paper
@@ -40,16 +41,21 @@ sent p = says 3 (pos (p .number) ∷ [])
 -- a plan with a pulse to make
 abbrev pub hasPulse : Planned → Bool
 hasPulse (planned.Going m) = not (noPulse m)
-hasPulse planned.Outside = false
+hasPulse (planned.Refused b) = false
+
+-- what is planned is 0 on paper, of either kind
+going-number : (m : Travel) → travelPaper m .number ≡ 48
+going-number (travel.Straight m) = refl
+going-number (travel.Round a) = refl
 
 module _ (e : Engine) where
-  begun-by : (x : Bool) (m : Move) → pick x (begun 48 e) (begun 0 (withJob e (job.Direct m))) .reply ≡ pick (not x) 0 48
+  begun-by : (x : Bool) (m : Travel) → pick x (begun 48 e) (begun 0 (withJob e (job.Direct m))) .reply ≡ pick (not x) 0 48
   begun-by true m = refl
   begun-by false m = refl
 
   begins : (g : Planned) → begunBy g e .reply ≡ pick (hasPulse g) 0 (plannedPaper g .number)
-  begins (planned.Going m) = begun-by (noPulse m) m
-  begins planned.Outside = refl
+  begins (planned.Going m) = begun-by (noPulse m) m ∙ ap (pick (not (noPulse m)) 0) (sym (going-number m))
+  begins (planned.Refused b) = refl
 
   -- A DIRECT MOVEMENT replies what its plan says on paper, but nothing yet if it has a pulse to make
   pub begin-paper : (absolute : Bool) (words : List ℕ)
@@ -58,25 +64,31 @@ module _ (e : Engine) where
   unfolding beginOf
   begin-paper absolute words = begins (planOf (asked (e .axes) (e .three) (e .at) (e .origin) absolute words))
 
-  -- A MOVEMENT OF A PROGRAM that is 9 on paper sends that
-  pub outside-paper : (rule : Rule) (g : Planned) → plannedPaper g .number ≡ 57 → paper (movingBy rule g e .answer) ≡ sent (plannedPaper g)
-  outside-paper rule (planned.Going m) n = absurd (omega arith)
-  outside-paper rule planned.Outside n = refl
+  -- and so does A DIRECT CIRCLE
+  pub circle-paper : (words : List ℕ)
+      → circleBegun words e .reply ≡ (let g = circleOf (e .axes) (e .circling) (e .at) words in pick (hasPulse g) 0 (plannedPaper g .number))
+  unfolding circleBegun
+  circle-paper words = begins (circleOf (e .axes) (e .circling) (e .at) words)
+
+  -- A MOVEMENT OR A CIRCLE OF A PROGRAM that is not 0 on paper sends what it is
+  pub refused-paper : (rule : Rule) (g : Planned) → (plannedPaper g .number ≡ 48 → ⊥) → paper (movingBy rule g e .answer) ≡ sent (plannedPaper g)
+  refused-paper rule (planned.Going m) n = absurd (n (going-number m))
+  refused-paper rule (planned.Refused b) n = refl
 
   -- A PULSE is answered as the next pulse is on paper: of a direct movement, and of a program's at its record and after it
   pub direct-pulse : (n : Next) → nextPaper n .number ≡ 1 → paper (directly n e .answer) ≡ nextPaper n
-  direct-pulse (next.Made s) k = refl
-  direct-pulse next.Over k = absurd (omega arith)
+  direct-pulse (Made s) k = refl
+  direct-pulse Over k = absurd (omega arith)
 
   pub first-pulse : (n : Next) → nextPaper n .number ≡ 1 → paper (moving n e .answer) ≡ nextPaper n
-  first-pulse (next.Made s) k = refl
-  first-pulse next.Over k = absurd (omega arith)
+  first-pulse (Made s) k = refl
+  first-pulse Over k = absurd (omega arith)
 
   pub later-pulse : (rule : Rule) (fetch : Fetching) (n : Next) → nextPaper n .number ≡ 1 → paper (movingOn rule fetch n e .answer) ≡ nextPaper n
-  later-pulse rule fetch (next.Made s) k = refl
-  later-pulse rule fetch next.Over k = absurd (omega arith)
+  later-pulse rule fetch (Made s) k = refl
+  later-pulse rule fetch Over k = absurd (omega arith)
 
-  pub clock-pulse : (rule : Rule) (fetch : Fetching) (m : Move) → e .run .job ≡ job.Direct m → nextPaper (rule m (e .at)) .number ≡ 1
+  pub clock-pulse : (rule : Rule) (fetch : Fetching) (m : Travel) → e .run .job ≡ job.Direct m → nextPaper (rule m (e .at)) .number ≡ 1
       → paper (ticked rule fetch e .answer) ≡ nextPaper (rule m (e .at))
   unfolding ticked
   clock-pulse rule fetch m j k = ap (λ (i : Job). paper (tickedBy rule fetch i e .answer)) j ∙ direct-pulse (rule m (e .at)) k

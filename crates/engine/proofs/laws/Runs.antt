@@ -8,9 +8,9 @@ use native.Mathlib.Omega.{arith}
 use lib.Dec.{eqb}
 use lib.ListN.{length}
 use Rattle.count.specs.Pick.{pick}
-use Rattle.motion.specs.declared.Move.{Move}
-use Rattle.motion.specs.declared.Next.{Next}
-use Rattle.motion.specs.declared.Next.the-variants as next
+use Rattle.travel.specs.declared.Travel.{Travel}
+use Rattle.travel.specs.Next.{Next}
+use Rattle.travel.specs.Next.Next.{Over}
 use Rattle.record.specs.declared.Held.{Held}
 use Rattle.record.specs.declared.Record.{Record}
 use Rattle.record.specs.Bytes.{Fetch}
@@ -129,7 +129,7 @@ module _ (l : List Record) (rule : Rule) (e : Engine) (p : e .run .place ≡ len
   unfolding ticked
   ends-ready q = end-by (e .run .job) q
 
-  pub ends-moved : (m : Move) → e .run .job ≡ job.Moving m → rule m (e .at) ≡ next.Over → ticked rule (listFetch l) e ≡ finished 48 e
+  pub ends-moved : (m : Travel) → e .run .job ≡ job.Moving m → rule m (e .at) ≡ Over → ticked rule (listFetch l) e ≡ finished 48 e
   unfolding ticked
   ends-moved m q o =
       ap (λ (k : Job). tickedBy rule (listFetch l) k e) q ∙ ap (λ (n : Next). movingOn rule (listFetch l) n e) o

@@ -3,9 +3,11 @@ use mathlib.Core.Path.{_≡_, sym, ap, _∙_}
 use mathlib.Core.Bool.{Bool, true}
 use mathlib.Core.List.{List}
 use Prim.Native.Nat.{ℕ}
-use Rattle.motion.specs.declared.Planned.{Planned}
-use Rattle.motion.specs.Plan.{Asked, asked, planOf}
-use Rattle.motion.proofs.laws.ThreeD.{SameButZ2, withWords, rightAsked, three-plan}
+use Rattle.motion.specs.Plan.{Asked, asked}
+use Rattle.motion.proofs.laws.ThreeD.{SameButZ2, withWords, rightAsked}
+use Rattle.travel.specs.declared.Planned.{Planned}
+use Rattle.travel.specs.Plan.{planOf}
+use Rattle.travel.proofs.laws.Plans.{three-plan}
 use Rattle.record.specs.declared.Record.{Record}
 use Rattle.record.specs.Fault.{isMovement, isAbsolute}
 use Rattle.engine.specs.declared.Engine.{Engine}

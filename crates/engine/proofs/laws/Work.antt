@@ -1,6 +1,6 @@
 -- What the code of a clock call leans on: what a fetch that found a record says of it, and the counters after a pulse. Assumes nothing.
 use Prim.Native.Nat.{ℕ, zero, suc, _+_, _-_, _<_, _≤_}
-use mathlib.Core.Path.{_≡_, refl, ap, sym, _∙_}
+use mathlib.Core.Path.{_≡_, refl, ap, sym, _∙_, subst}
 use mathlib.Core.Bool.{Bool, true, false, _&&_}
 use mathlib.Core.Logic.{_⊎_, inl, inr}
 use native.Mathlib.Numerals.{sub-one}
@@ -14,14 +14,25 @@ use Rattle.count.specs.Ranges.{nth, inDelay, inCharacter, inOffset}
 use Rattle.count.proofs.laws.Laws.{within-up, within-zero}
 use Rattle.count.proofs.laws.Truth.{and-left, and-right}
 use Rattle.motion.specs.declared.Counters.{Counters}
+use Rattle.motion.specs.declared.Signs.{Signs}
+use Rattle.motion.specs.declared.Moved.the-variants as moved
+use Rattle.motion.specs.declared.Beaten.the-variants as beat
+use Rattle.motion.specs.declared.Next.the-variants as straight
 use Rattle.motion.specs.declared.Move.{Move}
-use Rattle.motion.specs.declared.Stepped.{Stepped}
-use Rattle.motion.specs.declared.Next.{Next}
-use Rattle.motion.specs.declared.Next.the-variants as next
 use Rattle.motion.specs.Phase.{movedAll}
-use Rattle.motion.specs.Plan.{asked, planOf}
-use Rattle.motion.specs.work.Here.{nextOf}
+use Rattle.motion.specs.Plan.{asked}
+use Rattle.motion.specs.Pulse.{haveSteps, stepTo}
+use Rattle.motion.specs.Sound.{counted}
+use Rattle.motion.specs.work.Here.{nextOf as straightOf}
 use Rattle.motion.specs.Next.{nextBy, SignRule, settled, leg, stepped, signsBy, fromOf, toOf}
+use Rattle.circle.specs.declared.Arc.{Arc}
+use Rattle.circle.specs.Arc.{arcSigns, countedPair, beatTo, arcBeat}
+use Rattle.travel.specs.declared.Travel.{Travel}
+use Rattle.travel.specs.declared.Travel.the-variants as travel
+use Rattle.travel.specs.Next.{Stepped, Next, straightNext, arcNext}
+use Rattle.travel.specs.Next.Next.{Made, Over}
+use Rattle.travel.specs.Plan.{planOf}
+use Rattle.travel.specs.work.Beat.{nextOf}
 use Rattle.record.specs.declared.Held.{Held}
 use Rattle.record.specs.declared.Record.{Record}
 use Rattle.record.specs.declared.Found.the-variants as found
@@ -49,19 +60,42 @@ use Rattle.engine.specs.work.Work.{Fits}
 
 -- ---- the counters after a pulse
 
-made-by : (t : Bool) (p s : Stepped) → pick t (next.Made p) next.Over ≡ next.Made s → s ≡ p
-made-by true p s e = cc
-made-by false p s e = let z : _≡_ {A = ℕ} 0 1 = cc in absurd (omega arith)
+-- where a pulse is made, it adds its signs
+abbrev Adds : Counters → Next → Type 0
+Adds at (Made s) = s .at ≡ movedAll at (s .signs)
+Adds at Over = Unit
 
-pub moved-by : (rule : SignRule) (m : Move) (at : Counters) (s : Stepped) → nextBy rule m at ≡ next.Made s → s .at ≡ movedAll at (s .signs)
-unfolding nextBy
-moved-by rule m at s e =
-    let q = settled m in
-    rw (made-by (ltb (q .made) (leg q)) (stepped q at (signsBy rule at (fromOf q) (toOf q) (q .made) (leg q))) s e)
+-- of a straight movement, by any rule
+module _ (rule : SignRule) (m : Move) (at : Counters) where
+  straight-by : (t : Bool) (g : Signs) → Adds at (straightNext (pick t (straight.Made (stepped (settled m) at g)) straight.Over))
+  straight-by true g = refl
+  straight-by false g = tt
 
-pub next-moved : (m : Move) (at : Counters) {n : Next} (s : Stepped) → n ≡ nextOf m at → n ≡ next.Made s → s .at ≡ movedAll at (s .signs)
-unfolding nextOf
-next-moved m at s p q = moved-by _ m at s (sym p ∙ q)
+  straight-adds : Adds at (straightNext (nextBy rule m at))
+  unfolding nextBy
+  straight-adds =
+      let q = settled m in
+      straight-by (ltb (q .made) (leg q)) (signsBy rule at (fromOf q) (toOf q) (q .made) (leg q))
+
+-- of an arc
+module _ (a : Arc) (at : Counters) where
+  round-by : (t u : Bool) (g : Signs) → Adds at (arcNext a (pick t (beatTo a g (pick u (moved.To (movedAll at g)) moved.Outside)) beat.Over))
+  round-by true true g = refl
+  round-by true false g = tt
+  round-by false u g = tt
+
+  round-adds : Adds at (arcNext a (arcBeat a at))
+  unfolding arcBeat stepTo
+  round-adds =
+      round-by (ltb (a .made) (a .length) && (counted at && countedPair (a .centre) && countedPair (a .start))) (haveSteps at (arcSigns a at)) (arcSigns a at)
+
+next-adds : (m : Travel) (at : Counters) → Adds at (nextOf m at)
+unfolding nextOf straightOf
+next-adds (travel.Straight m) at = straight-adds _ m at
+next-adds (travel.Round a) at = round-adds a at
+
+pub next-moved : (m : Travel) (at : Counters) {n : Next} (s : Stepped) → n ≡ nextOf m at → n ≡ Made s → s .at ≡ movedAll at (s .signs)
+next-moved m at s p q = subst (Adds at) (sym p ∙ q) (next-adds m at)
 
 -- ---- pauses
 

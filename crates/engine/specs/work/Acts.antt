@@ -14,7 +14,7 @@ use Rattle.motion.specs.declared.Look.{Look}
 use Rattle.motion.specs.declared.Look.the-variants as look
 use Rattle.motion.specs.Sound.{counted}
 use Rattle.travel.specs.Next.{Next}
-use Rattle.travel.specs.Next.Next as next
+use Rattle.travel.specs.Next.Next.{Made, Over}
 use Rattle.travel.specs.Plan.{travelPaper}
 use Rattle.travel.specs.work.Beat.{nextOf, atMark, beatOf, lookOf}
 use Rattle.engine.specs.declared.Answer.the-variants as answer
@@ -66,8 +66,8 @@ restOf (job.Delay q) = act.Pause q
 restOf (job.Wait c t) = act.Still
 
 abbrev pub pulseAct : Next → Job → Act
-pulseAct (next.Made s) j = act.Pulse (beatOf s)
-pulseAct next.Over j = restOf j
+pulseAct (Made s) j = act.Pulse (beatOf s)
+pulseAct Over j = restOf j
 
 abbrev pub actUnder : Rule → Under → Job → Counters → Act
 actUnder rule (under.Going m) j at = pulseAct (rule m at) j

@@ -1,18 +1,16 @@
 -- One pulse on the counters: where each has a step left, there is room for the sign, and the counters after it are of 24 bits. Assumes nothing.
 use mathlib.Core.Path.{_≡_, refl, sym}
 use mathlib.Core.Bool.{Bool, true, false, _&&_}
-use Prim.Native.Nat.{ℕ, _+_, _≤_, _<_}
+use Prim.Native.Nat.{ℕ, _+_, _<_}
 use native.Mathlib.Omega.{arith}
 use lib.Dec.{ltb}
 use borrow.Author.Tests.{ltb-true, lt-ltb, le-ltb, ltb-false}
-use Rattle.count.specs.Pick.{pick}
 use Rattle.count.specs.Numbers.{full}
 use Rattle.count.proofs.laws.Truth.{and-left, and-right}
 use Rattle.motion.specs.declared.Counters.{Counters}
 use Rattle.motion.specs.declared.Signs.{Signs}
 use Rattle.motion.specs.declared.Sign.{Sign}
 use Rattle.motion.specs.declared.Sign.the-variants.{Minus, Rest, Plus}
-use Rattle.motion.specs.declared.Moved.{Moved}
 use Rattle.motion.specs.declared.Moved.the-variants.{To, Outside}
 use Rattle.motion.specs.Phase.{moved, movedAll}
 use Rattle.motion.specs.Pulse.{hasStep, haveSteps, stepTo}

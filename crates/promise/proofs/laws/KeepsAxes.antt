@@ -9,10 +9,11 @@ use lib.Dec.{eqb}
 use lib.ListN.{length}
 use Rattle.count.specs.Pick.{pick}
 use Rattle.count.proofs.laws.Truth.{never, and-true}
-use Rattle.motion.specs.declared.Planned.{Planned}
-use Rattle.motion.specs.declared.Planned.the-variants as planned
-use Rattle.motion.specs.Next.{pulseOf}
-use Rattle.motion.specs.Plan.{asked, planOf}
+use Rattle.motion.specs.Plan.{asked}
+use Rattle.travel.specs.declared.Planned.{Planned}
+use Rattle.travel.specs.declared.Planned.the-variants as planned
+use Rattle.travel.specs.Next.{pulseOf}
+use Rattle.travel.specs.Plan.{planOf, circleOf}
 use Rattle.record.specs.declared.Record.{Record}
 use Rattle.record.specs.Bytes.{encode}
 use Rattle.record.specs.Memory.{Memory}
@@ -30,7 +31,7 @@ use Rattle.engine.specs.declared.Engine.{Engine}
 use Rattle.engine.specs.declared.Job.{Job}
 use Rattle.engine.specs.declared.Job.the-variants as job
 use Rattle.engine.specs.declared.Told.{Told}
-use Rattle.engine.specs.State.{withJob, begun, noPulse, begunBy, beginOf, heard, heardBy, resetOf}
+use Rattle.engine.specs.State.{withJob, begun, noPulse, begunBy, beginOf, circleBegun, heard, heardBy, resetOf}
 use Rattle.engine.specs.Tick.{Rule, Fetching, afterPause, performed, ticked}
 use Rattle.engine.proofs.laws.Facts.{facts}
 use Rattle.engine.proofs.laws.Cases.{record-cases, cases}
@@ -72,9 +73,10 @@ module _ (rule : Rule) (fetch : Fetching) (e : Engine) (w : Written e) where
       record-cases rule r e Kept (record {
         pulse = λ l m s p q. other _ refl;
         still = λ l. other _ refl;
-        outside = λ p. other _ refl;
+        refused = λ b k p. other _ refl;
         origin = λ l p. other _ refl;
         three = λ l b. other _ refl;
+        turned = λ l k c. other _ refl;
         pause = λ l t. other _ (pause-other t);
         send = λ l p. other _ refl;
         to = λ p. other _ refl;
@@ -144,7 +146,7 @@ module _ (v : ℕ) (ports : List ℕ) (b : Board) (mem : Memory) (h : sound b �
       by : (t : Bool) → Written (pick t (begun 48 (b .engine)) (begun 0 (withJob (b .engine) (job.Direct m))) .engine)
       by true = w
       by false = other _ refl
-  begun-on planned.Outside = w
+  begun-on (planned.Refused c) = w
 
   start-on : (s : Bool) → On (acceptedSaid (effectOf letter.Start [] ports (b .engine) s) mem)
   start-on true = w
@@ -153,7 +155,7 @@ module _ (v : ℕ) (ports : List ℕ) (b : Board) (mem : Memory) (h : sound b �
   module _ (k : isStoring (b .engine .run .job) && not (b .standing) ≡ false) where
     effect-on : (x : Letter) (l : List ℕ) → b .standing && not (heardStanding x) ≡ false → needsAxes x && eqb (b .engine .axes) 0 ≡ false
         → On (acceptedSaid (effectOf x l ports (b .engine) (b .standing)) mem)
-    unfolding beginOf
+    unfolding beginOf circleBegun
     effect-on letter.Wrong l p q = w
     effect-on letter.Axes l p q = record { axes = w .axes }
     effect-on letter.Relative l p q = begun-on (planOf (asked (b .engine .axes) (b .engine .three) (b .engine .at) (b .engine .origin) false l))
@@ -169,6 +171,9 @@ module _ (v : ℕ) (ports : List ℕ) (b : Board) (mem : Memory) (h : sound b �
         record { axes = λ z. known-set (eqb a 0) (eqb a 1) (eqb a 3) (eqb a 7) (facts (b .engine) (sound-engine b h) .axes) q }
     effect-on letter.Empty l p q = other _ (still (b .standing) (isStoring (b .engine .run .job)) k p)
     effect-on letter.Start l p q = start-on (b .standing)
+    effect-on letter.Plane l p q = record { axes = w .axes }
+    effect-on letter.Direction l p q = record { axes = w .axes }
+    effect-on letter.Circle l p q = begun-on (circleOf (b .engine .axes) (b .engine .circling) (b .engine .at) l)
 
     direct-on : (d : Direct) → On (directSaid d ports b mem)
     unfolding directSaid

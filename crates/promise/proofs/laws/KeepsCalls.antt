@@ -10,7 +10,7 @@ use lib.ListN.{length}
 use Rattle.count.specs.Pick.{pick}
 use Rattle.count.specs.Paper.{says}
 use Rattle.count.proofs.laws.Truth.{never, and-parts, both}
-use Rattle.motion.specs.Next.{pulseOf}
+use Rattle.travel.specs.Next.{pulseOf}
 use Rattle.record.specs.Memory.{Memory, RightMemory, storeFits, tableFits}
 use Rattle.record.specs.Places.{Records, recordsOf}
 use Rattle.record.specs.Places.Records.{are, none-are}

@@ -10,10 +10,11 @@ use lib.ListN.{length}
 use Rattle.count.specs.Pick.{pick}
 use Rattle.count.specs.Text.{report, twoHex, hexes}
 use Rattle.count.proofs.laws.Truth.{never, and-not}
-use Rattle.motion.specs.declared.Planned.{Planned}
-use Rattle.motion.specs.declared.Planned.the-variants as planned
-use Rattle.motion.specs.Next.{leftOf}
-use Rattle.motion.specs.Plan.{asked, planOf}
+use Rattle.motion.specs.Plan.{asked}
+use Rattle.travel.specs.declared.Planned.{Planned}
+use Rattle.travel.specs.declared.Planned.the-variants as planned
+use Rattle.travel.specs.Next.{leftOf}
+use Rattle.travel.specs.Plan.{planOf, circleOf, refusal}
 use Rattle.record.specs.declared.Held.{Held}
 use Rattle.record.specs.declared.Record.{Record}
 use Rattle.record.specs.Memory.{Memory}
@@ -30,11 +31,11 @@ use Rattle.line.specs.Lines.{directOf, storedOf, stored, codeOf, byCode, behind
 use Rattle.engine.specs.declared.Job.{Job}
 use Rattle.engine.specs.declared.Job.the-variants as job
 use Rattle.engine.specs.declared.Engine.{Engine}
-use Rattle.engine.specs.State.{withHeld, withJob, ceased, emptied, begun as begunWith, begunBy, beginOf, heard, heardBy}
+use Rattle.engine.specs.State.{withHeld, withJob, ceased, emptied, begun as begunWith, begunBy, beginOf, circleBegun, heard, heardBy}
 use Rattle.engine.specs.Tick.{runsBy, runsOf}
 use Rattle.board.specs.declared.Board.{Board}
 use Rattle.board.specs.State.{board, noLine, textOf, lineDone, Said, said}
-use Rattle.board.specs.Direct.{isWrong, heardStanding, needsAxes, countFits, axesFit, rangesFit, speedsFit, restsOutside, isStart, isOutside, first, replyOf, effectOf, acceptedSaid, directSaid, started-with}
+use Rattle.board.specs.Direct.{isWrong, heardStanding, needsAxes, countFits, axesFit, rangesFit, speedsFit, planReply, first, replyOf, effectOf, acceptedSaid, directSaid, started-with}
 use Rattle.board.specs.Storing.{recordOf, recordReply, recordSaid, namedFault, endSaid, storedBy, storedSaid}
 use Rattle.engine.specs.Kinds.Ear.{gathers}
 use Rattle.board.specs.Receive.{earBy, earOf, isStoring, returned, gathering, ordinary, hearing}
@@ -55,31 +56,34 @@ pub data Came (b : Board) (mem : Memory) (x : Said) : Type 0 where
 
 -- ---- the rows of the table: reply 0 where none of them holds
 
-rows-by : (a b c d e f g h i j : Bool) → _≡_ {A = ℕ} (pick a 53 (pick b 87 (pick c 52 (pick d 55 (pick e 51 (pick f 49 (pick g 68 (pick h 57 (pick i 56 (pick j 71 48)))))))))) 48
-    → (a ≡ false) × (b ≡ false) × (h ≡ false) × (c ≡ false)
-rows-by true b c d e f g h i j y = absurd (omega arith)
-rows-by false true c d e f g h i j y = absurd (omega arith)
-rows-by false false true d e f g h i j y = absurd (omega arith)
-rows-by false false false true e f g h i j y = absurd (omega arith)
-rows-by false false false false true f g h i j y = absurd (omega arith)
-rows-by false false false false false true g h i j y = absurd (omega arith)
-rows-by false false false false false false true h i j y = absurd (omega arith)
-rows-by false false false false false false false true i j y = absurd (omega arith)
-rows-by false false false false false false false false true j y = absurd (omega arith)
-rows-by false false false false false false false false false true y = absurd (omega arith)
-rows-by false false false false false false false false false false y = (refl, refl, refl, refl)
+plan-row : (q r : ℕ) → pick (not (eqb q 48)) q r ≡ 48 → q ≡ 48
+plan-row q r = by (eqb q 48) refl
+  where
+    by : (t : Bool) → eqb q 48 ≡ t → pick (not t) q r ≡ 48 → q ≡ 48
+    by true e h = eqb-true q 48 e
+    by false e h = h
+
+rows-by : (a b c d e f g : Bool) (q r : ℕ) → _≡_ {A = ℕ} (pick a 53 (pick b 87 (pick c 52 (pick d 55 (pick e 51 (pick f 49 (pick g 68 (pick (not (eqb q 48)) q r)))))))) 48
+    → (a ≡ false) × (b ≡ false) × (q ≡ 48) × (c ≡ false)
+rows-by true b c d e f g q r y = absurd (omega arith)
+rows-by false true c d e f g q r y = absurd (omega arith)
+rows-by false false true d e f g q r y = absurd (omega arith)
+rows-by false false false true e f g q r y = absurd (omega arith)
+rows-by false false false false true f g q r y = absurd (omega arith)
+rows-by false false false false false true g q r y = absurd (omega arith)
+rows-by false false false false false false true q r y = absurd (omega arith)
+rows-by false false false false false false false q r y = (refl, refl, plan-row q r y, refl)
 
 module _ (e : Engine) (standing : Bool) (d : Direct) (h : replyOf e standing d ≡ 48) where
-  -- its shape is right, it is heard if something stands, it rests inside, and axes are set if it needs them
-  pub row-facts : (isWrong (d .letter) ≡ false) × (standing && not (heardStanding (d .letter)) ≡ false) × (restsOutside (d .letter) e (d .words) ≡ false)
+  -- its shape is right, it is heard if something stands, nothing refuses its plan, and axes are set if it needs them
+  pub row-facts : (isWrong (d .letter) ≡ false) × (standing && not (heardStanding (d .letter)) ≡ false) × (planReply (d .letter) e (d .words) ≡ 48)
       × (needsAxes (d .letter) && eqb (e .axes) 0 ≡ false)
   unfolding replyOf first
   row-facts =
       rows-by (isWrong (d .letter)) (standing && not (heardStanding (d .letter))) (needsAxes (d .letter) && eqb (e .axes) 0)
       (not (countFits (d .letter) (e .axes) (d .count))) (not (axesFit (d .letter) (e .axes) (d .words)))
       (not (rangesFit (d .letter) (e .axes) (d .words))) (not (speedsFit (d .letter) (e .axes) (d .words)))
-      (restsOutside (d .letter) e (d .words)) (isStart (d .letter) && not standing && eqb (e .held .records) 0)
-      (isStart (d .letter) && not standing && not (eqb (e .axes) (e .held .axes))) h
+      (planReply (d .letter) e (d .words)) _ h
 
 and-not-false : (s : Bool) → s && true ≡ false → s ≡ false
 and-not-false true e = e
@@ -88,7 +92,7 @@ and-not-false false e = refl
 -- ---- an accepted line
 
 module _ (b : Board) (mem : Memory) (ports words : List ℕ) (idle : b .standing ≡ false → idles b ≡ true) where
-  moving-by : (p : Planned) → isOutside p ≡ false → b .standing ≡ false
+  moving-by : (p : Planned) → refusal p ≡ 48 → b .standing ≡ false
       → Came b mem (acceptedSaid (started-with (begunBy p (b .engine)) (b .standing)) mem)
   unfolding runsNow runsOf
   moving-by (planned.Going m) h s = by (eqb (leftOf m) 0)
@@ -97,16 +101,16 @@ module _ (b : Board) (mem : Memory) (ports words : List ℕ) (idle : b .standing
           → Came b mem (acceptedSaid (started-with (pick z (begunWith 48 (b .engine)) (begunWith 0 (withJob (b .engine) (job.Direct m)))) (b .standing)) mem)
       by true = zeroed [] refl refl
       by false = still refl (begun (idle s) (rw s))
-  moving-by planned.Outside h s = never (sym h)
+  moving-by (planned.Refused c) h s = let q : c ≡ 48 = h in zeroed [] (rw q) (rw q)
 
   started-by : (s : Bool) → b .standing ≡ s → Came b mem (acceptedSaid (effectOf letter.Start words ports (b .engine) s) mem)
   unfolding runsNow runsOf
   started-by true q = still refl (onward q refl)
   started-by false q = still refl (begun (idle q) refl)
 
-  effect-came : (k : Letter) → isWrong k ≡ false → b .standing && not (heardStanding k) ≡ false → restsOutside k (b .engine) words ≡ false
+  effect-came : (k : Letter) → isWrong k ≡ false → b .standing && not (heardStanding k) ≡ false → planReply k (b .engine) words ≡ 48
       → Came b mem (acceptedSaid (effectOf k words ports (b .engine) (b .standing)) mem)
-  unfolding beginOf report twoHex hexes
+  unfolding beginOf circleBegun report twoHex hexes
   effect-came letter.Wrong p q r = never (sym p)
   effect-came letter.Axes p q r = zeroed [] refl refl
   effect-came letter.Relative p q r =
@@ -122,6 +126,10 @@ module _ (b : Board) (mem : Memory) (ports words : List ℕ) (idle : b .standing
   effect-came letter.Store p q r = zeroed [] refl refl
   effect-came letter.Empty p q r = zeroed [] refl refl
   effect-came letter.Start p q r = started-by (b .standing) refl
+  effect-came letter.Plane p q r = zeroed [] refl refl
+  effect-came letter.Direction p q r = zeroed [] refl refl
+  effect-came letter.Circle p q r =
+      moving-by (circleOf (b .engine .axes) (b .engine .circling) (b .engine .at) words) r (and-not-false (b .standing) q)
 
   pub direct-came : (d : Direct) → words ≡ d .words → endLine b ≡ false → Came b mem (directSaid d ports b mem)
   unfolding directSaid
@@ -150,7 +158,8 @@ end-byte : (b : ℕ) → codeOf b ≡ code.End → eqb b 57 ≡ true
 unfolding codeOf
 end-byte b h =
     no-end (eqb b 48) b _ (no-end (eqb b 109) b _ (no-end (eqb b 110) b _ (no-end (eqb b 122) b _
-    (no-end (eqb b 51) b _ (no-end (eqb b 53) b _ (no-end (eqb b 49) b _ (no-end (eqb b 50) b _ (end-test (eqb b 57))))))))) h
+    (no-end (eqb b 51) b _ (no-end (eqb b 53) b _ (no-end (eqb b 49) b _ (no-end (eqb b 50) b _
+    (no-end (eqb b 101) b _ (no-end (eqb b 102) b _ (no-end (eqb b 121) b _ (end-test (eqb b 57)))))))))))) h
 
 byte-end : (b : ℕ) → eqb b 57 ≡ true → codeOf b ≡ code.End
 unfolding codeOf

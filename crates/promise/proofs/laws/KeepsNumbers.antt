@@ -21,7 +21,7 @@ use Rattle.record.specs.Listing.{more, numbersText}
 use Rattle.record.proofs.laws.Below.{below-take}
 use Rattle.record.proofs.laws.Right.{RightOne, right-count}
 use Rattle.record.proofs.laws.Faultless.{right-faultless, by-code}
-use Rattle.record.proofs.laws.Shapes.{Seven, Fast, Shape, one, two, four, eight, speed-seven, shape}
+use Rattle.record.proofs.laws.Shapes.{Seven, Fast, Way, Shape, one, two, four, eight, seven, speed-seven, way-short, shape}
 use Rattle.line.specs.declared.Code.the-variants as code
 use Rattle.line.specs.Numbers.{are}
 use Rattle.line.specs.Lines.{codeOf, stored, storedOf}
@@ -67,6 +67,9 @@ size (negsuc k) h = omega arith
 fast : (z : ℤ) → Fast z → natAbs z < 100000000
 fast z e = size z (speed-seven z e)
 
+way : (z : ℤ) → Way z → natAbs z < 100000000
+way z e = size z (omega (arith, way-short z e))
+
 small : (n : ℕ) (w : List ℕ) → Shape n w → Small n w
 small n w (one e a) zero h = size (nth w 0) a
 small n w (one e a) (suc j) h = absurd (omega arith)
@@ -87,6 +90,14 @@ small n w (eight e a b c d f g i k) (suc (suc (suc (suc (suc zero))))) h = fast 
 small n w (eight e a b c d f g i k) (suc (suc (suc (suc (suc (suc zero)))))) h = size (nth w 6) i
 small n w (eight e a b c d f g i k) (suc (suc (suc (suc (suc (suc (suc zero))))))) h = fast (nth w 7) k
 small n w (eight e a b c d f g i k) (suc (suc (suc (suc (suc (suc (suc (suc j)))))))) h = absurd (omega arith)
+small n w (seven e a b c d f g i) zero h = size (nth w 0) a
+small n w (seven e a b c d f g i) (suc zero) h = fast (nth w 1) b
+small n w (seven e a b c d f g i) (suc (suc zero)) h = size (nth w 2) c
+small n w (seven e a b c d f g i) (suc (suc (suc zero))) h = size (nth w 3) d
+small n w (seven e a b c d f g i) (suc (suc (suc (suc zero)))) h = size (nth w 4) f
+small n w (seven e a b c d f g i) (suc (suc (suc (suc (suc zero))))) h = way (nth w 5) g
+small n w (seven e a b c d f g i) (suc (suc (suc (suc (suc (suc zero)))))) h = way (nth w 6) i
+small n w (seven e a b c d f g i) (suc (suc (suc (suc (suc (suc (suc j))))))) h = absurd (omega arith)
 
 short-of : (n : ℕ) (w : List ℕ) → Small n w → Short (map signed (take n w))
 short-of zero w f = tt
@@ -111,11 +122,13 @@ code-so : (c : ℕ) → isCode c ≡ true → codeOf c ≡ code.Record c
 code-so c h =
     let r = record-codes in
     by-code (λ (k : ℕ). codeOf k ≡ code.Record k) c h (r .0) (r .1) (r .2) (r .3) (r .4) (r .5) (r .6) (r .7)
+    (r .8) (r .9) (r .10)
 
 code-plain : (c : ℕ) → isCode c ≡ true → Plain c
 code-plain c h =
     by-code Plain c h (omega arith, omega arith) (omega arith, omega arith) (omega arith, omega arith) (omega arith, omega arith)
     (omega arith, omega arith) (omega arith, omega arith) (omega arith, omega arith) (omega arith, omega arith)
+    (omega arith, omega arith) (omega arith, omega arith) (omega arith, omega arith)
 
 module _ (axes : ℕ) (r : Record) (g : RightOne axes r) where
   abbrev pub line : List ℕ

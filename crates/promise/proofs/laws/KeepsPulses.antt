@@ -10,18 +10,21 @@ use Rattle.count.specs.Numbers.{value}
 use Rattle.count.proofs.laws.Truth.{and-left, and-right}
 use Rattle.motion.specs.declared.Counters.{Counters}
 use Rattle.motion.specs.declared.Signs.{Signs}
-use Rattle.motion.specs.declared.Move.{Move}
-use Rattle.motion.specs.declared.Next.{Next}
-use Rattle.motion.specs.declared.Next.the-variants as next
-use Rattle.motion.specs.declared.Planned.{Planned}
-use Rattle.motion.specs.declared.Planned.the-variants as planned
-use Rattle.motion.specs.Plan.{asked, planOf}
-use Rattle.motion.specs.Next.{pulseOf}
-use Rattle.motion.specs.Sound.{counted, underWay}
+use Rattle.motion.specs.Plan.{asked}
+use Rattle.motion.specs.Sound.{counted}
 use Rattle.motion.specs.work.Room.{hasRoom}
-use Rattle.motion.proofs.laws.Onward.{taken}
-use Rattle.motion.proofs.laws.Plans.{plan-sound}
 use Rattle.motion.proofs.laws.Whole.{value-moved}
+use Rattle.circle.specs.Plan.{planeOf, directionOf}
+use Rattle.travel.specs.declared.Travel.{Travel}
+use Rattle.travel.specs.Next.{Next}
+use Rattle.travel.specs.Next.Next.{Made, Over}
+use Rattle.travel.specs.declared.Planned.{Planned}
+use Rattle.travel.specs.declared.Planned.the-variants as planned
+use Rattle.travel.specs.Plan.{planOf, circleOf}
+use Rattle.travel.specs.Next.{pulseOf}
+use Rattle.travel.specs.Sound.{underWay}
+use Rattle.travel.proofs.laws.Onward.{taken}
+use Rattle.travel.proofs.laws.Plans.{plan-sound, circle-sound}
 use Rattle.record.specs.declared.Record.{Record}
 use Rattle.record.specs.Fault.{isMovement, isAbsolute}
 use Rattle.record.specs.Bytes.{Fetch}
@@ -38,7 +41,7 @@ use Rattle.engine.specs.declared.Job.{Job}
 use Rattle.engine.specs.declared.Job.the-variants as job
 use Rattle.engine.specs.declared.Engine.{Engine}
 use Rattle.engine.specs.declared.Told.{Told}
-use Rattle.engine.specs.State.{paper, withThree, withJob, withRun, running, originOf, ceased, emptied}
+use Rattle.engine.specs.State.{paper, withThree, withPlane, withDirection, withJob, withRun, running, originOf, ceased, emptied}
 use Rattle.engine.specs.Tick.{Fetching, told, onTo, moving, movingBy, afterPause, delaying, leading, performed, fetched, directly, movingOn, tickedBy, ticked}
 use Rattle.engine.specs.Sound.{axesKnown, jobSound, soundOf}
 use Rattle.board.specs.declared.Board.{Board}
@@ -77,13 +80,13 @@ sum-told a e answer.Nothing r = sym (+ℤ-idr (value (counterOf a (e .at))))
 
 module _ (a : Axis) (e : Engine) where
   sum-planned : (p : Planned) → counted (e .at) ≡ true
-      → ((m : Move) → p ≡ planned.Going m → underWay m (e .at) ≡ true) → Sums a (e .at) (movingBy pulseOf p e)
+      → ((m : Travel) → p ≡ planned.Going m → underWay m (e .at) ≡ true) → Sums a (e .at) (movingBy pulseOf p e)
   sum-planned (planned.Going m) c f = by (pulseOf m (e .at)) refl
     where
       by : (n : Next) → pulseOf m (e .at) ≡ n → Sums a (e .at) (moving n e)
-      by (next.Made s) p = sum-told a (onTo (job.Moving (s .rest)) e) (answer.Pulse (s .signs) (s .speed)) (taken m (e .at) (f m refl) p .rooms)
-      by next.Over p = sum-told a (onTo job.Ready e) answer.Done tt
-  sum-planned planned.Outside c f = sum-told a (ceased e) (answer.Send 57) tt
+      by (Made s) p = sum-told a (onTo (job.Moving (s .rest)) e) (answer.Pulse (s .signs) (s .speed)) (taken m (e .at) (f m refl) p .rooms)
+      by Over p = sum-told a (onTo job.Ready e) answer.Done tt
+  sum-planned (planned.Refused b) c f = sum-told a (ceased e) (answer.Send b) tt
 
   sum-delaying : (t : ℕ) → Sums a (e .at) (delaying t e)
   sum-delaying zero = sum-told a (onTo job.Ready e) answer.Done tt
@@ -102,6 +105,7 @@ module _ (a : Axis) (e : Engine) where
   unfolding performed
   sum-performed r c =
       let q = asked (e .held .axes) (e .three) (e .at) (e .origin) (isAbsolute (r .code)) (r .words) in
+      let w = getD (r .words) 0 0 in
       let o = onwardOf r (e .run .place) (e .held .records) (e .run .loops) in
       choose (isMovement (r .code)) (movingBy pulseOf (planOf q) e) _ (sum-planned (planOf q) c (λ m p. plan-sound q m c p))
       (choose (eqb (r .code) 110) (told (onTo job.Ready (originOf (getD (r .words) 0 0) e)) answer.Done) _
@@ -109,23 +113,27 @@ module _ (a : Axis) (e : Engine) where
       (choose (eqb (r .code) 122) (told (onTo job.Ready (withThree e (eqb (getD (r .words) 0 0) 1))) answer.Done) _
       (sum-told a (onTo job.Ready (withThree e (eqb (getD (r .words) 0 0) 1))) answer.Done tt)
       (choose (eqb (r .code) 53) (delaying (getD (r .words) 0 0) e) _ (sum-delaying (getD (r .words) 0 0))
-      (choose (eqb (r .code) 49) (told (onTo job.Ready e) (answer.Send (getD (r .words) 0 0))) (leading o (o .going) (getD (r .words) 0 0) e)
-      (sum-told a (onTo job.Ready e) (answer.Send (getD (r .words) 0 0)) tt)
-      (sum-leading o (o .going) (getD (r .words) 0 0))))))
+      (choose (eqb (r .code) 49) (told (onTo job.Ready e) (answer.Send w)) _ (sum-told a (onTo job.Ready e) (answer.Send w) tt)
+      (choose (eqb (r .code) 101) (told (onTo job.Ready (withPlane (planeOf w) e)) answer.Done) _ (sum-told a (onTo job.Ready (withPlane (planeOf w) e)) answer.Done tt)
+      (choose (eqb (r .code) 102) (told (onTo job.Ready (withDirection (directionOf w) e)) answer.Done) _
+      (sum-told a (onTo job.Ready (withDirection (directionOf w) e)) answer.Done tt)
+      (choose (eqb (r .code) 121) (movingBy pulseOf (circleOf (e .held .axes) (e .circling) (e .at) (r .words)) e) (leading o (o .going) w e)
+      (sum-planned (circleOf (e .held .axes) (e .circling) (e .at) (r .words)) c (λ m p. circle-sound (e .held .axes) (e .circling) (e .at) (r .words) m p))
+      (sum-leading o (o .going) w))))))))
 
   sum-fetched : (f : Fetch) → counted (e .at) ≡ true → Sums a (e .at) (fetched pulseOf f e)
   sum-fetched (Got r) c = sum-performed r c
   sum-fetched End c = sum-told a (ceased e) (answer.Send 48) tt
   sum-fetched Wrong c = sum-told a (ceased (emptied e)) (answer.Send 71) tt
 
-  sum-direct : (m : Move) → underWay m (e .at) ≡ true → (n : Next) → pulseOf m (e .at) ≡ n → Sums a (e .at) (directly n e)
-  sum-direct m u (next.Made s) p = sum-told a (withJob e (job.Direct (s .rest))) (answer.Pulse (s .signs) (s .speed)) (taken m (e .at) u p .rooms)
-  sum-direct m u next.Over p = sum-told a (ceased e) (answer.Send 48) tt
+  sum-direct : (m : Travel) → underWay m (e .at) ≡ true → (n : Next) → pulseOf m (e .at) ≡ n → Sums a (e .at) (directly n e)
+  sum-direct m u (Made s) p = sum-told a (withJob e (job.Direct (s .rest))) (answer.Pulse (s .signs) (s .speed)) (taken m (e .at) u p .rooms)
+  sum-direct m u Over p = sum-told a (ceased e) (answer.Send 48) tt
 
-  sum-moving : (fetch : Fetching) (m : Move) → underWay m (e .at) ≡ true → counted (e .at) ≡ true → (n : Next) → pulseOf m (e .at) ≡ n
+  sum-moving : (fetch : Fetching) (m : Travel) → underWay m (e .at) ≡ true → counted (e .at) ≡ true → (n : Next) → pulseOf m (e .at) ≡ n
       → Sums a (e .at) (movingOn pulseOf fetch n e)
-  sum-moving fetch m u c (next.Made s) p = sum-told a (withJob e (job.Moving (s .rest))) (answer.Pulse (s .signs) (s .speed)) (taken m (e .at) u p .rooms)
-  sum-moving fetch m u c next.Over p = sum-fetched (fetch (e .run .place)) c
+  sum-moving fetch m u c (Made s) p = sum-told a (withJob e (job.Moving (s .rest))) (answer.Pulse (s .signs) (s .speed)) (taken m (e .at) u p .rooms)
+  sum-moving fetch m u c Over p = sum-fetched (fetch (e .run .place)) c
 
   sum-ticked : (fetch : Fetching) (j : Job) → counted (e .at) ≡ true → jobSound j (e .at) ≡ true → Sums a (e .at) (tickedBy pulseOf fetch j e)
   sum-ticked fetch job.Idle c h = sum-told a e answer.Nothing tt

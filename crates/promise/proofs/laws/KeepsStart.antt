@@ -11,6 +11,7 @@ use Rattle.record.specs.declared.Held.{Held}
 use Rattle.record.specs.Memory.{Memory}
 use Rattle.program.specs.Onward.{noLoops}
 use Rattle.program.specs.Program.{axesSet}
+use Rattle.circle.specs.Plan.{atFirst}
 use Rattle.engine.specs.declared.Engine.{Engine}
 use Rattle.engine.specs.declared.Job.the-variants as job
 use Rattle.engine.specs.State.{zeroes, running, idle, nothingHeld}
@@ -21,10 +22,10 @@ use Rattle.promise.proofs.laws.KeepsSending.{with-line, lineOf, Plain}
 
 -- a board that stores, and one that is idle, under axes and with a part in use
 abbrev pub storingWith : ℕ → Held → Engine
-storingWith axes h = record { axes = axes; at = zeroes; origin = zeroes; three = false; output = 0; held = h; run = running job.Storing 0 noLoops }
+storingWith axes h = record { axes = axes; at = zeroes; origin = zeroes; three = false; circling = atFirst; output = 0; held = h; run = running job.Storing 0 noLoops }
 
 abbrev pub restingWith : ℕ → Held → Engine
-restingWith axes h = record { axes = axes; at = zeroes; origin = zeroes; three = false; output = 0; held = h; run = idle }
+restingWith axes h = record { axes = axes; at = zeroes; origin = zeroes; three = false; circling = atFirst; output = 0; held = h; run = idle }
 
 pub record Starts (axes : ℕ) : Type 0 where
   pub set : (ports : List ℕ) (mem : Memory) → hearing 13 ports (with-line (restingWith 0 nothingHeld) (lineOf (64 ∷ 48 ∷ (48 + axes) ∷ []))) mem

@@ -12,9 +12,10 @@ use lib.ListN.{length, length-map, length-set}
 use Rattle.count.specs.Pick.{pick}
 use Rattle.count.specs.Numbers.{word}
 use Rattle.count.specs.Words.{pad}
-use Rattle.motion.specs.declared.Planned.{Planned}
-use Rattle.motion.specs.declared.Planned.the-variants as planned
-use Rattle.motion.specs.Plan.{asked, planOf}
+use Rattle.motion.specs.Plan.{asked}
+use Rattle.travel.specs.declared.Planned.{Planned}
+use Rattle.travel.specs.declared.Planned.the-variants as planned
+use Rattle.travel.specs.Plan.{planOf, circleOf}
 use Rattle.record.specs.declared.Held.{Held}
 use Rattle.record.specs.declared.Record.{Record}
 use Rattle.record.specs.Memory.{Memory, RightMemory}
@@ -39,7 +40,7 @@ use Rattle.line.specs.Lines.{stored, byCode, storedOf, behind, codeOf, directOf
 use Rattle.engine.specs.declared.Engine.{Engine}
 use Rattle.engine.specs.declared.Job.{Job}
 use Rattle.engine.specs.declared.Job.the-variants as job
-use Rattle.engine.specs.State.{nothingHeld, withJob, begun, noPulse, begunBy, beginOf, heard, heardBy, resetOf}
+use Rattle.engine.specs.State.{nothingHeld, withJob, begun, noPulse, begunBy, beginOf, circleBegun, heard, heardBy, resetOf}
 use Rattle.engine.specs.Kinds.{Ear}
 use Rattle.engine.specs.Kinds.Ear.{gathers, drops, waits}
 use Rattle.board.specs.declared.Board.{Board}
@@ -92,7 +93,9 @@ reply-by true false c d e h = absurd (omega arith)
 reply-by false b c d e h = absurd (omega arith)
 
 code-small : (c : ℕ) → isCode c ≡ true → c < 256
-code-small c e = by-code (λ x. x < 256) c e (omega arith) (omega arith) (omega arith) (omega arith) (omega arith) (omega arith) (omega arith) (omega arith)
+code-small c e =
+    by-code (λ x. x < 256) c e (omega arith) (omega arith) (omega arith) (omega arith) (omega arith) (omega arith) (omega arith) (omega arith) (omega arith)
+    (omega arith) (omega arith)
 
 module _ (h : Held) (mem : Memory) (s : List ℕ) (c : ℕ) (e : storedOf s .code ≡ code.Record c) (z : recordReply h (recordOf c (storedOf s)) mem ≡ 48) where
   abbrev r : Record
@@ -177,14 +180,14 @@ module _ (v : ℕ) (ports : List ℕ) (b : Board) (mem : Memory) (k : Kept (part
       by : (t : Bool) → Stays (pick t (begun 48 (b .engine)) (begun 0 (withJob (b .engine) (job.Direct m))) .engine)
       by true = k
       by false = k
-  begun-on planned.Outside = k
+  begun-on (planned.Refused c) = k
 
   start-on : (s : Bool) → On (acceptedSaid (effectOf letter.Start [] ports (b .engine) s) mem)
   start-on true = k
   start-on false = k
 
   effect-on : (x : Letter) (l : List ℕ) → On (acceptedSaid (effectOf x l ports (b .engine) (b .standing)) mem)
-  unfolding beginOf
+  unfolding beginOf circleBegun
   effect-on letter.Wrong l = k
   effect-on letter.Axes l = k
   effect-on letter.Relative l = begun-on (planOf (asked (b .engine .axes) (b .engine .three) (b .engine .at) (b .engine .origin) false l))
@@ -198,6 +201,9 @@ module _ (v : ℕ) (ports : List ℕ) (b : Board) (mem : Memory) (k : Kept (part
   effect-on letter.Store l = emptied-on (record { used = 0; records = 0; axes = b .engine .axes }) refl refl
   effect-on letter.Empty l = emptied-on nothingHeld refl refl
   effect-on letter.Start l = start-on (b .standing)
+  effect-on letter.Plane l = k
+  effect-on letter.Direction l = k
+  effect-on letter.Circle l = begun-on (circleOf (b .engine .axes) (b .engine .circling) (b .engine .at) l)
 
   direct-on : (d : Direct) → On (directSaid d ports b mem)
   unfolding directSaid

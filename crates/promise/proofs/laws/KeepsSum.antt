@@ -11,10 +11,11 @@ use Rattle.count.specs.Pick.{pick}
 use Rattle.count.specs.Numbers.{value, half}
 use Rattle.count.proofs.laws.Truth.{never, and-false}
 use Rattle.motion.specs.declared.Counters.{Counters}
-use Rattle.motion.specs.declared.Planned.{Planned}
-use Rattle.motion.specs.declared.Planned.the-variants as planned
-use Rattle.motion.specs.Next.{leftOf}
-use Rattle.motion.specs.Plan.{asked, planOf}
+use Rattle.motion.specs.Plan.{asked}
+use Rattle.travel.specs.declared.Planned.{Planned}
+use Rattle.travel.specs.declared.Planned.the-variants as planned
+use Rattle.travel.specs.Next.{leftOf}
+use Rattle.travel.specs.Plan.{planOf, circleOf}
 use Rattle.line.specs.declared.Letter.{Letter}
 use Rattle.line.specs.declared.Letter.the-variants as letter
 use Rattle.line.specs.declared.Direct.{Direct}
@@ -22,7 +23,7 @@ use Rattle.record.specs.Memory.{Memory}
 use Rattle.line.specs.Lines.{letterPaper, directOf}
 use Rattle.engine.specs.declared.Job.the-variants as job
 use Rattle.count.specs.Ranges.{names}
-use Rattle.engine.specs.State.{mixed, withJob, begun, begunBy, beginOf}
+use Rattle.engine.specs.State.{mixed, withJob, begun, begunBy, beginOf, circleBegun}
 use Rattle.board.specs.declared.Board.{Board}
 use Rattle.board.specs.State.{board, textOf, lineDone, Said, said}
 use Rattle.board.specs.Direct.{isWrong, heardStanding, replyOf, effectOf, acceptedSaid, directSaid, started-with}
@@ -74,7 +75,7 @@ module _ (a : Axis) (b : Board) where
         by : (z : Bool) → pick z (begun 48 (b .engine)) (begun 0 (withJob (b .engine) (job.Direct m))) .engine .at ≡ b .engine .at
         by true = refl
         by false = refl
-    moving-at planned.Outside = refl
+    moving-at (planned.Refused c) = refl
 
     start-at : (s : Bool) → effectOf letter.Start words ports (b .engine) s .engine .at ≡ b .engine .at
     start-at true = refl
@@ -103,7 +104,7 @@ module _ (a : Axis) (b : Board) (ports words : List ℕ) (mem : Memory) where
   keep k p q = kept-at a b ports words mem k p q
 
   letter-at : (k : Letter) → isWrong k ≡ false → RightBy a b ports words mem k
-  unfolding beginOf
+  unfolding beginOf circleBegun
   letter-at letter.Wrong h = never (sym h)
   letter-at letter.Axes h = axes-at a b ports words mem
   letter-at letter.Relative h =
@@ -119,6 +120,10 @@ module _ (a : Axis) (b : Board) (ports words : List ℕ) (mem : Memory) where
   letter-at letter.Store h = keep letter.Store refl refl
   letter-at letter.Empty h = keep letter.Empty refl refl
   letter-at letter.Start h = keep letter.Start (start-at a b ports words mem (b .standing)) refl
+  letter-at letter.Plane h = keep letter.Plane refl refl
+  letter-at letter.Direction h = keep letter.Direction refl refl
+  letter-at letter.Circle h =
+      keep letter.Circle (moving-at a b ports words mem (circleOf (b .engine .axes) (b .engine .circling) (b .engine .at) words)) refl
 
   -- P, b and S alone are heard while something stands
   standing-at : (k : Letter) → heardStanding k ≡ true → after a b ports words mem k .board .engine .at ≡ b .engine .at
@@ -135,6 +140,9 @@ module _ (a : Axis) (b : Board) (ports words : List ℕ) (mem : Memory) where
   standing-at letter.Output h = never h
   standing-at letter.Store h = never h
   standing-at letter.Empty h = never h
+  standing-at letter.Plane h = never h
+  standing-at letter.Direction h = never h
+  standing-at letter.Circle h = never h
 
 module _ (a : Axis) (b : Board) (ports : List ℕ) (mem : Memory) where
   abbrev line : Direct

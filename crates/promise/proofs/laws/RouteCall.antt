@@ -12,11 +12,11 @@ use lib.Dec.{ltb, eqb}
 use lib.ListN.{length}
 use Rattle.count.specs.Pick.{pick}
 use Rattle.count.proofs.laws.Truth.{never}
-use Rattle.motion.specs.declared.Move.{Move}
-use Rattle.motion.specs.declared.Next.{Next}
-use Rattle.motion.specs.declared.Next.the-variants as next
-use Rattle.motion.specs.Next.{leftOf, pulseOf}
-use Rattle.motion.proofs.laws.Whole.{over-left, none-left}
+use Rattle.travel.specs.declared.Travel.{Travel}
+use Rattle.travel.specs.Next.{Next, leftOf, pulseOf}
+use Rattle.travel.specs.Next.Next.{Made, Over}
+use Rattle.travel.specs.Sound.{underWay}
+use Rattle.travel.proofs.laws.Whole.{over-left, none-left}
 use Rattle.record.specs.declared.Record.{Record}
 use Rattle.record.specs.Bytes.Fetch.{Got, End, Wrong}
 use Rattle.program.specs.declared.Loops.{Loops}
@@ -30,6 +30,7 @@ use Rattle.engine.specs.declared.Engine.{Engine}
 use Rattle.engine.specs.declared.Told.{Told}
 use Rattle.engine.specs.State.{withRun, withJob, running, heardBy, heard}
 use Rattle.engine.specs.Tick.{afterPause, fetched, directly, movingOn, tickedBy, ticked, listFetch}
+use Rattle.engine.specs.Sound.{jobSound}
 use Rattle.engine.proofs.laws.Cases.{Plain, wayOf, RecordCases, record-cases}
 use Rattle.promise.specs.Stop.{restsBy}
 use Rattle.promise.specs.Route.{comesBy}
@@ -113,9 +114,10 @@ module _ (l : List Record) (e : Engine) (c : e .held .records ≡ length l) wher
     takes = record {
       pulse = λ s m n q u v h. plain-on s v h;
       still = λ s v h. plain-on s v h;
-      outside = λ q v h. ended v h;
+      refused = λ b k q v h. ended v h;
       origin = λ s q v h. plain-on s v h;
       three = λ s b v h. plain-on s v h;
+      turned = λ s k d v h. plain-on s v h;
       pause = λ s t v h. plain-on s v (pause-goes l t (p + 1) o v h);
       send = λ s q v h. plain-on s v h;
       to = λ q v h. onto false _ _ (led false _ q) v h;
@@ -141,27 +143,28 @@ module _ (l : List Record) (e : Engine) (c : e .held .records ≡ length l) wher
   stays j q v h = subst (λ (k : Job). GoesBy l k p o v) q h
 
   -- a movement with no pulse left gives way to the record
-  moving-by : (m : Move) (n : Next) → pulseOf m (e .at) ≡ n → Calls (job.Moving m) (movingOn pulseOf (listFetch l) n e)
-  moving-by m (next.Made s) q v h =
+  moving-by : (m : Travel) (n : Next) → underWay m (e .at) ≡ true → pulseOf m (e .at) ≡ n → Calls (job.Moving m) (movingOn pulseOf (listFetch l) n e)
+  moving-by m (Made s) u q v h =
       let z : (leftOf m ≡ 0 → ⊥) = λ y. let d = sym q ∙ none-left m (e .at) y in let x : _≡_ {A = ℕ} 0 1 = cc in omega arith in
       subst (λ (t : Bool). Path l p o (pick t (p ∷ []) [] ++ v)) (sym (ne-eqb (leftOf m) 0 z)) h
-  moving-by m next.Over q v h =
-      subst (λ (t : Bool). Path l p o (pick t (p ∷ []) [] ++ v)) (sym (eq-eqb (leftOf m) 0 (over-left m (e .at) q))) (fetched-takes v h)
+  moving-by m Over u q v h =
+      subst (λ (t : Bool). Path l p o (pick t (p ∷ []) [] ++ v)) (sym (eq-eqb (leftOf m) 0 (over-left m (e .at) u q))) (fetched-takes v h)
 
-  direct-by : (m : Move) (n : Next) → Calls (job.Direct m) (directly n e)
-  direct-by m (next.Made s) v h = h
-  direct-by m next.Over v h = h
+  direct-by : (m : Travel) (n : Next) → Calls (job.Direct m) (directly n e)
+  direct-by m (Made s) v h = h
+  direct-by m Over v h = h
 
-  job-by : (j : Job) → e .run .job ≡ j → Calls j (tickedBy pulseOf (listFetch l) j e)
-  job-by job.Idle q v h = stays job.Idle q v h
-  job-by job.Storing q v h = stays job.Storing q v h
-  job-by (job.Direct m) q v h = direct-by m (pulseOf m (e .at)) v h
-  job-by job.Ready q v h = fetched-takes v h
-  job-by (job.Moving m) q v h = moving-by m (pulseOf m (e .at)) refl v h
-  job-by (job.Delay t) q v h = pause-goes l t p o v h
-  job-by (job.Wait k t) q v h = stays (job.Wait k t) q v h
+  job-by : (j : Job) → e .run .job ≡ j → jobSound j (e .at) ≡ true → Calls j (tickedBy pulseOf (listFetch l) j e)
+  job-by job.Idle q u v h = stays job.Idle q v h
+  job-by job.Storing q u v h = stays job.Storing q v h
+  job-by (job.Direct m) q u v h = direct-by m (pulseOf m (e .at)) v h
+  job-by job.Ready q u v h = fetched-takes v h
+  job-by (job.Moving m) q u v h = moving-by m (pulseOf m (e .at)) u refl v h
+  job-by (job.Delay t) q u v h = pause-goes l t p o v h
+  job-by (job.Wait k t) q u v h = stays (job.Wait k t) q v h
 
-  pub call-goes : (v : List ℕ) → Goes l (ticked pulseOf (listFetch l) e .engine) v → Goes l e (pick (comesBy (e .run .job)) (e .run .place ∷ []) [] ++ v)
+  -- of what 103 lets pass
+  pub call-goes : jobSound (e .run .job) (e .at) ≡ true → (v : List ℕ) → Goes l (ticked pulseOf (listFetch l) e .engine) v → Goes l e (pick (comesBy (e .run .job)) (e .run .place ∷ []) [] ++ v)
   unfolding ticked
   call-goes = job-by (e .run .job) refl
 

@@ -9,7 +9,7 @@ use borrow.Author.Tests.{eqb-true, eqb-false, le-leb}
 use lib.Dec.{eqb}
 use Rattle.count.specs.Pick.{pick}
 use Rattle.count.proofs.laws.Truth.{never}
-use Rattle.motion.specs.Next.{pulseOf}
+use Rattle.travel.specs.Next.{pulseOf}
 use Rattle.record.specs.declared.Held.{Held}
 use Rattle.record.specs.declared.Record.{Record}
 use Rattle.record.specs.Memory.{Memory, RightMemory}
@@ -21,6 +21,7 @@ use Rattle.engine.specs.declared.Answer.the-variants as answer
 use Rattle.engine.specs.declared.Run.{Run}
 use Rattle.engine.specs.declared.Told.{Told}
 use Rattle.engine.specs.Tick.{ticked, failed}
+use Rattle.engine.proofs.laws.Facts.{facts}
 use Rattle.engine.proofs.laws.Fetches.{same-tick}
 use Rattle.engine.proofs.laws.Laws.{held-stays}
 use Rattle.board.specs.declared.Board.{Board}
@@ -28,7 +29,7 @@ use Rattle.board.specs.declared.Ticked.{Ticked}
 use Rattle.board.specs.State.{sound}
 use Rattle.board.specs.Receive.{hearing}
 use Rattle.board.specs.Calls.{lent, Outcome, receiving, clocked, wentOn, clocking}
-use Rattle.board.proofs.laws.Hears.{sound-line}
+use Rattle.board.proofs.laws.Hears.{sound-engine, sound-line}
 use Rattle.board.proofs.laws.Laws.{hearing-sound, clocking-sound}
 use Rattle.promise.specs.Machine.{ours}
 use Rattle.promise.specs.Steps.{Each}
@@ -110,7 +111,7 @@ module _ (l : List Record) (h : Held) (mem : Memory) (recs : recordsOf h (mem .s
 
     told-goes : (v : List ℕ) → Goes l (tells .engine) v → Goes l (b .engine) (pick (comesBy (b .engine .run .job)) (b .engine .run .place ∷ []) [] ++ v)
     told-goes v g =
-        call-goes l (b .engine) (ap (λ (x : Held). x .records) d ∙ sym (records-count h (mem .store) l recs)) v
+        call-goes l (b .engine) (ap (λ (x : Held). x .records) d ∙ sym (records-count h (mem .store) l recs)) (facts (b .engine) (sound-engine b n) .job) v
         (subst (λ (t : Told). Goes l (t .engine) v) (same-tick h mem l recs starts pulseOf (b .engine) d) g)
 
     abbrev To : Bool → Board → Type 0

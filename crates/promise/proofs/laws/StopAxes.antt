@@ -7,9 +7,10 @@ use mathlib.Core.Path.{_≡_, refl, sym, _∙_, ap}
 use borrow.Author.Tests.{eqb-true}
 use lib.Dec.{eqb}
 use Rattle.count.specs.Pick.{pick}
-use Rattle.motion.specs.declared.Planned.{Planned}
-use Rattle.motion.specs.declared.Planned.the-variants as planned
-use Rattle.motion.specs.Plan.{asked, planOf}
+use Rattle.motion.specs.Plan.{asked}
+use Rattle.travel.specs.declared.Planned.{Planned}
+use Rattle.travel.specs.declared.Planned.the-variants as planned
+use Rattle.travel.specs.Plan.{planOf, circleOf}
 use Rattle.line.specs.declared.Letter.{Letter}
 use Rattle.line.specs.declared.Letter.the-variants as letter
 use Rattle.line.specs.declared.Direct.{Direct}
@@ -25,7 +26,7 @@ use Rattle.engine.specs.declared.Job.{Job}
 use Rattle.engine.specs.declared.Job.the-variants as job
 use Rattle.engine.specs.declared.Engine.{Engine}
 use Rattle.engine.specs.declared.Told.{Told}
-use Rattle.engine.specs.State.{withHeld, withRun, running, withJob, emptied, ceased, noPulse, begun, begunBy, beginOf, heardBy}
+use Rattle.engine.specs.State.{withHeld, withRun, running, withJob, emptied, ceased, noPulse, begun, begunBy, beginOf, circleBegun, heardBy}
 use Rattle.engine.specs.Tick.{Rule, Fetching, tickedBy, ticked}
 use Rattle.engine.proofs.laws.Cases.{record-cases, cases}
 use Rattle.board.specs.declared.Line.{Line}
@@ -64,10 +65,10 @@ module _ (ports : List ℕ) (e : Engine) (l : Line) (mem : Memory) (r : restsBy 
       by : (z : Bool) → Axed (pick z (begun 48 e) (begun 0 (withJob e (job.Direct m))) .engine)
       by true = λ q. a
       by false = λ q. a
-  begun-axed planned.Outside a = λ q. a
+  begun-axed (planned.Refused c) a = λ q. a
 
   effect-axed : (k : Letter) (w : List ℕ) → needsAxes k && eqb (e .axes) 0 ≡ false → Axed (effectOf k w ports e false .engine)
-  unfolding beginOf
+  unfolding beginOf circleBegun
   effect-axed letter.Wrong w a = λ q. still q
   effect-axed letter.Axes w a = λ q. still q
   effect-axed letter.Relative w a = begun-axed (planOf (asked (e .axes) (e .three) (e .at) (e .origin) false w)) a
@@ -81,6 +82,9 @@ module _ (ports : List ℕ) (e : Engine) (l : Line) (mem : Memory) (r : restsBy 
   effect-axed letter.Store w a = λ q. a
   effect-axed letter.Empty w a = λ q. still q
   effect-axed letter.Start w a = λ q. a
+  effect-axed letter.Plane w a = λ q. still q
+  effect-axed letter.Direction w a = λ q. still q
+  effect-axed letter.Circle w a = begun-axed (circleOf (e .axes) (e .circling) (e .at) w) a
 
   direct-axed : (d : Direct) → After (directSaid d ports b mem)
   unfolding directSaid
@@ -147,9 +151,10 @@ module _ (rule : Rule) (fetch : Fetching) (e : Engine) where
         got = λ p r q. record-cases rule r e Kept (record {
           pulse = λ l m s p q. refl;
           still = λ l. refl;
-          outside = λ p. refl;
+          refused = λ b k p. refl;
           origin = λ l p. refl;
           three = λ l b. refl;
+          turned = λ l k c. refl;
           pause = λ l t. refl;
           send = λ l p. refl;
           to = λ p. refl;

@@ -7,7 +7,7 @@ use mathlib.Core.Path.{_≡_, refl, sym, _∙_, ap, subst}
 use lib.Dec.{leb, eqb}
 use Rattle.count.specs.Pick.{pick}
 use Rattle.count.proofs.laws.Truth.{never, and-left}
-use Rattle.motion.specs.Next.{pulseOf}
+use Rattle.travel.specs.Next.{pulseOf}
 use Rattle.record.specs.Memory.{Memory}
 use Rattle.record.specs.Table.{fetchOf}
 use Rattle.engine.specs.declared.Job.{Job}

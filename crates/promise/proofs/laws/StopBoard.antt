@@ -118,6 +118,9 @@ module _ (e : Engine) (mem : Memory) where
     held-direct letter.Store n w = held-on noLine refl
     held-direct letter.Empty n w = held-on noLine refl
     held-direct letter.Start n w = held-heard letter.Start n w true held-off
+    held-direct letter.Plane n w = held-on noLine refl
+    held-direct letter.Direction n w = held-on noLine refl
+    held-direct letter.Circle n w = held-on noLine refl
 
     held-return : Held e mem (left (returned ports (board e true l) mem))
     unfolding returned

@@ -4,14 +4,12 @@ use Prim.Native.Nat.{ℕ, _≤_}
 use mathlib.Core.Bool.{Bool, true, false, not, _&&_, _||_, true≢false}
 use mathlib.Core.List.{List, [], _∷_}
 use mathlib.Core.Path.{_≡_, refl, sym, _∙_, ap}
-use native.Mathlib.Omega.{arith}
 use lib.Dec.{leb, eqb}
 use lib.ListN.{length}
 use Rattle.count.specs.Pick.{pick}
-use Rattle.line.specs.declared.Letter.{Letter}
 use Rattle.line.specs.declared.Letter.the-variants as letter
 use Rattle.line.specs.declared.Direct.{Direct}
-use Rattle.line.specs.Lines.{letterPaper, directOf, afterAddress, letterOf, behind, storedOf}
+use Rattle.line.specs.Lines.{directOf, afterAddress, letterOf, behind, storedOf}
 use Rattle.record.specs.Memory.{Memory, RightMemory}
 use Rattle.engine.specs.declared.Job.{Job}
 use Rattle.engine.specs.declared.Job.the-variants as job
@@ -29,6 +27,7 @@ use Rattle.promise.specs.Steps.{reached}
 use Rattle.promise.specs.Demands.{isWaiting}
 use Rattle.promise.specs.Stop.{receive, own, restsBy, delaysBy, stoppable, ahead, last, Called, Comes, heardAt, StopHolds, StopElseDoesNothing, StartGoesOn, startLine}
 use Rattle.promise.proofs.laws.Gathering.{hear-so}
+use Rattle.promise.proofs.laws.Letters.{is-letter}
 use Rattle.promise.proofs.laws.StopBoard.{left}
 use Rattle.promise.proofs.laws.StopSteps.{At}
 
@@ -98,27 +97,11 @@ start-heard : (ports : List ℕ) (e : Engine) (l : Line) (mem : Memory) → l .o
 unfolding hearing earOf gathering
 start-heard ports e l mem o h r = start-return ports e l mem o h r
 
--- S has its character alone
-is-S : (k : Letter) → letterPaper k .number ≡ 83 → k ≡ letter.Start
-is-S letter.Wrong h = absurd (omega arith)
-is-S letter.Axes h = absurd (omega arith)
-is-S letter.Relative h = absurd (omega arith)
-is-S letter.Absolute h = absurd (omega arith)
-is-S letter.Origin h = absurd (omega arith)
-is-S letter.Zero h = absurd (omega arith)
-is-S letter.Three h = absurd (omega arith)
-is-S letter.Position h = absurd (omega arith)
-is-S letter.Input h = absurd (omega arith)
-is-S letter.Output h = absurd (omega arith)
-is-S letter.Store h = absurd (omega arith)
-is-S letter.Empty h = absurd (omega arith)
-is-S letter.Start h = refl
-
 pub ours-goes-on : StartGoesOn ours
 ours-goes-on p ports reply c r s o h k =
     let d : Direct = directOf (textOf (p .0 .line)) in
     comes 13 ports reply p (said (board (p .0 .engine) false noLine) [] (p .1)) r c
-    (ap (λ (t : Bool). hearing 13 ports (board (p .0 .engine) t (p .0 .line)) (p .1)) s ∙ start-heard ports (p .0 .engine) (p .0 .line) (p .1) o (is-S (d .letter) h) k)
+    (ap (λ (t : Bool). hearing 13 ports (board (p .0 .engine) t (p .0 .line)) (p .1)) s ∙ start-heard ports (p .0 .engine) (p .0 .line) (p .1) o (is-letter (d .letter) letter.Start h) k)
 
 -- ---- a stop and `@0S`
 

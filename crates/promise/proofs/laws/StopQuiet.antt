@@ -61,6 +61,9 @@ module _ (ports : List ℕ) (e : Engine) (l : Line) (mem : Memory) where
   quiet-effect letter.Store w = quiet-of _ mem
   quiet-effect letter.Empty w = quiet-of _ mem
   quiet-effect letter.Start w = quiet-of _ mem
+  quiet-effect letter.Plane w = quiet-of _ mem
+  quiet-effect letter.Direction w = quiet-of _ mem
+  quiet-effect letter.Circle w = quiet-of _ mem
 
   quiet-direct : (d : Direct) → Quiet (left (directSaid d ports b mem)) (left (directSaid d [] b mem))
   unfolding directSaid

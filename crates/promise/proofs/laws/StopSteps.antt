@@ -9,7 +9,7 @@ use lib.ListN.{length}
 use Rattle.count.specs.Pick.{pick}
 use Rattle.count.specs.Paper.{Paper}
 use Rattle.count.proofs.laws.Truth.{and-true}
-use Rattle.motion.specs.Next.{pulseOf}
+use Rattle.travel.specs.Next.{pulseOf}
 use Rattle.record.specs.Memory.{Memory, storeFits, tableFits}
 use Rattle.record.specs.Table.{fetchOf}
 use Rattle.engine.specs.declared.Answer.the-variants as answer

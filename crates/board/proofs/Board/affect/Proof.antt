@@ -3,6 +3,12 @@ use borrow.Author.Needs.{needs}
 use Rattle.board.proofs.Board.affect.Statement.{statement}
 use Rattle.board.proofs.Board.affect.Tie as tie
 
+array-read-w : tie.Need-array-read-w
+array-read-w c = search needs
+
+low-requires : tie.Need-low-requires
+low-requires c κs = search needs
+
 enum-told : tie.Need-enum-told
 enum-told c = search needs
 
@@ -11,12 +17,6 @@ replies-requires c κs = search needs
 
 enum-told-2 : tie.Need-enum-told-2
 enum-told-2 c = search needs
-
-array-read-low : tie.Need-array-read-low
-array-read-low c = search needs
-
-low-requires : tie.Need-low-requires
-low-requires c κs = search needs
 
 set-axes-requires : tie.Need-set-axes-requires
 set-axes-requires c κs = search needs
@@ -45,12 +45,6 @@ begin-requires-4 c κs = search needs
 enum-told-5 : tie.Need-enum-told-5
 enum-told-5 c = search needs
 
-array-read-low-2 : tie.Need-array-read-low-2
-array-read-low-2 c = search needs
-
-low-requires-2 : tie.Need-low-requires-2
-low-requires-2 c κs = search needs
-
 set-origin-requires : tie.Need-set-origin-requires
 set-origin-requires c κs = search needs
 
@@ -60,12 +54,6 @@ replies-requires-3 c κs = search needs
 enum-told-6 : tie.Need-enum-told-6
 enum-told-6 c = search needs
 
-array-read-low-3 : tie.Need-array-read-low-3
-array-read-low-3 c = search needs
-
-low-requires-3 : tie.Need-low-requires-3
-low-requires-3 c κs = search needs
-
 set-zero-requires : tie.Need-set-zero-requires
 set-zero-requires c κs = search needs
 
@@ -74,9 +62,6 @@ replies-requires-4 c κs = search needs
 
 enum-told-7 : tie.Need-enum-told-7
 enum-told-7 c = search needs
-
-array-read-set-three : tie.Need-array-read-set-three
-array-read-set-three c = search needs
 
 set-three-requires : tie.Need-set-three-requires
 set-three-requires c κs = search needs
@@ -96,9 +81,6 @@ says-requires c κs = search needs
 enum-told-9 : tie.Need-enum-told-9
 enum-told-9 c = search needs
 
-array-read-port-at : tie.Need-array-read-port-at
-array-read-port-at c = search needs
-
 port-at-requires : tie.Need-port-at-requires
 port-at-requires c κs = search needs
 
@@ -111,11 +93,11 @@ says-requires-2 c κs = search needs
 enum-told-10 : tie.Need-enum-told-10
 enum-told-10 c = search needs
 
-array-read-low-4 : tie.Need-array-read-low-4
-array-read-low-4 c = search needs
+array-read-low : tie.Need-array-read-low
+array-read-low c = search needs
 
-low-requires-4 : tie.Need-low-requires-4
-low-requires-4 c κs = search needs
+low-requires-2 : tie.Need-low-requires-2
+low-requires-2 c κs = search needs
 
 set-output-requires : tie.Need-set-output-requires
 set-output-requires c κs = search needs
@@ -147,11 +129,38 @@ enum-told-13 c = search needs
 start-requires : tie.Need-start-requires
 start-requires c κs = search needs
 
+enum-told-14 : tie.Need-enum-told-14
+enum-told-14 c = search needs
+
+set-plane-requires : tie.Need-set-plane-requires
+set-plane-requires c κs = search needs
+
+replies-requires-9 : tie.Need-replies-requires-9
+replies-requires-9 c κs = search needs
+
+enum-told-15 : tie.Need-enum-told-15
+enum-told-15 c = search needs
+
+set-direction-requires : tie.Need-set-direction-requires
+set-direction-requires c κs = search needs
+
+replies-requires-10 : tie.Need-replies-requires-10
+replies-requires-10 c κs = search needs
+
+enum-told-16 : tie.Need-enum-told-16
+enum-told-16 c = search needs
+
+begin-circle-requires : tie.Need-begin-circle-requires
+begin-circle-requires c κs = search needs
+
+begin-requires-5 : tie.Need-begin-requires-5
+begin-requires-5 c κs = search needs
+
 returns : tie.Need-returns
 returns c = simp (c .before .enum-told .given .1, c .replies .ensures)
 
 returns-2 : tie.Need-returns-2
-returns-2 c = simp (c .before .before .before .enum-told2 .given .1, c .before .before .low .ensures, c .before .set-axes .ensures, c .replies2 .ensures)
+returns-2 c = simp (c .before .before .enum-told2 .given .1, c .before .before .before .before .low .ensures, c .before .set-axes .ensures, c .replies2 .ensures)
 
 returns-3 : tie.Need-returns-3
 returns-3 c = simp (c .before .before .enum-told3 .given .1, c .before .begin .ensures, c .begin2 .ensures)
@@ -160,10 +169,10 @@ returns-4 : tie.Need-returns-4
 returns-4 c = simp (c .before .before .enum-told4 .given .1, c .before .begin3 .ensures, c .begin4 .ensures)
 
 returns-5 : tie.Need-returns-5
-returns-5 c = simp (c .before .before .before .enum-told5 .given .1, c .before .before .low2 .ensures, c .before .set-origin .ensures, c .replies3 .ensures)
+returns-5 c = simp (c .before .before .enum-told5 .given .1, c .before .before .before .before .low .ensures, c .before .set-origin .ensures, c .replies3 .ensures)
 
 returns-6 : tie.Need-returns-6
-returns-6 c = simp (c .before .before .before .enum-told6 .given .1, c .before .before .low3 .ensures, c .before .set-zero .ensures, c .replies4 .ensures)
+returns-6 c = simp (c .before .before .enum-told6 .given .1, c .before .before .before .before .low .ensures, c .before .set-zero .ensures, c .replies4 .ensures)
 
 returns-7 : tie.Need-returns-7
 returns-7 c = simp (c .before .before .enum-told7 .given .1, c .before .set-three .ensures, c .replies5 .ensures)
@@ -175,7 +184,7 @@ returns-9 : tie.Need-returns-9
 returns-9 c = simp (c .before .before .before .enum-told9 .given .1, c .before .before .port-at .ensures, c .before .with-engine2 .ensures, c .says2 .ensures)
 
 returns-10 : tie.Need-returns-10
-returns-10 c = simp (c .before .before .before .enum-told10 .given .1, c .before .before .low4 .ensures, c .before .set-output .ensures, c .replies6 .ensures)
+returns-10 c = simp (c .before .before .before .enum-told10 .given .1, c .before .before .low2 .ensures, c .before .set-output .ensures, c .replies6 .ensures)
 
 returns-11 : tie.Need-returns-11
 returns-11 c = simp (c .before .before .enum-told11 .given .1, c .before .store .ensures, c .replies7 .ensures)
@@ -186,15 +195,24 @@ returns-12 c = simp (c .before .before .enum-told12 .given .1, c .before .empty 
 returns-13 : tie.Need-returns-13
 returns-13 c = simp (c .before .enum-told13 .given .1, c .start .ensures)
 
+returns-14 : tie.Need-returns-14
+returns-14 c = simp (c .before .before .enum-told14 .given .1, c .before .set-plane .ensures, c .replies9 .ensures)
+
+returns-15 : tie.Need-returns-15
+returns-15 c = simp (c .before .before .enum-told15 .given .1, c .before .set-direction .ensures, c .replies10 .ensures)
+
+returns-16 : tie.Need-returns-16
+returns-16 c = simp (c .before .before .enum-told16 .given .1, c .before .begin-circle .ensures, c .begin5 .ensures)
+
 pub affect-spec : {M : Type 1} → statement M
 affect-spec =
     tie.close
     (tie.spec
+    array-read-w
+    low-requires
     enum-told
     replies-requires
     enum-told-2
-    array-read-low
-    low-requires
     set-axes-requires
     replies-requires-2
     enum-told-3
@@ -204,30 +222,24 @@ affect-spec =
     begin-requires-3
     begin-requires-4
     enum-told-5
-    array-read-low-2
-    low-requires-2
     set-origin-requires
     replies-requires-3
     enum-told-6
-    array-read-low-3
-    low-requires-3
     set-zero-requires
     replies-requires-4
     enum-told-7
-    array-read-set-three
     set-three-requires
     replies-requires-5
     enum-told-8
     with-engine-requires
     says-requires
     enum-told-9
-    array-read-port-at
     port-at-requires
     with-engine-requires-2
     says-requires-2
     enum-told-10
-    array-read-low-4
-    low-requires-4
+    array-read-low
+    low-requires-2
     set-output-requires
     replies-requires-6
     enum-told-11
@@ -238,6 +250,15 @@ affect-spec =
     replies-requires-8
     enum-told-13
     start-requires
+    enum-told-14
+    set-plane-requires
+    replies-requires-9
+    enum-told-15
+    set-direction-requires
+    replies-requires-10
+    enum-told-16
+    begin-circle-requires
+    begin-requires-5
     returns
     returns-2
     returns-3
@@ -250,4 +271,7 @@ affect-spec =
     returns-10
     returns-11
     returns-12
-    returns-13)
+    returns-13
+    returns-14
+    returns-15
+    returns-16)

@@ -90,8 +90,26 @@ enum-told-13 c = search needs
 count-fault-requires-4 : tie.Need-count-fault-requires-4
 count-fault-requires-4 c κs = search needs
 
+enum-told-14 : tie.Need-enum-told-14
+enum-told-14 c = search needs
+
+record-fault-requires-6 : tie.Need-record-fault-requires-6
+record-fault-requires-6 c κs = search needs
+
+enum-told-15 : tie.Need-enum-told-15
+enum-told-15 c = search needs
+
+record-fault-requires-7 : tie.Need-record-fault-requires-7
+record-fault-requires-7 c κs = search needs
+
+enum-told-16 : tie.Need-enum-told-16
+enum-told-16 c = search needs
+
+seven-fault-requires : tie.Need-seven-fault-requires
+seven-fault-requires c κs = search needs
+
 returns : tie.Need-returns
-returns c = search needs
+returns c = simp (c .enum-told .given .1)
 
 returns-2 : tie.Need-returns-2
 returns-2 c = simp (c .before .enum-told2 .given .1, c .axes-fault .ensures)
@@ -129,6 +147,15 @@ returns-12 c = simp (c .before .enum-told12 .given .1, c .count-fault3 .ensures)
 returns-13 : tie.Need-returns-13
 returns-13 c = simp (c .before .enum-told13 .given .1, c .count-fault4 .ensures)
 
+returns-14 : tie.Need-returns-14
+returns-14 c = simp (c .before .enum-told14 .given .1, c .record-fault6 .ensures)
+
+returns-15 : tie.Need-returns-15
+returns-15 c = simp (c .before .enum-told15 .given .1, c .record-fault7 .ensures)
+
+returns-16 : tie.Need-returns-16
+returns-16 c = simp (c .before .enum-told16 .given .1, c .seven-fault .ensures)
+
 pub numbers-fault-spec : {M : Type 1} → statement M
 numbers-fault-spec =
     tie.close
@@ -162,6 +189,12 @@ numbers-fault-spec =
     count-fault-requires-3
     enum-told-13
     count-fault-requires-4
+    enum-told-14
+    record-fault-requires-6
+    enum-told-15
+    record-fault-requires-7
+    enum-told-16
+    seven-fault-requires
     returns
     returns-2
     returns-3
@@ -174,4 +207,7 @@ numbers-fault-spec =
     returns-10
     returns-11
     returns-12
-    returns-13)
+    returns-13
+    returns-14
+    returns-15
+    returns-16)

@@ -29,7 +29,7 @@ same-length : tie.Need-same-length
 same-length c = search needs
 
 returns-2 : tie.Need-returns-2
-returns-2 c = let a = c .before .before .before .before .before .before .before .before .before .before .before .before .args in (going-left (a .e) (a .limit) (a .out .now) (c .before .before .before .before .before .glide .ensures .0) (c .before .before .before .before .before .before .before .before .before .before .under-way .ensures) (c .before .before .before .before .before .before .before .before .under .given .1) (c .glide2 .ensures), c .before .before .before .before .before .glide .ensures .1)
+returns-2 c = let a = c .before .before .before .before .before .before .before .before .before .before .before .args in (going-left (a .e) (a .limit) (a .out .now) (c .before .before .before .before .glide .ensures .0) (c .before .before .before .before .before .before .before .before .before .under-way .ensures) (c .before .before .before .before .before .before .before .under .given .1) (c .glide2 .ensures), c .before .before .before .before .glide .ensures .1)
 
 pub glide-on-spec : {M : Type 1} → statement M
 glide-on-spec =

@@ -16,14 +16,14 @@ returns c = simp (c .before .before .before .plan .given .1, ← c .before .left
 with-job-requires : tie.Need-with-job-requires
 with-job-requires c κs = search needs
 
-enum-told : tie.Need-enum-told
-enum-told c = search needs
+enum-known-plan-2 : tie.Need-enum-known-plan-2
+enum-known-plan-2 c = search needs
 
 returns-2 : tie.Need-returns-2
 returns-2 c = simp (c .before .before .before .before .plan .given .1, ← c .before .before .left .ensures, ne-eqb _ _ (c .before .if1 .left), c .with-job .ensures)
 
 returns-3 : tie.Need-returns-3
-returns-3 c = simp (c .enum-told .given .1)
+returns-3 c = rw (c .before .plan2 .given .1)
 
 pub begin-by-spec : {M : Type 1} → statement M
 begin-by-spec =
@@ -33,6 +33,6 @@ begin-by-spec =
     left-requires
     returns
     with-job-requires
-    enum-told
+    enum-known-plan-2
     returns-2
     returns-3)

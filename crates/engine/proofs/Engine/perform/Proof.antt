@@ -2,7 +2,7 @@
 use mathlib.Core.Path.{sym, _∙_}
 use mathlib.Core.Logic.{inl, inr}
 use borrow.Author.Tests.{ne-eqb}
-use Rattle.motion.specs.work.Here.{nextOf}
+use Rattle.travel.specs.work.Beat.{nextOf}
 use Rattle.engine.proofs.laws.Work.{movement-code, performs-movement}
 use native.Mathlib.Omega.{arith}
 use Rattle.engine.specs.Tick.{performed}
@@ -49,6 +49,27 @@ cast-t24 c = omega (arith, c .before .before .before .pre .1 .sent (c .before .m
 tell-requires-3 : tie.Need-tell-requires-3
 tell-requires-3 c κs = search needs
 
+set-plane-requires : tie.Need-set-plane-requires
+set-plane-requires c κs = search needs
+
+on-to-requires-4 : tie.Need-on-to-requires-4
+on-to-requires-4 c κs = rw (c .set-plane .ensures) (c .before .before .before .pre .0)
+
+tell-requires-4 : tie.Need-tell-requires-4
+tell-requires-4 c κs = search needs
+
+set-direction-requires : tie.Need-set-direction-requires
+set-direction-requires c κs = search needs
+
+on-to-requires-5 : tie.Need-on-to-requires-5
+on-to-requires-5 c κs = rw (c .set-direction .ensures) (c .before .before .before .pre .0)
+
+tell-requires-5 : tie.Need-tell-requires-5
+tell-requires-5 c κs = search needs
+
+turn-requires : tie.Need-turn-requires
+turn-requires c κs = search needs
+
 lead-requires : tie.Need-lead-requires
 lead-requires c κs = search needs
 
@@ -74,10 +95,23 @@ returns-5 c = simp (c .before .before .match .keys5, c .before .on-to3 .ensures,
 
 returns-6 : tie.Need-returns-6
 unfolding performed
-returns-6 c =
+returns-6 c = simp (c .before .before .before .match .keys6, c .before .before .set-plane .ensures, c .before .on-to4 .ensures, c .tell4 .ensures)
+
+returns-7 : tie.Need-returns-7
+unfolding performed
+returns-7 c = simp (c .before .before .before .match .keys7, c .before .before .set-direction .ensures, c .before .on-to5 .ensures, c .tell5 .ensures)
+
+returns-8 : tie.Need-returns-8
+unfolding performed
+returns-8 c = simp (c .before .match .keys8, c .turn .ensures)
+
+returns-9 : tie.Need-returns-9
+unfolding performed
+returns-9 c =
     let k = c .before .match .rest in
-    let o = k .0 .0 .0 .0 .1 in
-    simp (ne-eqb _ _ (k .1), ne-eqb _ _ (k .0 .1), ne-eqb _ _ (k .0 .0 .1), ne-eqb _ _ (k .0 .0 .0 .1), ne-eqb _ 109 (λ e. o (inr e)), ne-eqb _ 48 (λ e. o (inl e))) (c .lead .ensures)
+    let j = k .0 .0 .0 in
+    let o = j .0 .0 .0 .0 .1 in
+    simp (ne-eqb _ _ (k .1), ne-eqb _ _ (k .0 .1), ne-eqb _ _ (k .0 .0 .1), ne-eqb _ _ (j .1), ne-eqb _ _ (j .0 .1), ne-eqb _ _ (j .0 .0 .1), ne-eqb _ _ (j .0 .0 .0 .1), ne-eqb _ 109 (λ e. o (inr e)), ne-eqb _ 48 (λ e. o (inl e))) (c .lead .ensures)
 
 pub perform-spec : {M : Type 1} → statement M
 perform-spec =
@@ -96,10 +130,20 @@ perform-spec =
     on-to-requires-3
     cast-t24
     tell-requires-3
+    set-plane-requires
+    on-to-requires-4
+    tell-requires-4
+    set-direction-requires
+    on-to-requires-5
+    tell-requires-5
+    turn-requires
     lead-requires
     returns
     returns-2
     returns-3
     returns-4
     returns-5
-    returns-6)
+    returns-6
+    returns-7
+    returns-8
+    returns-9)

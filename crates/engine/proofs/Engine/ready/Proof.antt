@@ -15,7 +15,7 @@ enum-told : tie.Need-enum-told
 enum-told c = search needs
 
 perform-requires : tie.Need-perform-requires
-perform-requires c κs = ready-fits _ _ _ (c .before .before .before .fetch .ensures) (c .before .enum-told .given .1) (omega arith)
+perform-requires c κs = ready-fits _ _ _ (c .before .before .before .fetch .ensures) (c .before .enum-told .given .1) (omega (arith, c .before .before .before .before .before .before .before .good .0 .1 .1 .1 .1 .1 .1 .1 .1 .0))
 
 enum-told-2 : tie.Need-enum-told-2
 enum-told-2 c = search needs

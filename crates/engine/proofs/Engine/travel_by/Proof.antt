@@ -9,8 +9,8 @@ enum-known-plan c = search needs
 first-pulse-requires : tie.Need-first-pulse-requires
 first-pulse-requires c κs = search needs
 
-enum-told : tie.Need-enum-told
-enum-told c = search needs
+enum-known-plan-2 : tie.Need-enum-known-plan-2
+enum-known-plan-2 c = search needs
 
 finish-requires : tie.Need-finish-requires
 finish-requires c κs = search needs
@@ -19,9 +19,15 @@ returns : tie.Need-returns
 returns c = simp (c .before .before .plan .given .1, c .first-pulse .ensures)
 
 returns-2 : tie.Need-returns-2
-returns-2 c = simp (c .before .enum-told .given .1, c .finish .ensures)
+returns-2 c = rw (c .before .before .plan2 .given .1, c .finish .ensures)
 
 pub travel-by-spec : {M : Type 1} → statement M
 travel-by-spec =
     tie.close
-    (tie.spec enum-known-plan first-pulse-requires enum-told finish-requires returns returns-2)
+    (tie.spec
+    enum-known-plan
+    first-pulse-requires
+    enum-known-plan-2
+    finish-requires
+    returns
+    returns-2)

@@ -1,4 +1,4 @@
-# What the lines and the records of circles say: e, f and y. For told.awk and follow.awk, behind replies.awk.
+# What the lines and the records of circles say: e, f and y. For told.awk, follow.awk and stored.awk, behind replies.awk.
 #
 # A line is taken apart into its letter and its numbers, parted by spaces, as in "y 16 600 0 2 0 -1 1"; another line is nothing.
 # Kept: circle_at[place], the same of the record at a place, if it is one of these.
@@ -57,6 +57,13 @@ function decimals(size,    n, whole, text) {
     return text
 }
 
+# A circle, or an arc of one, of which so many pulses are made; arc_part has its numbers.
+function arc_words(made, is_back, radius, direction, plane, speed,    whole) {
+    whole = made == arc_part[2]
+    return (whole && is_back ? "circle" : "arc") " of radius " radius ", " turn_words(direction) " in " plane_words(plane) ", " \
+        (whole ? "" : made " of ") arc_part[2] (arc_part[2] == 1 ? " pulse" : " pulses") " at " speed
+}
+
 # Why a line of a circle, or while storing a record, is refused, in the board's plane and direction; nothing if there is no more to say
 # than of other lines.
 function circle_refused(sent, circle, storing, plane, direction) {
@@ -70,7 +77,7 @@ function circle_refused(sent, circle, storing, plane, direction) {
 }
 
 # The number of an arc that is at fault: arc_part has them. While storing, directions that do not fit the start are no fault.
-function arc_fault(storing, direction,    wanted) {
+function arc_fault(storing, direction) {
     if (beyond(2, 0, 8388607)) return "the arc length is not from 0 to 8,388,607"
     if (beyond(4, -8388608, 8388607)) return "the third number is not from -8,388,608 to 8,388,607"
     if (beyond(5, -4000000, 4000000) || beyond(6, -4000000, 4000000)) return "the start is not from -4,000,000 to 4,000,000"

@@ -94,24 +94,10 @@ function answered(job, from) {
     } else sent(sprintf("%c", byte + 0))
 }
 
-# A record that sets the plane or the direction of circles. At the end of the run the state says the same.
-function setting(from) {
-    if (circle_at[from] ~ /^e/) plane = substr(circle_at[from], 3) + 0
-    if (circle_at[from] ~ /^f/) direction = substr(circle_at[from], 3) + 0
-}
-
 # A phase of a movement that was sent as a line.
 function begin_line() {
     record = pass = "-"
     arc = arc_from(circle_line(line_text[run_line], 0))
-}
-
-# An arc that begins here: its centre lies by its start from here.
-function arc_from(circle,    u, v) {
-    if (!is_arc(circle)) return ""
-    u = arc_part[5]
-    v = arc_part[6]
-    return (plane < 2 ? x - u : x) " " (plane == 0 ? y - v : plane == 2 ? y - u : y) " " (plane > 0 ? z - v : z) " " u " " v " " plane " " direction
 }
 
 # The first phase of a record's movement begins a pass.
@@ -138,9 +124,11 @@ function run_is(job) {
 
 # The end of what ran, by a reply, or by none for a reset. The 0 of a movement that was sent as a line is not worth a note.
 function end_run(by) {
-    if (running == "run" || by != "0") add_note(running " of line " run_line " ended " (by == "" ? "by a reset" : "with " by), by == "F" ? "a break" : by == "9" ? "out of range" : by == "3" ? "axis not set" : by == "1" ? "wrong way" : "")
+    if (running == "run" || by != "0") add_note(running " of line " run_line " ended " (by == "" ? "by a reset" : "with " by), why_ended(by))
     running = ""
 }
+
+function why_ended(by) { return by == "F" ? "a break" : by == "9" ? "out of range" : by == "3" ? "axis not set" : by == "1" ? "wrong way" : "" }
 
 function still_running() {
     if (standing) add_note(running " of line " run_line " stands stopped", "")
@@ -153,14 +141,6 @@ function reply(text) {
     if (text == "F") held = 1
     else if (refuses(text)) add_note("line " line ": " text, why_refused(text, job_now == "Storing"))
     else if (text == "0" && job_now == "Storing") keep_circle(records, line_text[line])
-}
-
-# A circle has words of its own where they are short.
-function why_refused(text, storing,    circle) {
-    circle = circle_line(line_text[line], storing)
-    if (text == "3" && is_arc(circle)) return "plane with an axis not set"
-    if (text == "1" && !storing && is_arc(circle) && arc_fault(0, direction) ~ / the directions are /) return "wrong directions"
-    return meaning(text, storing)
 }
 
 # A line S: what is at work, and where the positions and the origin lie on the table.

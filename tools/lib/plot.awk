@@ -73,16 +73,10 @@ function corners_of(i,    f, n, k) {
     n_at = 0
     is_bent = i in round_from
     corner_at(f[2], f[3], f[4])
-    if (is_bent) round_points(i)
-    else if (draws_steps) for (k = 12; k < n; k += 3) corner_at(f[k], f[k + 1], f[k + 2])
+    if (is_bent) {
+        for (k = round_from[i]; k <= round_to[i]; k++) if (k == round_to[i] || is_drawn(k)) corner_at(round_x[k], round_y[k], round_z[k])
+    } else if (draws_steps) for (k = 12; k < n; k += 3) corner_at(f[k], f[k + 1], f[k + 2])
     if (!(i in closed)) corner_at(f[5], f[6], f[7])
-}
-
-# The points of a round way. Where steps are small, only those that are half a unit from the last one.
-function round_points(i,    k) {
-    for (k = round_from[i]; k <= round_to[i]; k++)
-        if (draws_steps || k == round_to[i] || is_apart(round_x[k] - at_x[n_at], 1, 2 * wide_x) || is_apart(round_y[k] - at_y[n_at], 1, 2 * wide_y))
-            corner_at(round_x[k], round_y[k], round_z[k])
 }
 
 function corner_at(x, y, z) {

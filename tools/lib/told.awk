@@ -1,5 +1,6 @@
-# What the board did, for a person, under each line of the file that it answers: awk -f replies.awk -f circles.awk -f fault.awk -f told.awk LINES STREAM.
-# LINES is what sent.awk wrote of the file, STREAM what `calls` printed. -v scale="x y z": the steps of a mm on each axis, or empty; -v pulses=1 shows every pulse.
+# What the board did, for a person, under each line of the file that it answers, behind replies.awk, circles.awk and fault.awk:
+# awk .. -f told.awk LINES STREAM. LINES is what sent.awk wrote of the file, STREAM what `calls` printed. -v scale="x y z": the steps of a mm on
+# each axis, or empty; -v pulses=1 shows every pulse.
 BEGIN {
     split(scale, per, " ")
     split("x y z", axis, " ")
@@ -174,22 +175,17 @@ function begin(from) {
 }
 
 # A phase of the movement is over, or as much of it as was made under this line. A circle is one phase.
-function phase(i, words) {
+function phase(i, words, is_back) {
     if (made == 0) return
     for (i = 1; i <= 3; i++) {
         if (way[i] != 0) words = words (words == "" ? "" : ", ") axis[i] " " (way[i] > 0 ? "+" : "") way[i] mm(way[i], i)
         way[i] = 0
     }
-    if (is_arc(arc)) phases = arc_words(words == "") ": " (words == "" ? "back where it began" : words)
-    else phases = phases (phases == "" ? "" : "; ") (words == "" ? "back where it began" : words) " at " speed
+    is_back = words == ""
+    if (is_back) words = "back where it began"
+    if (is_arc(arc)) phases = arc_words(made, is_back, radius(arc_part[5], arc_part[6]), arc_direction, arc_plane, speed) ": " words
+    else phases = phases (phases == "" ? "" : "; ") words " at " speed
     made = 0
-}
-
-# A circle, or an arc of one; arc_part has its numbers.
-function arc_words(is_back, whole) {
-    whole = made == arc_part[2]
-    return (whole && is_back ? "circle" : "arc") " of radius " radius(arc_part[5], arc_part[6]) ", " turn_words(arc_direction) \
-        " in " plane_words(arc_plane) ", " (whole ? "" : made " of ") arc_part[2] (arc_part[2] == 1 ? " pulse" : " pulses") " at " speed
 }
 
 # In mm only if both axes have the same steps.

@@ -10,8 +10,8 @@ use crate::arcs::with_plane;
 use crate::arcs::with_turn;
 use board::Board;
 use engine::Engine;
-use engine::Job;
 use engine::Run;
+use engine::Under;
 use motion::Counters;
 use motion::Move;
 use travel::Travel;
@@ -84,34 +84,14 @@ pub(crate) fn kept_as(name: u64, word: u64) -> u64 {
     u64::MAX
 }
 
-// What is under way: nothing that moves, a straight movement, or an arc.
-pub(crate) enum Moving {
-    Nothing,
-    Straight,
-    Round,
-}
-
-fn kind_of(t: Travel) -> Moving {
-    match t {
-        Travel::Straight(_) => Moving::Straight,
-        Travel::Round(_) => Moving::Round,
-    }
-}
-
-pub(crate) fn under_way(job: Job) -> Moving {
-    match job {
-        Job::Idle => Moving::Nothing,
-        Job::Storing => Moving::Nothing,
-        Job::Direct(t) => kind_of(t),
-        Job::Ready => Moving::Nothing,
-        Job::Moving(t) => kind_of(t),
-        Job::Delay(_) => Moving::Nothing,
-        Job::Wait(_, _) => Moving::Nothing,
-    }
-}
-
 // How many values a field of the state takes: none without a name.
 fn values_of(name: u64) -> u64 {
+    if is_axis(name % 256) {
+        return match name / 256 {
+            POSITION | ORIGIN => 4294967296,
+            _ => 0,
+        };
+    }
     match name {
         OVER | STANDING | TURN => 2,
         PLANE => 3,
@@ -123,6 +103,12 @@ fn values_of(name: u64) -> u64 {
 
 // The same of a field of a straight movement.
 fn values_moving(name: u64) -> u64 {
+    if is_axis(name % 256) {
+        return match name / 256 {
+            START | FIRST | SECOND | THIRD => 4294967296,
+            _ => 0,
+        };
+    }
     match name {
         PHASE => 256,
         SPEED1 | SPEED2 | SPEED3 => 65536,
@@ -131,38 +117,25 @@ fn values_moving(name: u64) -> u64 {
     }
 }
 
-// Whether a point is of the board, or of a straight movement under way.
-fn is_point(point: u64, straight: bool) -> bool {
-    match point {
-        POSITION | ORIGIN => true,
-        START | FIRST | SECOND | THIRD => straight,
-        _ => false,
+// How many values a field of what moves takes.
+fn values_travel(t: Travel, name: u64) -> u64 {
+    match t {
+        Travel::Straight(_) => values_moving(name),
+        Travel::Round(_) => values_round(name),
     }
 }
 
-// How many values a field of what is under way takes.
-fn values_under(moving: Moving, name: u64) -> u64 {
-    match moving {
-        Moving::Nothing => 0,
-        Moving::Straight => values_moving(name),
-        Moving::Round => values_round(name),
-    }
-}
-
-fn is_straight(moving: Moving) -> bool {
-    match moving {
-        Moving::Nothing => false,
-        Moving::Straight => true,
-        Moving::Round => false,
+// The same, or none if nothing moves.
+fn values_under(under: Under, name: u64) -> u64 {
+    match under {
+        Under::Going(t) => values_travel(t, name),
+        Under::Nothing => 0,
     }
 }
 
 // Whether there is a field of this name, the board's or of what is under way, and it can hold the value.
-pub(crate) fn can_hold(name: u64, value: u64, moving: Moving) -> bool {
-    if is_axis(name % 256) {
-        return is_point(name / 256, is_straight(moving)) & (value < 4294967296);
-    }
-    (value < values_of(name)) | (value < values_under(moving, name))
+pub(crate) fn can_hold(name: u64, value: u64, under: Under) -> bool {
+    (value < values_of(name)) | (value < values_under(under, name))
 }
 
 fn with_axis(c: Counters, axis: u64, count: u32) -> Counters {
@@ -211,39 +184,26 @@ fn travel_with(t: Travel, name: u64, value: u64) -> Travel {
     }
 }
 
-// The job with a field of what moves set.
-fn job_with(job: Job, name: u64, value: u64) -> Job {
-    match job {
-        Job::Idle => job,
-        Job::Storing => job,
-        Job::Direct(t) => Job::Direct(travel_with(t, name, value)),
-        Job::Ready => job,
-        Job::Moving(t) => Job::Moving(travel_with(t, name, value)),
-        Job::Delay(_) => job,
-        Job::Wait(_, _) => job,
-    }
-}
-
 fn run_with(old: Run, name: u64, value: u64) -> Run {
     let mut next = old;
     let mut loops = old.loops;
     match name {
         PLACE => next.place = half_of(value),
-        DEPTH => {
+        _ => {
             loops.depth = byte_of(value);
             next.loops = loops;
         }
-        _ => {
-            let before = old.job;
-            let job = job_with(before, name, value);
-            next = Run {
-                job,
-                place: old.place,
-                loops,
-            };
-        }
     }
     next
+}
+
+// The engine with a field of what moves set; without one it stays.
+fn moving_with(e: Engine, name: u64, value: u64) -> Engine {
+    let under = e.under_way();
+    match under {
+        Under::Going(t) => e.glide(e.at, travel_with(t, name, value)),
+        Under::Nothing => e,
+    }
 }
 
 fn engine_with(e: Engine, name: u64, value: u64) -> Engine {
@@ -272,7 +232,10 @@ fn engine_with(e: Engine, name: u64, value: u64) -> Engine {
         next.origin = with_axis(e.origin, name % 256, word_of(value));
         return next;
     }
-    next.run = run_with(e.run, name, value);
+    match name {
+        PLACE | DEPTH => next.run = run_with(e.run, name, value),
+        _ => next = moving_with(e, name, value),
+    }
     next
 }
 

@@ -12,7 +12,6 @@ use host::byte_of;
 use host::can_hold;
 use host::half_of;
 use host::kept_as;
-use host::under_way;
 use host::word_of;
 use libc::STDIN_FILENO;
 use libc::STDOUT_FILENO;
@@ -178,10 +177,8 @@ fn wrong(play: Play) -> Play {
 fn set_field(play: Play, name: u64, word: u64) -> Play {
     let board = play.board;
     let engine = board.engine;
-    let run = engine.run;
-    let job = run.job;
     let value = kept_as(name, word);
-    if can_hold(name, value, under_way(job)) {
+    if can_hold(name, value, engine.under_way()) {
         return with_board(play, board_with(board, name, value));
     }
     wrong(play)

@@ -9,7 +9,7 @@ use crate::show::within;
 use crate::table::entries_of;
 use board::Board;
 use engine::Answer;
-use engine::Job;
+use engine::Under;
 use libc::STDOUT_FILENO;
 
 fn is_nothing(answer: Answer) -> bool {
@@ -33,15 +33,10 @@ fn is_pulse(answer: Answer) -> bool {
 }
 
 // Whether a pulse just made was the first of its phase.
-fn is_first(job: Job) -> bool {
-    match job {
-        Job::Idle => false,
-        Job::Storing => false,
-        Job::Direct(t) => t.made() == 1,
-        Job::Ready => false,
-        Job::Moving(t) => t.made() == 1,
-        Job::Delay(_) => false,
-        Job::Wait(_, _) => false,
+fn is_first(under: Under) -> bool {
+    match under {
+        Under::Going(t) => t.made() == 1,
+        Under::Nothing => false,
     }
 }
 
@@ -60,9 +55,7 @@ fn show_place(from: u16, board: Board) -> bool {
 
 fn show_answered(answer: Answer, from: u16, board: Board) -> bool {
     let e = board.engine;
-    let run = e.run;
-    let job = run.job;
-    let first = is_first(job);
+    let first = is_first(e.under_way());
     let pulse = is_pulse(answer);
     show_ticked(0, answer);
     if pulse & !first {

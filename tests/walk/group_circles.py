@@ -98,7 +98,7 @@ case("circle_spaces", "at most one space behind the letter and behind each comma
      lines("@03", "@0e 0", "@0f 0", "@0e0, 0", "@0y 1, 600, 0, 2, 0, -1, -1", "@0y1,600, 0,2, 0,-1, -1") + given,
      R("0", "0", "0", "7") + T("y-") + ["R 0"] + T("y-") + ["R 0"] + said, "0 -2 0")
 
-case("circle_nine", "9 exactly if the centre plus or minus the whole part of the radius plus one leaves 24 bits. From 0, start (4000000,1805513) has the centre at -4,000,000 and radius "
+case("circle_nine", "9 if an end of the reach to both sides of the centre leaves 24 bits; the reach is the radius without its fraction, and one more. From 0, start (4000000,1805513) has the centre at -4,000,000 and radius "
      "4,388,607: -8,388,608 is reached; one more in y is 9. On the other side 8,388,607 is reached sooner. Both axes are asked, and short arcs too",
      lines("@03", "@0y0,600,0,4000000,1805513,1,-1", "@0y0,600,0,4000000,1805514,1,-1", "@0y0,600,0,-4000000,1805511,1,1", "@0y0,600,0,-4000000,1805512,1,1",
            "@0y0,600,0,1805513,4000000,1,-1", "@0y0,600,0,1805514,4000000,1,-1", "@0y0,600,0,-1805511,-4000000,-1,1", "@0y0,600,0,-1805512,-4000000,-1,1",

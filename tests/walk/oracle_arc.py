@@ -52,7 +52,7 @@ def expected(start, direction):
 
 
 def leaves(position, start, low, high):
-    """Whether the centre plus or minus the whole part of the radius plus one is outside. That sum is more than a room
+    """Whether the reach to a side of the centre, the radius without its fraction and one more, ends outside. That sum is more than a room
     exactly if the radius is not less than it: the root of a square below the room's is."""
     value = from_centre(start)
     centres = [p - s for p, s in zip(position, start)]

@@ -50,7 +50,7 @@ planeSet axes XY = names axes 1 && names axes 2
 planeSet axes XZ = names axes 1 && names axes 4
 planeSet axes YZ = names axes 2 && names axes 4
 
--- ---- 1: the two ways sent are those that the rule gives at the start, or after the first pulse for one that is zero at the start
+-- ---- 1: the two ways sent are those in which the rule sends the axes off; of one that stays at the first pulse, its way at the second
 
 -- the start, as counts from the centre
 abbrev pub startOf : List ℕ → Pair
@@ -73,7 +73,7 @@ waysFit d l =
     let w = firstWays d (startOf l) in
     eqb (getD l 5 0) (word (signValue (w .first))) && eqb (getD l 6 0) (word (signValue (w .second)))
 
--- ---- 9: the centre plus or minus the whole part of the radius plus one
+-- ---- 9: the radius without its fraction, and one more, to both sides of the centre
 
 -- the centre is the position minus the start. As counts; one below all counts is taken as 0, where no circle has room.
 abbrev pub less : ℕ → ℕ → ℕ

@@ -70,8 +70,8 @@ against Minus = Plus
 against Rest = Rest
 against Plus = Minus
 
--- clockwise the first axis goes with the sign of the second coordinate and the second against the sign of the first;
--- counter-clockwise is the reverse
+-- clockwise the first axis goes with the second coordinate's sign, and the second axis against the first one's; counter-clockwise both the
+-- other way
 abbrev pub turning : Direction → Sign → Sign → Ways
 turning Clockwise first second = ways second (against first)
 turning Counter first second = ways (against second) first
@@ -100,8 +100,8 @@ shifted at w = pair (moved (at .first) (w .first)) (moved (at .second) (w .secon
 abbrev pub off : ℕ → Pair → Pair → ℕ
 off value centre at = far value (measure centre at)
 
--- an axis whose direction is zero does not move; of two possible moves the one that leaves the smaller distance from the start value is
--- taken, the first axis's at a tie
+-- an axis without a direction stays, and the other moves; where both could, the one moves whose point lies nearer to the start value, and if
+-- both lie equally near, the first
 unfoldable pub moveOf : ℕ → Pair → Pair → Ways → Ways
 moveOf value centre at w =
     pick (rests (w .first)) (secondOnly w)

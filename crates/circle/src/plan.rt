@@ -95,7 +95,7 @@ fn or_else(s: Sign, later: Sign) -> Sign
     }
 }
 
-// Which way the axes go at the start, or after the first pulse where that is neither.
+// Which way the axes go at the first pulse, or at the second where one stays at the first.
 fn first_ways(d: Direction, start: Pair) -> Ways
     requires { ⌜ (start .first < 16777216) × (start .second < 16777216) ⌝ }
     ensures { λ r. ⌜ r ≡ firstWays d start ⌝ }

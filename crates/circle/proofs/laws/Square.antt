@@ -3,7 +3,6 @@
 use mathlib.Core.Path.{_≡_, refl, sym, ap, _∙_}
 use mathlib.Core.Bool.{Bool, true, false, not}
 use Prim.Native.Nat.{ℕ, zero, suc, _+_, _-_, _*_, _≤_, _<_}
-use native.Mathlib.Nat.{mul-le-mul-right, mul-le-mul-left}
 use native.Mathlib.Omega.{arith}
 use lib.Dec.{ltb, leb}
 use borrow.Author.Tests.{lt-ltb, le-leb, lt-leb, ltb-true, ltb-false}
@@ -15,6 +14,7 @@ use Rattle.motion.specs.Phase.{moved}
 use Rattle.motion.specs.Pulse.{hasStep}
 use Rattle.circle.specs.declared.Pair.{Pair}
 use Rattle.circle.specs.declared.Ways.{Ways}
+use Rattle.circle.proofs.laws.Roots.{square-up}
 use Rattle.circle.specs.Rule.{ways, side, measure, against, rests, shifted, off, moveOf}
 
 -- ---- one axis
@@ -87,9 +87,6 @@ pub record Goes (reach : ℕ) (c p : Pair) (m : Ways) : Type 0 where
   pub near-second : far (c .second) (moved (p .second) (m .second)) ≤ reach
   pub apart : 0 < far (c .first) (moved (p .first) (m .first)) + far (c .second) (moved (p .second) (m .second))
   pub one : rests (m .first) ≡ not (rests (m .second))
-
-square-up : (a b : ℕ) → a ≤ b → a * a ≤ b * b
-square-up a b h = omega (arith, mul-le-mul-right a h, mul-le-mul-left b h)
 
 -- a value above the start value and below another is the nearer to it
 nearer : (n x y : ℕ) → n ≤ x → x < y → leb (far n y) (far n x) ≡ false

@@ -50,7 +50,8 @@ planeSet axes XY = names axes 1 && names axes 2
 planeSet axes XZ = names axes 1 && names axes 4
 planeSet axes YZ = names axes 2 && names axes 4
 
--- ---- 1: the two ways sent are those in which the rule sends the axes off; of one that stays at the first pulse, its way at the second
+-- ---- 1: the two ways sent are those in which the rule sends the axes off; where it gives an axis none there, the one that it gives this axis
+-- once the first pulse is made
 
 -- the start, as counts from the centre
 abbrev pub startOf : List ℕ → Pair

@@ -28,7 +28,7 @@ unfoldable pub pointSound : Pair → Pair → Pair → Bool
 pointSound start centre p =
     (leb (far (centre .first) (p .first)) (reachOf start) && leb (far (centre .second) (p .second)) (reachOf start)) && not (atPoint centre p)
 
--- speed, start, 9's bounds within 24 bits, the point, and no pulse past its arc
+-- positions of 24 bits, as of every board; the speed, the start, 9's bounds within 24 bits, the point, and no pulse past its arc
 unfoldable pub arcUnderWay : Arc → Counters → Bool
 arcUnderWay a at =
     counted at && speedRight (a .speed) && startSound (a .start) && hasRoom (a .centre) (a .start)

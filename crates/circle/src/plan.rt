@@ -95,7 +95,7 @@ fn or_else(s: Sign, later: Sign) -> Sign
     }
 }
 
-// Which way the axes go at the first pulse, or at the second where one stays at the first.
+// The ways that the rule gives at the start; for an axis that has none there, the one once the first pulse is made.
 fn first_ways(d: Direction, start: Pair) -> Ways
     requires { ⌜ (start .first < 16777216) × (start .second < 16777216) ⌝ }
     ensures { λ r. ⌜ r ≡ firstWays d start ⌝ }

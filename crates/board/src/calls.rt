@@ -25,6 +25,7 @@ fn as_point(c: Counters) -> Point
         x: count::number(c.x),
         y: count::number(c.y),
         z: count::number(c.z),
+        a: count::number(c.a),
     }
 }
 

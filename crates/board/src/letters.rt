@@ -91,13 +91,14 @@ fn seven_fault(count: usize) -> u8
 }
 
 // Setting axes: 7, then 3.
-fn axes_fault(count: usize, axes: u32) -> u8
-    ensures { λ r. ⌜ r ≡ axesFault count axes ⌝ }
+fn axes_fault(axes: u8, count: usize, w: u32) -> u8
+    ensures { λ r. ⌜ r ≡ axesFault axes count w ⌝ }
 {
     if count != 1 {
         return b'7';
     }
-    if (axes == 1) | (axes == 3) | (axes == 7) {
+    let few = (w == 1) | (w == 3) | (w == 7);
+    if few | ((w == 8) & (axes != 1) & (axes != 3)) {
         return b'0';
     }
     b'3'
@@ -135,7 +136,7 @@ fn numbers_fault(letter: Letter, axes: u8, count: usize, words: [u32; 8]) -> u8
 {
     match letter {
         Letter::Wrong => b'7',
-        Letter::Axes => axes_fault(count, words[0]),
+        Letter::Axes => axes_fault(axes, count, words[0]),
         Letter::Relative => record::record_fault(axes, b'0', count, words),
         Letter::Absolute => record::record_fault(axes, b'm', count, words),
         Letter::Origin => record::record_fault(axes, b'n', count, words),

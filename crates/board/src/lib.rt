@@ -38,14 +38,15 @@ pub struct Ticked {
     pub refusal: u16,
 }
 
-// The positions or origins of the three axes as numbers.
+// The positions or origins of the axes as numbers.
 pub struct Point {
     pub x: i32,
     pub y: i32,
     pub z: i32,
+    pub a: i32,
 }
 
-// A reply that is still to be written: none, one byte, 0 and the three positions, 0 and a port's byte, or G with the letter and the place
+// A reply that is still to be written: none, one byte, 0 and the positions, 0 and a port's byte, or G with the letter and the place
 // of a fault.
 pub(crate) enum Saying {
     Silent,

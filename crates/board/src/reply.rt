@@ -26,8 +26,8 @@ fn put_at(reply: &mut [u8], at: usize, c: u32)
     count::put_report(&mut reply[at..], c);
 }
 
-// 0 and the three positions.
-fn put_positions(reply: &mut [u8], at: Counters) -> usize
+// 0 and the positions of x, y and z, and of A where four axes are set.
+fn put_positions(reply: &mut [u8], axes: u8, at: Counters) -> usize
     requires { ⌜ 32 ≤ length (now reply) ⌝ }
     ensures { λ r. ⌜ written r (now (reply .exit)) ≡ putOf (48 ∷ report (at .x) ++ report (at .y) ++ report (at .z)) (now (reply .entry)) ⌝ }
 {
@@ -35,7 +35,11 @@ fn put_positions(reply: &mut [u8], at: Counters) -> usize
     put_at(&mut *reply, 1, at.x);
     put_at(&mut *reply, 7, at.y);
     put_at(&mut *reply, 13, at.z);
-    19
+    if axes != 15 {
+        return 19;
+    }
+    put_at(reply, 19, at.a);
+    25
 }
 
 // 0 and a port's byte.
@@ -59,14 +63,14 @@ fn put_fault(reply: &mut [u8], letter: u8, place: u16) -> usize
     6
 }
 
-fn put(say: Saying, at: Counters, reply: &mut [u8]) -> usize
+fn put(say: Saying, axes: u8, at: Counters, reply: &mut [u8]) -> usize
     requires { ⌜ 32 ≤ length (now reply) ⌝ }
     ensures { λ r. ⌜ written r (now (reply .exit)) ≡ putOf (bytesOf say at) (now (reply .entry)) ⌝ }
 {
     match say {
         Saying::Silent => 0,
         Saying::One(b) => put_one(reply, b),
-        Saying::Positions => put_positions(reply, at),
+        Saying::Positions => put_positions(reply, axes, at),
         Saying::Port(b) => put_port(reply, b),
         Saying::Fault(letter, place) => put_fault(reply, letter, place),
     }
@@ -81,7 +85,7 @@ impl Spoke {
         let board = self.board;
         let e = board.engine;
         let say = self.say;
-        let len = put(say, e.at, reply);
+        let len = put(say, e.axes, e.at, reply);
         Received {
             board,
             len,

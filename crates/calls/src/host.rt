@@ -64,7 +64,7 @@ pub(crate) fn word_of(w: u64) -> u32 {
 }
 
 fn is_axis(axis: u64) -> bool {
-    (120 <= axis) & (axis <= 122)
+    (axis == 97) | ((120 <= axis) & (axis <= 122))
 }
 
 // The value of a word as a field keeps it: a point's is counted from -8,388,608 on.
@@ -143,7 +143,8 @@ fn with_axis(c: Counters, axis: u64, count: u32) -> Counters {
     match axis {
         120 => next.x = count,
         121 => next.y = count,
-        _ => next.z = count,
+        122 => next.z = count,
+        _ => next.a = count,
     }
     next
 }

@@ -59,7 +59,8 @@ pub(crate) fn show_point(name: &[u8], c: Counters) -> bool {
     io::write_all(STDOUT_FILENO, name);
     show_count(c.x);
     show_count(c.y);
-    show_count(c.z)
+    show_count(c.z);
+    show_count(c.a)
 }
 
 fn sign_byte(s: Sign) -> u8 {
@@ -74,9 +75,11 @@ fn show_pulse(signs: Signs, speed: u16) -> bool {
     let sx = signs.x;
     let sy = signs.y;
     let sz = signs.z;
+    let sa = signs.a;
     let x = sign_byte(sx);
     let y = sign_byte(sy);
     let z = sign_byte(sz);
+    let a = sign_byte(sa);
     let bytes = [
         b'C',
         b' ',
@@ -89,6 +92,7 @@ fn show_pulse(signs: Signs, speed: u16) -> bool {
         x,
         y,
         z,
+        a,
         b' ',
     ];
     show_with(&bytes, speed as u32)

@@ -21,7 +21,7 @@ use motion::Signs;
 pub(crate) fn is_counted(c: Counters) -> bool
     ensures { λ r. ⌜ r ≡ counted c ⌝ }
 {
-    count::in_range(c.x) & count::in_range(c.y) & count::in_range(c.z)
+    count::in_range(c.x) & count::in_range(c.y) & count::in_range(c.z) & count::in_range(c.a)
 }
 
 fn is_counted_pair(p: Pair) -> bool

@@ -21,6 +21,7 @@ use super::rule::on_plane;
 use super::rule::shifted_by;
 use super::rule::ways_of;
 use super::sound::has_room;
+use count::Axis;
 use motion::Counters;
 use motion::Sign;
 
@@ -45,22 +46,14 @@ pub fn direction_of(w: u32) -> Direction
     Direction::Counter
 }
 
-// Whether an axes number names an axis: 1 is x, 2 is y, 4 is z.
-fn is_named(axes: u8, part: u8) -> bool
-    requires { ⌜ 0 < part ⌝ }
-    ensures { λ r. ⌜ r ≡ names axes part ⌝ }
-{
-    axes / part % 2 == 1
-}
-
 // 3: whether both axes of a plane are set.
 fn plane_set(axes: u8, plane: Plane) -> bool
     ensures { λ r. ⌜ r ≡ planeSet axes plane ⌝ }
 {
     match plane {
-        Plane::XY => is_named(axes, 1) & is_named(axes, 2),
-        Plane::XZ => is_named(axes, 1) & is_named(axes, 4),
-        Plane::YZ => is_named(axes, 2) & is_named(axes, 4),
+        Plane::XY => count::has(axes as u32, Axis::X) & count::has(axes as u32, Axis::Y),
+        Plane::XZ => count::has(axes as u32, Axis::X) & count::has(axes as u32, Axis::Z),
+        Plane::YZ => count::has(axes as u32, Axis::Y) & count::has(axes as u32, Axis::Z),
     }
 }
 

@@ -32,7 +32,7 @@ pub(crate) fn on_plane(plane: Plane, c: Counters) -> Pair
     }
 }
 
-// What the axes of a plane show, on the three axes.
+// What the axes of a plane show; the others rest.
 pub(crate) fn on_axes(plane: Plane, w: Ways) -> Signs
     ensures { λ r. ⌜ r ≡ onAxes plane w ⌝ }
 {
@@ -44,16 +44,19 @@ pub(crate) fn on_axes(plane: Plane, w: Ways) -> Signs
             x: a,
             y: b,
             z: rest,
+            a: rest,
         },
         Plane::XZ => Signs {
             x: a,
             y: rest,
             z: b,
+            a: rest,
         },
         Plane::YZ => Signs {
             x: rest,
             y: a,
             z: b,
+            a: rest,
         },
     }
 }

@@ -31,6 +31,8 @@ use Rattle.count.proofs.text.put_byte.Reads as put-byte
 use Rattle.count.proofs.text.put_word.Reads as put-word
 use Rattle.count.proofs.text.put_count.Reads as put-count
 use Rattle.count.proofs.text.put_place.Reads as put-place
+use Rattle.count.proofs.axes.has.Reads as has
+use Rattle.count.proofs.axes.axes_set.Reads as axes-set
 use Rattle.count.proofs.movement.right_count.Reads as right-count
 use Rattle.count.proofs.movement.right_distances.Reads as right-distances
 use Rattle.count.proofs.movement.right_speeds.Reads as right-speeds
@@ -139,6 +141,12 @@ put-place-text s = s .0
 
 pub put-place-one : (κs : _) (a : _) (r r′ : _) (s s′ : _) → put-place.Post κs a r s → put-place.Post κs a r′ s′ → (r ≡ r′) × (now (put-place-text s) ≡ now (put-place-text s′))
 put-place-one κs a r r′ s s′ p q = (ap (λ (w : Written). w .len) (p ∙ sym q), ap (λ (w : Written). w .text) (p ∙ sym q))
+
+pub has-one : (κs : _) (a : _) (r r′ : _) (s s′ : _) → has.Post κs a r s → has.Post κs a r′ s′ → r ≡ r′
+has-one κs a r r′ s s′ p q = p ∙ sym q
+
+pub axes-set-one : (κs : _) (a : _) (r r′ : _) (s s′ : _) → axes-set.Post κs a r s → axes-set.Post κs a r′ s′ → r ≡ r′
+axes-set-one κs a r r′ s s′ p q = p ∙ sym q
 
 pub right-count-one : (κs : _) (a : _) (r r′ : _) (s s′ : _) → right-count.Post κs a r s → right-count.Post κs a r′ s′ → r ≡ r′
 right-count-one κs a r r′ s s′ p q = p ∙ sym q

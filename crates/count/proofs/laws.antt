@@ -3,3 +3,4 @@ pub mod Laws
 pub mod Lists
 pub mod Digits
 pub mod Words
+pub mod Axes

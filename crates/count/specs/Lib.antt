@@ -3,6 +3,7 @@ pub mod Sizes
 pub mod Pick
 pub mod Paper
 pub mod Numbers
+pub mod Axes
 pub mod Ranges
 pub mod Text
 pub mod Words

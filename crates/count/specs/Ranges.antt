@@ -1,7 +1,7 @@
 -- The ranges that lines and records ask of their numbers (01, "Lines": both tables and the paragraph under the second; 02, §3 for circles).
 use mathlib.Core.Bool.{Bool, false, not, _&&_, _||_}
 use mathlib.Core.List.{List}
-use Prim.Native.Nat.{ℕ, _/_, _%_}
+use Prim.Native.Nat.{ℕ}
 use lib.Dec.{eqb}
 use lib.IntN.{ℤ, pos, negsuc}
 use lib.ListN.{getD}
@@ -49,18 +49,26 @@ inByte z = within (pos 0) (pos 255) z
 unfoldable pub inZero : ℤ → Bool
 inZero z = within (pos 0) (pos 0) z
 
--- ---- axes: 1, 2 and 4 of an axes number are x, y and z, so that 1 is x, 3 is x and y, and 7 is all three
+-- ---- the numbers of a movement (01, "Lines", row A, M; "Movement", sentences 1, 3 and 4; 02, §7): a distance or target and a speed for
+-- each of x, y, z1, z2, with four axes of x, y, z, a, and with A alone of a. These are one, two or four pairs of numbers, and no other axes have
+-- a movement.
 
--- an axes number names the axis of this part
-abbrev pub names : ℕ → ℕ → Bool
-names axes part = eqb (axes / part % 2) 1
+-- one pair for x or A alone, two for x and y, four for x, y and z and for all four
+abbrev pub onePair : ℕ → Bool
+onePair axes = eqb axes 1 || eqb axes 8
 
--- ---- the numbers of a movement (01, "Lines", row A, M; "Movement", sentences 1, 3 and 4): a distance or target and a speed for each
--- of x, y, z1, z2; under axes 1, 3 and 7 these are one, two and four pairs, and no other axes have a movement
+abbrev pub twoPairs : ℕ → Bool
+twoPairs axes = eqb axes 3
 
--- 2, 4 or 8 numbers for axes 1, 3, 7
+abbrev pub fourPairs : ℕ → Bool
+fourPairs axes = eqb axes 7 || eqb axes 15
+
+abbrev pub byPairs : ℕ → Bool → Bool → Bool → Bool
+byPairs axes one two four = pick (onePair axes) one (pick (twoPairs axes) two (pick (fourPairs axes) four false))
+
+-- 2, 4 or 8 numbers
 unfoldable pub rightCount : ℕ → ℕ → Bool
-rightCount axes n = pick (eqb axes 1) (eqb n 2) (pick (eqb axes 3) (eqb n 4) (pick (eqb axes 7) (eqb n 8) false))
+rightCount axes n = byPairs axes (eqb n 2) (eqb n 4) (eqb n 8)
 
 -- the number at a place among the words
 abbrev pub nth : List ℕ → ℕ → ℤ
@@ -70,19 +78,21 @@ nth l i = signed (getD l i 0)
 unfoldable pub rightZ2 : Bool → ℤ → Bool
 rightZ2 absolute z = pick absolute (inZero z) (in24 z)
 
+-- the fourth distance or target: z2 of three axes; with four axes that of a, like the others
+abbrev pub rightFourth : ℕ → Bool → ℤ → Bool
+rightFourth axes absolute z = rightZ2 (absolute && eqb axes 7) z
+
 -- distances and targets are of 24 bits
 unfoldable pub rightDistances : ℕ → Bool → List ℕ → Bool
 rightDistances axes absolute l =
-    pick (eqb axes 1) (in24 (nth l 0))
-    (pick (eqb axes 3) (in24 (nth l 0) && in24 (nth l 2))
-    (pick (eqb axes 7) (in24 (nth l 0) && in24 (nth l 2) && in24 (nth l 4) && rightZ2 absolute (nth l 6)) false))
+    byPairs axes (in24 (nth l 0)) (in24 (nth l 0) && in24 (nth l 2))
+    (in24 (nth l 0) && in24 (nth l 2) && in24 (nth l 4) && rightFourth axes absolute (nth l 6))
 
 -- every speed, used or not, is a speed
 unfoldable pub rightSpeeds : ℕ → List ℕ → Bool
 rightSpeeds axes l =
-    pick (eqb axes 1) (inSpeed (nth l 1))
-    (pick (eqb axes 3) (inSpeed (nth l 1) && inSpeed (nth l 3))
-    (pick (eqb axes 7) (inSpeed (nth l 1) && inSpeed (nth l 3) && inSpeed (nth l 5) && inSpeed (nth l 7)) false))
+    byPairs axes (inSpeed (nth l 1)) (inSpeed (nth l 1) && inSpeed (nth l 3))
+    (inSpeed (nth l 1) && inSpeed (nth l 3) && inSpeed (nth l 5) && inSpeed (nth l 7))
 
 -- ---- the numbers of circles (02, §3: its first sentence, the one on starts and D, and the refusals)
 

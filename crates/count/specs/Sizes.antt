@@ -9,7 +9,7 @@ storeBytes = 16384
 abbrev pub mostRecords : ℕ
 mostRecords = 1000
 
--- a reply buffer has at least so many bytes (101); the longest reply, P's, has 19
+-- a reply buffer has at least so many bytes (101); the longest reply, P's with four axes, has 25
 abbrev pub replyBytes : ℕ
 replyBytes = 32
 

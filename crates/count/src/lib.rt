@@ -7,11 +7,14 @@ ghost use Rattle.count.specs.Pick.{pick};
 ghost use Rattle.count.specs.Numbers.{full, value, signed, word, withSign, placed, added, far};
 
 mod arcs;
+mod axes;
 mod movement;
 mod ranges;
 mod text;
 
 pub use arcs::right_arc;
+pub use axes::axes_set;
+pub use axes::has;
 pub use movement::right_count;
 pub use movement::right_distances;
 pub use movement::right_speeds;
@@ -40,6 +43,14 @@ pub use text::put_word;
 const HALF: u32 = 8388608;
 
 const FULL: u32 = 16777216;
+
+// The axes: A is a turntable's.
+pub enum Axis {
+    X,
+    Y,
+    Z,
+    A,
+}
 
 // Where a number puts an axis: at a count, or outside 24 bits.
 pub enum Placed {

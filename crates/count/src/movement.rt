@@ -1,21 +1,39 @@
 // The numbers of a movement under the axes set: how many, their distances and their speeds.
 ghost use mathlib.Core.Path.{_≡_};
 ghost use Rattle.count.specs.Numbers.{signed};
-ghost use Rattle.count.specs.Ranges.{rightCount, rightZ2, rightDistances, rightSpeeds};
+ghost use Rattle.count.specs.Ranges.{onePair, fourPairs, rightCount, rightZ2, rightDistances, rightSpeeds};
 use super::ranges::is_24;
 use super::ranges::is_speed;
 use super::ranges::is_zero;
+
+// Axes whose movement has one pair of numbers: x or A alone.
+fn one_pair(axes: u8) -> bool
+    ensures { λ r. ⌜ r ≡ onePair axes ⌝ }
+{
+    (axes == 1) | (axes == 8)
+}
+
+// Axes whose movement has four: x, y and z, or all four.
+fn four_pairs(axes: u8) -> bool
+    ensures { λ r. ⌜ r ≡ fourPairs axes ⌝ }
+{
+    (axes == 7) | (axes == 15)
+}
 
 // Whether a movement under these axes has this many numbers.
 pub fn right_count(axes: u8, n: usize) -> bool
     ensures { λ r. ⌜ r ≡ rightCount axes n ⌝ }
 {
-    match axes {
-        1 => n == 2,
-        3 => n == 4,
-        7 => n == 8,
-        _ => false,
+    if one_pair(axes) {
+        return n == 2;
     }
+    if axes == 3 {
+        return n == 4;
+    }
+    if four_pairs(axes) {
+        return n == 8;
+    }
+    false
 }
 
 fn right_z2(absolute: bool, w: u32) -> bool
@@ -31,22 +49,31 @@ fn right_z2(absolute: bool, w: u32) -> bool
 pub fn right_distances(axes: u8, absolute: bool, words: [u32; 8]) -> bool
     ensures { λ r. ⌜ r ≡ rightDistances axes absolute words ⌝ }
 {
-    match axes {
-        1 => is_24(words[0]),
-        3 => is_24(words[0]) & is_24(words[2]),
-        7 => is_24(words[0]) & is_24(words[2]) & is_24(words[4]) & right_z2(absolute, words[6]),
-        _ => false,
+    if one_pair(axes) {
+        return is_24(words[0]);
     }
+    if axes == 3 {
+        return is_24(words[0]) & is_24(words[2]);
+    }
+    if four_pairs(axes) {
+        let fourth = right_z2(absolute & (axes == 7), words[6]);
+        return is_24(words[0]) & is_24(words[2]) & is_24(words[4]) & fourth;
+    }
+    false
 }
 
 // Whether a movement's speeds, used or not, are in range.
 pub fn right_speeds(axes: u8, words: [u32; 8]) -> bool
     ensures { λ r. ⌜ r ≡ rightSpeeds axes words ⌝ }
 {
-    match axes {
-        1 => is_speed(words[1]),
-        3 => is_speed(words[1]) & is_speed(words[3]),
-        7 => is_speed(words[1]) & is_speed(words[3]) & is_speed(words[5]) & is_speed(words[7]),
-        _ => false,
+    if one_pair(axes) {
+        return is_speed(words[1]);
     }
+    if axes == 3 {
+        return is_speed(words[1]) & is_speed(words[3]);
+    }
+    if four_pairs(axes) {
+        return is_speed(words[1]) & is_speed(words[3]) & is_speed(words[5]) & is_speed(words[7]);
+    }
+    false
 }

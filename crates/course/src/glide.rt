@@ -24,10 +24,10 @@ fn glided_to(m: Travel, made: u32, at: Counters, calls: u32, len: usize) -> Glid
     }
 }
 
-// At most so many pulses of the phase under way of a straight movement, with twelve bytes of room for each.
-fn glide_straight(start: Move, from: Counters, limit: u32, out: &mut [u8]) -> Glided
-    requires { ⌜ 12 * limit ≤ length (now out) ⌝ }
-    ensures { λ r. ⌜ (glided r (now (out .exit)) ≡ gliding limit (Travel.Straight start) from (now (out .entry))) × (r .len ≤ 12 * r .calls) ⌝ }
+// At most so many pulses of the phase under way of a straight movement, with thirteen bytes of room for each.
+fn glide_straight(start: Move, from: Counters, turns: bool, limit: u32, out: &mut [u8]) -> Glided
+    requires { ⌜ 13 * limit ≤ length (now out) ⌝ }
+    ensures { λ r. ⌜ (glided r (now (out .exit)) ≡ gliding turns limit (Travel.Straight start) from (now (out .entry))) × (r .len ≤ 13 * r .calls) ⌝ }
 {
     let mut made = start.made;
     let mut at = from;
@@ -41,7 +41,7 @@ fn glide_straight(start: Move, from: Counters, limit: u32, out: &mut [u8]) -> Gl
         let signs = b.signs;
         let mark = b.mark;
         let there = b.at;
-        let j = put_pulse(&mut out[k..], signs, b.speed);
+        let j = put_pulse(&mut out[k..], turns, signs, b.speed);
         made = mark.made;
         at = there;
         k = k + j;
@@ -51,9 +51,9 @@ fn glide_straight(start: Move, from: Counters, limit: u32, out: &mut [u8]) -> Gl
 }
 
 // The same of an arc. It is a loop of its own, since a loop that asked the kind at each pulse would be slower for both.
-fn glide_round(start: Arc, from: Counters, limit: u32, out: &mut [u8]) -> Glided
-    requires { ⌜ 12 * limit ≤ length (now out) ⌝ }
-    ensures { λ r. ⌜ (glided r (now (out .exit)) ≡ gliding limit (Travel.Round start) from (now (out .entry))) × (r .len ≤ 12 * r .calls) ⌝ }
+fn glide_round(start: Arc, from: Counters, turns: bool, limit: u32, out: &mut [u8]) -> Glided
+    requires { ⌜ 13 * limit ≤ length (now out) ⌝ }
+    ensures { λ r. ⌜ (glided r (now (out .exit)) ≡ gliding turns limit (Travel.Round start) from (now (out .entry))) × (r .len ≤ 13 * r .calls) ⌝ }
 {
     let mut made = start.made;
     let mut at = from;
@@ -67,7 +67,7 @@ fn glide_round(start: Arc, from: Counters, limit: u32, out: &mut [u8]) -> Glided
         let signs = b.signs;
         let mark = b.mark;
         let there = b.at;
-        let j = put_pulse(&mut out[k..], signs, b.speed);
+        let j = put_pulse(&mut out[k..], turns, signs, b.speed);
         made = mark.made;
         at = there;
         k = k + j;
@@ -77,12 +77,18 @@ fn glide_round(start: Arc, from: Counters, limit: u32, out: &mut [u8]) -> Glided
 }
 
 // The same of either kind.
-pub(crate) fn glide(start: Travel, from: Counters, limit: u32, out: &mut [u8]) -> Glided
-    requires { ⌜ 12 * limit ≤ length (now out) ⌝ }
-    ensures { λ r. ⌜ (glided r (now (out .exit)) ≡ gliding limit start from (now (out .entry))) × (r .len ≤ 12 * r .calls) ⌝ }
+pub(crate) fn glide(
+    start: Travel,
+    from: Counters,
+    turns: bool,
+    limit: u32,
+    out: &mut [u8],
+) -> Glided
+    requires { ⌜ 13 * limit ≤ length (now out) ⌝ }
+    ensures { λ r. ⌜ (glided r (now (out .exit)) ≡ gliding turns limit start from (now (out .entry))) × (r .len ≤ 13 * r .calls) ⌝ }
 {
     match start {
-        Travel::Straight(m) => glide_straight(m, from, limit, out),
-        Travel::Round(a) => glide_round(a, from, limit, out),
+        Travel::Straight(m) => glide_straight(m, from, turns, limit, out),
+        Travel::Round(a) => glide_round(a, from, turns, limit, out),
     }
 }

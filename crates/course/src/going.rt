@@ -8,6 +8,7 @@ ghost use Rattle.course.specs.work.Going.{wentOf, glideJob, goWay};
 use super::Went;
 use super::glide::glide;
 use super::text::put_answer;
+use count::Axis;
 use engine::Engine;
 use engine::Under;
 
@@ -23,14 +24,15 @@ fn stay(engine: Engine) -> Went
 
 // The pulses of what is under way, if it is a movement.
 fn glide_on(e: Engine, limit: u32, out: &mut [u8]) -> Went
-    requires { ⌜ 12 * limit ≤ length (now out) ⌝ }
-    ensures { λ r. ⌜ (wentOf r (now (out .exit)) ≡ leftBy (glideJob (e .run .job) limit e) (now (out .entry))) × (r .len ≤ 12 * r .calls) ⌝ }
+    requires { ⌜ 13 * limit ≤ length (now out) ⌝ }
+    ensures { λ r. ⌜ (wentOf r (now (out .exit)) ≡ leftBy (glideJob (e .run .job) limit e) (now (out .entry))) × (r .len ≤ 13 * r .calls) ⌝ }
 {
     let under = e.under_way();
     let Under::Going(m) = under else {
         return stay(e);
     };
-    let g = glide(m, e.at, limit, out);
+    let turns = count::has(e.axes as u32, Axis::A);
+    let g = glide(m, e.at, turns, limit, out);
     let rest = g.rest;
     let there = g.at;
     Went {
@@ -40,9 +42,9 @@ fn glide_on(e: Engine, limit: u32, out: &mut [u8]) -> Went
     }
 }
 
-// At most so many clock calls, with twelve bytes of room for each.
+// At most so many clock calls, with thirteen bytes of room for each.
 pub(crate) fn go(start: Engine, store: &[u8], table: &[u16], limit: u32, out: &mut [u8]) -> Went
-    requires { ⌜ 12 * limit ≤ length (now out) ⌝ }
+    requires { ⌜ 13 * limit ≤ length (now out) ⌝ }
     ensures { λ r. ⌜ wentOf r (now (out .exit)) ≡ leftBy (goWay (memory (now (store .entry)) (now (table .entry))) limit start) (now (out .entry)) ⌝ }
 {
     let mut e = start;
@@ -56,10 +58,11 @@ pub(crate) fn go(start: Engine, store: &[u8], table: &[u16], limit: u32, out: &m
                 len: at,
             };
         }
+        let turns = count::has(e.axes as u32, Axis::A);
         let t = e.tick(store, table);
         let answer = t.answer;
         let next = t.engine;
-        let k = put_answer(&mut out[at..], answer);
+        let k = put_answer(&mut out[at..], turns, answer);
         let mid = at + k;
         let done = n + 1;
         let w = glide_on(next, limit - done, &mut out[mid..]);

@@ -58,10 +58,21 @@ fn put_field(out: &mut [u8], c: u32) -> usize
     k + 1
 }
 
-// `E` and the three positions: at most thirty-eight bytes.
-pub(crate) fn put_end(out: &mut [u8], at: Counters) -> usize
-    requires { ⌜ 38 ≤ length (now out) ⌝ }
-    ensures { λ r. ⌜ Wrote (positionsText at) (now (out .entry)) r (now (out .exit)) × (r ≤ 38) ⌝ }
+// The position of A, where it is set.
+fn put_last(out: &mut [u8], turns: bool, c: u32) -> usize
+    requires { ⌜ 12 ≤ length (now out) ⌝ }
+    ensures { λ r. ⌜ Wrote (lastField turns c) (now (out .entry)) r (now (out .exit)) × (r ≤ 12) ⌝ }
+{
+    if turns {
+        return put_field(out, c);
+    }
+    0
+}
+
+// `E` and the positions, of A too where it is set: at most fifty bytes.
+pub(crate) fn put_end(out: &mut [u8], turns: bool, at: Counters) -> usize
+    requires { ⌜ 50 ≤ length (now out) ⌝ }
+    ensures { λ r. ⌜ Wrote (positionsText turns at) (now (out .entry)) r (now (out .exit)) × (r ≤ 50) ⌝ }
 {
     let e = put_one(&mut *out, b'E');
     let x = put_field(&mut out[e..], at.x);
@@ -70,8 +81,10 @@ pub(crate) fn put_end(out: &mut [u8], at: Counters) -> usize
     let q = p + y;
     let z = put_field(&mut out[q..], at.z);
     let r = q + z;
-    let f = put_one(&mut out[r..], b'\n');
-    r + f
+    let a = put_last(&mut out[r..], turns, at.a);
+    let s = r + a;
+    let f = put_one(&mut out[s..], b'\n');
+    s + f
 }
 
 // `R` before a reply of so many bytes that stands at byte 2, and a line feed behind it; no reply prints nothing.

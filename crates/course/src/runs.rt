@@ -18,9 +18,9 @@ pub(crate) fn runs_now(board: Board) -> bool
 
 // The clock calls that a limit and a buffer of this length allow: twelve bytes for each.
 fn allowed_by(limit: u32, len: usize) -> u32
-    ensures { λ r. ⌜ r ≡ min limit (len / 12) ⌝ }
+    ensures { λ r. ⌜ r ≡ min limit (len / 13) ⌝ }
 {
-    let most = len / 12;
+    let most = len / 13;
     if most < limit as usize {
         return most as u32;
     }

@@ -69,7 +69,7 @@ fn put_speed(out: &mut [u8], v: u16) -> usize
 
 // `P`, the signs and a space: six bytes.
 fn put_signs(out: &mut [u8], x: u8, y: u8, z: u8)
-    requires { ⌜ 12 ≤ length (now out) ⌝ }
+    requires { ⌜ 13 ≤ length (now out) ⌝ }
     ensures { λ r. ⌜ now (out .exit) ≡ 80 ∷ 32 ∷ x ∷ y ∷ z ∷ 32 ∷ drop 6 (now (out .entry)) ⌝ }
 {
     out[0] = b'P';
@@ -80,10 +80,10 @@ fn put_signs(out: &mut [u8], x: u8, y: u8, z: u8)
     out[5] = b' ';
 }
 
-// `P`, the signs and the speed: at most twelve bytes.
-pub(crate) fn put_pulse(out: &mut [u8], signs: Signs, speed: u16) -> usize
-    requires { ⌜ 12 ≤ length (now out) ⌝ }
-    ensures { λ r. ⌜ Wrote (pulseText signs speed) (now (out .entry)) r (now (out .exit)) × (r ≤ 12) ⌝ }
+// `P`, the signs, of A too where it is set, and the speed: at most thirteen bytes.
+pub(crate) fn put_pulse(out: &mut [u8], turns: bool, signs: Signs, speed: u16) -> usize
+    requires { ⌜ 13 ≤ length (now out) ⌝ }
+    ensures { λ r. ⌜ Wrote (pulseText turns signs speed) (now (out .entry)) r (now (out .exit)) × (r ≤ 13) ⌝ }
 {
     let sx = signs.x;
     let sy = signs.y;
@@ -92,14 +92,21 @@ pub(crate) fn put_pulse(out: &mut [u8], signs: Signs, speed: u16) -> usize
     let y = sign_byte(sy);
     let z = sign_byte(sz);
     put_signs(&mut *out, x, y, z);
+    if turns {
+        let sa = signs.a;
+        out[5] = sign_byte(sa);
+        out[6] = b' ';
+        let k = put_speed(&mut out[7..], speed);
+        return 7 + k;
+    }
     let k = put_speed(&mut out[6..], speed);
     6 + k
 }
 
 // `R` and a sent character: four bytes.
 fn put_sent(out: &mut [u8], b: u8) -> usize
-    requires { ⌜ 12 ≤ length (now out) ⌝ }
-    ensures { λ r. ⌜ Wrote (82 ∷ 32 ∷ b ∷ 10 ∷ []) (now (out .entry)) r (now (out .exit)) × (r ≤ 12) ⌝ }
+    requires { ⌜ 13 ≤ length (now out) ⌝ }
+    ensures { λ r. ⌜ Wrote (82 ∷ 32 ∷ b ∷ 10 ∷ []) (now (out .entry)) r (now (out .exit)) × (r ≤ 13) ⌝ }
 {
     out[0] = b'R';
     out[1] = b' ';
@@ -108,13 +115,13 @@ fn put_sent(out: &mut [u8], b: u8) -> usize
     4
 }
 
-// What a clock call's answer prints: at most twelve bytes.
-pub(crate) fn put_answer(out: &mut [u8], a: Answer) -> usize
-    requires { ⌜ 12 ≤ length (now out) ⌝ }
-    ensures { λ r. ⌜ Wrote (answerText a) (now (out .entry)) r (now (out .exit)) × (r ≤ 12) ⌝ }
+// What a clock call's answer prints: at most thirteen bytes.
+pub(crate) fn put_answer(out: &mut [u8], turns: bool, a: Answer) -> usize
+    requires { ⌜ 13 ≤ length (now out) ⌝ }
+    ensures { λ r. ⌜ Wrote (answerText turns a) (now (out .entry)) r (now (out .exit)) × (r ≤ 13) ⌝ }
 {
     match a {
-        Answer::Pulse(signs, speed) => put_pulse(out, signs, speed),
+        Answer::Pulse(signs, speed) => put_pulse(out, turns, signs, speed),
         Answer::Pause => 0,
         Answer::Send(b) => put_sent(out, b),
         Answer::Done => 0,

@@ -20,6 +20,7 @@ use super::lines::put_reply;
 use super::runs::run;
 use super::runs::runs_now;
 use board::Board;
+use count::Axis;
 
 // The clock calls for each byte.
 const MOST: u32 = 100000;
@@ -180,11 +181,12 @@ impl Walk {
         let board = self.board;
         let engine = board.engine;
         let at = engine.at;
+        let turns = count::has(engine.axes as u32, Axis::A);
         if self.over {
-            return put_end(out, at);
+            return put_end(out, turns, at);
         }
         let n = put_limit(&mut *out);
-        let k = put_end(&mut out[n..], at);
+        let k = put_end(&mut out[n..], turns, at);
         n + k
     }
 }

@@ -10,14 +10,14 @@ use motion::Counters;
 fn is_counted(c: Counters) -> bool
     ensures { λ r. ⌜ r ≡ counted c ⌝ }
 {
-    count::in_range(c.x) & count::in_range(c.y) & count::in_range(c.z)
+    count::in_range(c.x) & count::in_range(c.y) & count::in_range(c.z) & count::in_range(c.a)
 }
 
-// Axes or store axes: 0, 1, 3 or 7.
+// Axes or store axes: none, or those that lines set.
 fn is_known(axes: u8) -> bool
     ensures { λ r. ⌜ r ≡ axesKnown axes ⌝ }
 {
-    (axes == 0) | (axes == 1) | (axes == 3) | (axes == 7)
+    (axes == 0) | count::axes_set(axes)
 }
 
 // Whether a movement under way is one that 103 lets pass.

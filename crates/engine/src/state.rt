@@ -11,6 +11,7 @@ use super::Engine;
 use super::Job;
 use super::Run;
 use super::circles::circling_first;
+use count::Axis;
 use motion::Counters;
 use program::Loop;
 use program::Loops;
@@ -18,7 +19,7 @@ use record::Held;
 use travel::Planned;
 use travel::Travel;
 
-// The counters of three axes at 0.
+// The counters of all axes at 0.
 fn at_zero() -> Counters
     ensures { λ r. ⌜ r ≡ zeroes ⌝ }
 {
@@ -26,6 +27,7 @@ fn at_zero() -> Counters
         x: 8388608,
         y: 8388608,
         z: 8388608,
+        a: 8388608,
     }
 }
 
@@ -47,12 +49,11 @@ fn held_none(axes: u8) -> Held
     }
 }
 
-// Whether an axes number names an axis: 1 is x, 2 is y, 4 is z.
-fn is_named(axes: u32, part: u32) -> bool
-    requires { ⌜ 0 < part ⌝ }
-    ensures { λ r. ⌜ r ≡ names axes part ⌝ }
+// The axes set and A.
+fn with_a(axes: u8) -> u8
+    ensures { λ r. ⌜ r ≡ withA axes ⌝ }
 {
-    axes / part % 2 == 1
+    if axes < 8 { axes + 8 } else { axes }
 }
 
 fn chosen(b: bool, x: u32, y: u32) -> u32
@@ -65,10 +66,11 @@ fn chosen(b: bool, x: u32, y: u32) -> u32
 fn mix(axes: u32, c: Counters, d: Counters) -> Counters
     ensures { λ r. ⌜ r ≡ mixed axes c d ⌝ }
 {
-    let x = chosen(is_named(axes, 1), c.x, d.x);
-    let y = chosen(is_named(axes, 2), c.y, d.y);
-    let z = chosen(is_named(axes, 4), c.z, d.z);
-    Counters { x, y, z }
+    let x = chosen(count::has(axes, Axis::X), c.x, d.x);
+    let y = chosen(count::has(axes, Axis::Y), c.y, d.y);
+    let z = chosen(count::has(axes, Axis::Z), c.z, d.z);
+    let a = chosen(count::has(axes, Axis::A), c.a, d.a);
+    Counters { x, y, z, a }
 }
 
 impl Run {
@@ -136,10 +138,22 @@ impl Engine {
         self.with_run(run.with_job(job))
     }
 
-    // Setting axes: positions and origins 0, 2.5D on; plane 0, clockwise.
+    // The turntable's line: A beside the axes set, A's position and origin 0, all else as it was.
+    fn set_turntable(self) -> Engine
+        ensures { λ r. ⌜ r ≡ turntableOf self ⌝ }
+    {
+        let mut e = self.set_zero(8);
+        e.axes = with_a(self.axes);
+        e
+    }
+
+    // Setting axes: positions and origins 0, 2.5D on; plane 0, clockwise. 8 adds the turntable.
     pub fn set_axes(self, axes: u8) -> Engine
         ensures { λ r. ⌜ r ≡ axesOf axes self ⌝ }
     {
+        if axes == 8 {
+            return self.set_turntable();
+        }
         let zero = at_zero();
         let circling = circling_first();
         let mut e = self;

@@ -54,6 +54,7 @@ fn show_point(c: Counters) {
     show_count(c.x);
     show_count(c.y);
     show_count(c.z);
+    show_count(c.a);
 }
 
 fn sign_byte(s: Sign) -> u8 {
@@ -68,7 +69,16 @@ fn show_pulse(signs: Signs, speed: u16) {
     let x = signs.x;
     let y = signs.y;
     let z = signs.z;
-    let bytes = [80, 32, sign_byte(x), sign_byte(y), sign_byte(z), 32];
+    let a = signs.a;
+    let bytes = [
+        80,
+        32,
+        sign_byte(x),
+        sign_byte(y),
+        sign_byte(z),
+        sign_byte(a),
+        32,
+    ];
     io::write_all(STDOUT_FILENO, &bytes);
     show_number(speed as u32);
     io::write_all(STDOUT_FILENO, b"\n");

@@ -12,7 +12,8 @@ use Rattle.record.specs.declared.Held.{Held}
 use Rattle.record.specs.Memory.{Memory, memory, tableFits}
 use Rattle.record.specs.Places.{inUse, recordsOf}
 use Rattle.record.specs.Table.{filled}
-use Rattle.program.specs.Program.{axesSet, accepted}
+use Rattle.count.specs.Axes.{axesSet}
+use Rattle.program.specs.Program.{accepted}
 use Rattle.program.specs.Edges.{leadsOut, startsFirst, ofThese}
 use Rattle.join.specs.declared.Joined.{Joined}
 

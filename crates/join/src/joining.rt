@@ -35,7 +35,7 @@ fn axes_right(first: Held, second: Held) -> bool
     ensures { λ r. ⌜ r ≡ axesRight first second ⌝ }
 {
     let axes = axes_beside(first, second);
-    (axes == axes_beside(second, first)) & program::axes_set(axes)
+    (axes == axes_beside(second, first)) & count::axes_set(axes)
 }
 
 // 6: whether there is room for both.

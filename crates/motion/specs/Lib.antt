@@ -1,3 +1,4 @@
+pub mod Axes
 pub mod Phase
 pub mod Pulse
 pub mod Plan

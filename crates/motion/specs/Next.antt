@@ -12,7 +12,8 @@ use Rattle.motion.specs.declared.Move.{Move}
 use Rattle.motion.specs.declared.Stepped.{Stepped}
 use Rattle.motion.specs.declared.Next.{Next}
 use Rattle.motion.specs.declared.Next.the-variants.{Over, Made}
-use Rattle.motion.specs.Phase.{pulses, signAt, movedAll, signValue}
+use Rattle.motion.specs.Axes.{on, pulse}
+use Rattle.motion.specs.Phase.{pulses, signAt, movedAll, signsThen}
 
 -- where a phase starts and ends. A movement past its third phase is over: it stays where that phase ended.
 unfoldable pub fromOf : Move → Counters
@@ -54,11 +55,7 @@ abbrev pub SignRule : Type 0
 SignRule = ℕ → ℕ → ℕ → ℕ → ℕ → Sign
 
 abbrev pub signsBy : SignRule → Counters → Counters → Counters → ℕ → ℕ → Signs
-signsBy rule at from to k n = record {
-  x = rule (at .x) (from .x) (to .x) k n;
-  y = rule (at .y) (from .y) (to .y) k n;
-  z = rule (at .z) (from .z) (to .z) k n;
-}
+signsBy rule at from to k n = pulse (λ i. rule (on i at) (on i from) (on i to) k n)
 
 -- one pulse with its signs: the counters that much further, and one pulse more made
 abbrev pub stepped : Move → Counters → Signs → Stepped
@@ -88,5 +85,5 @@ leftOf m = (leg m - m .made) + afterOf m
 
 -- the clock's answers are 1, a pulse with its signs and speed, to 5, nothing
 abbrev pub nextPaper : Next → Paper
-nextPaper (Made s) = says 1 (signValue (s .signs .x) ∷ signValue (s .signs .y) ∷ signValue (s .signs .z) ∷ pos (s .speed) ∷ [])
+nextPaper (Made s) = says 1 (signsThen (s .signs) (pos (s .speed) ∷ []))
 nextPaper Over = says 5 []

@@ -1,17 +1,20 @@
 -- One phase of a movement (01, "Movement", paragraph 2): how many pulses it has, and what each of them does to an axis.
-use Prim.Native.Nat.{ℕ, _+_, _-_, _*_, _/_, max}
+use Prim.Native.Nat.{ℕ, _+_, _-_, _*_, _/_}
+use mathlib.Core.List.{List}
 use lib.Dec.{ltb, eqb}
 use lib.IntN.{ℤ, pos, negsuc}
 use Rattle.count.specs.Pick.{pick}
 use Rattle.count.specs.Numbers.{far}
+use Rattle.count.specs.Axes.{greatest, eachThen}
 use Rattle.motion.specs.declared.Sign.{Sign}
 use Rattle.motion.specs.declared.Sign.the-variants.{Minus, Rest, Plus}
 use Rattle.motion.specs.declared.Signs.{Signs}
 use Rattle.motion.specs.declared.Counters.{Counters}
+use Rattle.motion.specs.Axes.{on, point, shows}
 
 -- the greatest distance of an axis between two resting points
 abbrev pub most : Counters → Counters → ℕ
-most from to = max (far (from .x) (to .x)) (max (far (from .y) (to .y)) (far (from .z) (to .z)))
+most from to = greatest (λ i. far (on i from) (on i to))
 
 -- the pulses of a phase, n: the greatest distance. A phase with a distance beyond 24 bits, which no sound movement has, has none.
 unfoldable pub pulses : Counters → Counters → ℕ
@@ -39,12 +42,15 @@ moved c Minus = c - 1
 moved c Rest = c
 moved c Plus = c + 1
 
--- the three counters with one pulse's signs
+-- the counters with one pulse's signs
 abbrev pub movedAll : Counters → Signs → Counters
-movedAll c s = record { x = moved (c .x) (s .x); y = moved (c .y) (s .y); z = moved (c .z) (s .z) }
+movedAll c s = point (λ i. moved (on i c) (shows i s))
 
--- a sign as a number
+-- a sign as a number, and those of a pulse, x, y, z and a, before others
 abbrev pub signValue : Sign → ℤ
 signValue Minus = negsuc 0
 signValue Rest = pos 0
 signValue Plus = pos 1
+
+abbrev pub signsThen : Signs → List ℤ → List ℤ
+signsThen s l = eachThen (λ i. signValue (shows i s)) l

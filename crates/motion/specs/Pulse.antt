@@ -1,4 +1,4 @@
--- One pulse on the counters, whatever it is a pulse of (01, "Calls", on the three axis counters).
+-- One pulse on the counters, whatever it is a pulse of (01, "Calls", on the axis counters).
 use Prim.Native.Nat.{ℕ, _+_}
 use mathlib.Core.Bool.{Bool, true, _&&_}
 use mathlib.Core.List.{[]}
@@ -6,14 +6,15 @@ use lib.Dec.{ltb}
 use Rattle.count.specs.Pick.{pick}
 use Rattle.count.specs.Paper.{Paper, says}
 use Rattle.count.specs.Numbers.{full}
+use Rattle.count.specs.Axes.{onAll}
 use Rattle.motion.specs.declared.Sign.{Sign}
 use Rattle.motion.specs.declared.Sign.the-variants.{Minus, Rest, Plus}
 use Rattle.motion.specs.declared.Signs.{Signs}
 use Rattle.motion.specs.declared.Counters.{Counters}
 use Rattle.motion.specs.declared.Moved.{Moved}
 use Rattle.motion.specs.declared.Moved.the-variants.{To, Outside}
+use Rattle.motion.specs.Axes.{on, shows, pointThen}
 use Rattle.motion.specs.Phase.{movedAll}
-use Rattle.motion.specs.Plan.{pointThen}
 
 -- a count has a step left in the direction of a sign if the step ends within 24 bits
 abbrev pub hasStep : ℕ → Sign → Bool
@@ -22,7 +23,7 @@ hasStep c Rest = true
 hasStep c Plus = ltb (c + 1) full
 
 abbrev pub haveSteps : Counters → Signs → Bool
-haveSteps c s = hasStep (c .x) (s .x) && hasStep (c .y) (s .y) && hasStep (c .z) (s .z)
+haveSteps c s = onAll (λ i. hasStep (on i c) (shows i s))
 
 -- the counters with one pulse's signs, or that one of them has no such step
 unfoldable pub stepTo : Counters → Signs → Moved

@@ -4,8 +4,10 @@ use Prim.Native.Nat.{ℕ}
 use lib.Dec.{ltb, leb, eqb}
 use Rattle.count.specs.Sizes.{slowest, fastest}
 use Rattle.count.specs.Numbers.{full}
+use Rattle.count.specs.Axes.{onAll}
 use Rattle.motion.specs.declared.Counters.{Counters}
 use Rattle.motion.specs.declared.Move.{Move}
+use Rattle.motion.specs.Axes.{on}
 use Rattle.motion.specs.Phase.{countAfter}
 use Rattle.motion.specs.Next.{fromOf, toOf, leg}
 
@@ -13,16 +15,13 @@ use Rattle.motion.specs.Next.{fromOf, toOf, leg}
 abbrev pub speedRight : ℕ → Bool
 speedRight v = leb slowest v && leb v fastest
 
--- three counts of 24 bits
+-- counts of 24 bits
 unfoldable pub counted : Counters → Bool
-counted c = ltb (c .x) full && ltb (c .y) full && ltb (c .z) full
+counted c = onAll (λ i. ltb (on i c) full)
 
 -- the position that the pulse number gives
 abbrev pub standsAt : Move → Counters → Bool
-standsAt m at =
-    eqb (at .x) (countAfter (m .made) (fromOf m .x) (toOf m .x) (leg m))
-    && eqb (at .y) (countAfter (m .made) (fromOf m .y) (toOf m .y) (leg m))
-    && eqb (at .z) (countAfter (m .made) (fromOf m .z) (toOf m .z) (leg m))
+standsAt m at = onAll (λ i. eqb (on i at) (countAfter (m .made) (on i (fromOf m)) (on i (toOf m)) (leg m)))
 
 -- speeds and resting points in range. The start counts as a resting point: it is where the movement before came to rest.
 unfoldable pub inRange : Move → Bool

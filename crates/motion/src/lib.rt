@@ -8,11 +8,12 @@ mod steps;
 pub use route::plan;
 pub use steps::step_to;
 
-// The positions, origins or resting points of the three axes, as counts.
+// The positions, origins or resting points of the four axes, as counts.
 pub struct Counters {
     pub x: u32,
     pub y: u32,
     pub z: u32,
+    pub a: u32,
 }
 
 // What a pulse does to an axis.
@@ -26,6 +27,7 @@ pub struct Signs {
     pub x: Sign,
     pub y: Sign,
     pub z: Sign,
+    pub a: Sign,
 }
 
 // The counters after one pulse, or that one of them would leave 24 bits.

@@ -21,7 +21,8 @@ pub(crate) fn pulses_of(from: Counters, to: Counters) -> u32
     let x = count::distance(from.x, to.x);
     let y = count::distance(from.y, to.y);
     let z = count::distance(from.z, to.z);
-    let n = larger(x, larger(y, z));
+    let a = count::distance(from.a, to.a);
+    let n = larger(x, larger(y, larger(z, a)));
     if 16777215 < n {
         return 0;
     }

@@ -3,13 +3,12 @@ ghost use mathlib.Core.Path.{_≡_};
 ghost use Prim.Native.Nat.{_≤_, _<_, _+_, _-_};
 ghost use lib.Dec.{eqb};
 ghost use Rattle.count.specs.Pick.{pick};
-ghost use Rattle.count.specs.Numbers.{far};
 ghost use Rattle.motion.specs.work.Here.{signHere};
 ghost use Rattle.motion.specs.Phase.{moved, movedAll};
 ghost use Rattle.motion.specs.work.Here.{nextOf, withinOf};
 ghost use Rattle.motion.specs.work.Beat.{markOf, atMark, beatOf, beaten, nextBack};
 ghost use Rattle.motion.specs.Next.{fromOf, toOf, leg, speedAt, atPhase, skipped, settled, signsBy, stepped, leftOf, afterOf};
-ghost use Rattle.motion.specs.work.Room.{room, hasRoom};
+ghost use Rattle.motion.specs.work.Room.{room, hasRoom, noFurther};
 use super::Beat;
 use super::Beaten;
 use super::Counters;
@@ -34,7 +33,7 @@ fn moved_by(c: u32, s: Sign) -> u32
     }
 }
 
-// The three counters with one pulse's signs, by value.
+// The counters with one pulse's signs, by value.
 fn pulsed(c: Counters, s: Signs) -> Counters
     requires { ⌜ hasRoom c s ⌝ }
     ensures { λ r. ⌜ r ≡ movedAll c s ⌝ }
@@ -42,13 +41,15 @@ fn pulsed(c: Counters, s: Signs) -> Counters
     let sx = s.x;
     let sy = s.y;
     let sz = s.z;
+    let sa = s.a;
     let x = moved_by(c.x, sx);
     let y = moved_by(c.y, sy);
     let z = moved_by(c.z, sz);
-    Counters { x, y, z }
+    let a = moved_by(c.a, sa);
+    Counters { x, y, z, a }
 }
 
-// The three counters, lent, with one pulse's signs.
+// The counters, lent, with one pulse's signs.
 fn add_pulse(c: &mut Counters, s: Signs)
     requires { ⌜ hasRoom (now c) s ⌝ }
     ensures { λ _. ⌜ now (c .exit) ≡ movedAll (now (c .entry)) s ⌝ }
@@ -89,15 +90,39 @@ fn to_by(p: u8, a: u32, b: u32, c: u32) -> u32
     }
 }
 
-// What the pulse after pulse k of n shows on the three axes.
+fn chosen(b: bool, x: u32, y: u32) -> u32
+    ensures { λ r. ⌜ r ≡ pick b x y ⌝ }
+{
+    if b { x } else { y }
+}
+
+// The same as `from_by`, by tests that need no jump: in a loop over a phase they are then made once, before it.
+fn from_in(p: u8, a: u32, b: u32, c: u32, d: u32) -> u32
+    ensures { λ r. ⌜ r ≡ pick (eqb p 0) a (pick (eqb p 1) b (pick (eqb p 2) c d)) ⌝ }
+{
+    let last = chosen(p == 2, c, d);
+    let late = chosen(p == 1, b, last);
+    chosen(p == 0, a, late)
+}
+
+// The same as `to_by`.
+fn to_in(p: u8, a: u32, b: u32, c: u32) -> u32
+    ensures { λ r. ⌜ r ≡ pick (eqb p 0) a (pick (eqb p 1) b c) ⌝ }
+{
+    let late = chosen(p == 1, b, c);
+    chosen(p == 0, a, late)
+}
+
+// What the pulse after pulse k of n shows on the axes.
 pub(crate) fn signs_at(at: Counters, from: Counters, to: Counters, k: u32, n: u32) -> Signs
-    requires { ⌜ (k < n) × (n < 16777216) × (far (from .x) (to .x) ≤ n) × (far (from .y) (to .y) ≤ n) × (far (from .z) (to .z) ≤ n) ⌝ }
+    requires { ⌜ (k < n) × (n < 16777216) × noFurther from to n ⌝ }
     ensures { λ r. ⌜ (r ≡ signsBy signHere at from to k n) × hasRoom at r ⌝ }
 {
     let x = sign_here(at.x, from.x, to.x, k, n);
     let y = sign_here(at.y, from.y, to.y, k, n);
     let z = sign_here(at.z, from.z, to.z, k, n);
-    Signs { x, y, z }
+    let a = sign_here(at.a, from.a, to.a, k, n);
+    Signs { x, y, z, a }
 }
 
 impl Move {
@@ -124,6 +149,7 @@ impl Move {
             x: from_by(p, a.x, b.x, c.x, d.x),
             y: from_by(p, a.y, b.y, c.y, d.y),
             z: from_by(p, a.z, b.z, c.z, d.z),
+            a: from_by(p, a.a, b.a, c.a, d.a),
         }
     }
 
@@ -139,6 +165,7 @@ impl Move {
             x: to_by(p, b.x, c.x, d.x),
             y: to_by(p, b.y, c.y, d.y),
             z: to_by(p, b.z, c.z, d.z),
+            a: to_by(p, b.a, c.a, d.a),
         }
     }
 
@@ -240,6 +267,39 @@ impl Move {
         self.beat_at(self.settle(), at)
     }
 
+    // Where the phase under way starts, for a loop over it.
+    fn phase_from(self) -> Counters
+        ensures { λ r. ⌜ r ≡ fromOf self ⌝ }
+    {
+        let p = self.phase;
+        let a = self.start;
+        let b = self.first;
+        let c = self.second;
+        let d = self.third;
+        Counters {
+            x: from_in(p, a.x, b.x, c.x, d.x),
+            y: from_in(p, a.y, b.y, c.y, d.y),
+            z: from_in(p, a.z, b.z, c.z, d.z),
+            a: from_in(p, a.a, b.a, c.a, d.a),
+        }
+    }
+
+    // Where it ends.
+    fn phase_to(self) -> Counters
+        ensures { λ r. ⌜ r ≡ toOf self ⌝ }
+    {
+        let p = self.phase;
+        let b = self.first;
+        let c = self.second;
+        let d = self.third;
+        Counters {
+            x: to_in(p, b.x, c.x, d.x),
+            y: to_in(p, b.y, c.y, d.y),
+            z: to_in(p, b.z, c.z, d.z),
+            a: to_in(p, b.a, c.a, d.a),
+        }
+    }
+
     // The pulse after `made` of the phase under way, or that none is left of it. It is `beat_at` once more, since a function with one caller
     // becomes a part of it: in a loop over a phase, what is the same for each pulse is then worked out once.
     pub fn beat_in(self, made: u32, at: Counters) -> Beaten
@@ -249,8 +309,8 @@ impl Move {
             phase: self.phase,
             made,
         };
-        let from = self.from_at(mark);
-        let to = self.to_at(mark);
+        let from = self.phase_from();
+        let to = self.phase_to();
         let n = pulses_of(from, to);
         if made < n {
             let signs = signs_at(at, from, to, made, n);

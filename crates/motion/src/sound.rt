@@ -4,7 +4,10 @@ ghost use mathlib.Core.Bool.{_&&_};
 ghost use Prim.Native.Nat.{_≤_, _<_};
 ghost use lib.Dec.{eqb};
 ghost use Rattle.count.specs.Numbers.{far};
+ghost use Rattle.count.specs.Axes.{onAll};
+ghost use Rattle.motion.specs.Axes.{on};
 ghost use Rattle.motion.specs.Phase.{steps, countAfter};
+ghost use Rattle.motion.specs.work.Room.{noFurther};
 ghost use Rattle.motion.specs.Sound.{speedRight, counted, inRange, underWay};
 ghost use Rattle.motion.specs.work.Here.{nextOf};
 ghost use Rattle.motion.specs.work.Beat.{lookedBy, lookOf};
@@ -22,11 +25,11 @@ fn speed_right(v: u16) -> bool
     (30 <= v) & (v <= 10000)
 }
 
-// Three counts of 24 bits.
+// Counts of 24 bits.
 fn counted_at(c: Counters) -> bool
     ensures { λ r. ⌜ r ≡ counted c ⌝ }
 {
-    count::in_range(c.x) & count::in_range(c.y) & count::in_range(c.z)
+    count::in_range(c.x) & count::in_range(c.y) & count::in_range(c.z) & count::in_range(c.a)
 }
 
 // Whether an axis of distance d has made s steps after pulse k of n: 01's quotient by its two bounds.
@@ -59,16 +62,16 @@ fn stands(at: u32, from: u32, to: u32, k: u32, n: u32) -> bool
     (from <= at) & has_made(s, k, d, n)
 }
 
-// Whether three axes stand where pulse k of n puts them.
+// Whether the axes stand where pulse k of n puts them.
 fn stand_at(at: Counters, from: Counters, to: Counters, k: u32, n: u32) -> bool
-    requires { ⌜ (n < 16777216) × (k ≤ n) × (far (from .x) (to .x) ≤ n) × (far (from .y) (to .y) ≤ n) × (far (from .z) (to .z) ≤ n) ⌝ }
-    ensures { λ r. ⌜ r ≡ eqb (at .x) (countAfter k (from .x) (to .x) n) && eqb (at .y) (countAfter k (from .y) (to .y) n)
-        && eqb (at .z) (countAfter k (from .z) (to .z) n) ⌝ }
+    requires { ⌜ (n < 16777216) × (k ≤ n) × noFurther from to n ⌝ }
+    ensures { λ r. ⌜ r ≡ onAll (λ i. eqb (on i at) (countAfter k (on i from) (on i to) n)) ⌝ }
 {
     let x = stands(at.x, from.x, to.x, k, n);
     let y = stands(at.y, from.y, to.y, k, n);
     let z = stands(at.z, from.z, to.z, k, n);
-    x & y & z
+    let a = stands(at.a, from.a, to.a, k, n);
+    x & y & z & a
 }
 
 impl Move {

@@ -25,10 +25,12 @@ pub fn step_to(c: Counters, s: Signs) -> Moved
     let sx = s.x;
     let sy = s.y;
     let sz = s.z;
+    let sa = s.a;
     let x = has_step(c.x, sx);
     let y = has_step(c.y, sy);
     let z = has_step(c.z, sz);
-    if x & y & z {
+    let a = has_step(c.a, sa);
+    if x & y & z & a {
         return Moved::To(with_pulse(c, s));
     }
     Moved::Outside

@@ -2,7 +2,6 @@
 -- arguments each is the other. Assumes nothing.
 use mathlib.Core.Path.{_≡_, sym, _∙_}
 use Rattle.program.proofs.accepting.accepts.Reads as accepts
-use Rattle.program.proofs.accepting.axes_set.Reads as axes-set
 use Rattle.program.proofs.ending.check.Reads as check
 use Rattle.program.proofs.running.leap.Reads as leap
 use Rattle.program.proofs.Lead.loops.Reads as loops
@@ -22,6 +21,3 @@ onward-one κs a r r′ s s′ p q = p ∙ sym q
 
 pub accepts-one : (κs : _) (a : _) (r r′ : _) (s s′ : _) → accepts.Post κs a r s → accepts.Post κs a r′ s′ → r ≡ r′
 accepts-one κs a r r′ s s′ p q = p ∙ sym q
-
-pub axes-set-one : (κs : _) (a : _) (r r′ : _) (s s′ : _) → axes-set.Post κs a r s → axes-set.Post κs a r′ s′ → r ≡ r′
-axes-set-one κs a r r′ s s′ p q = p ∙ sym q

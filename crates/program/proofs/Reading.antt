@@ -13,7 +13,8 @@ use Rattle.record.specs.declared.Held.{Held}
 use Rattle.record.specs.Places.{none-are, recordsOf}
 use Rattle.program.specs.declared.Verdict.{Verdict}
 use Rattle.program.specs.declared.Verdict.the-variants.{Sound, Fault, Unreadable}
-use Rattle.program.specs.Program.{checkOf, verdictOn, verdictOf, isSound, axesSet, sized, passing, accepted}
+use Rattle.count.specs.Axes.{axesSet}
+use Rattle.program.specs.Program.{checkOf, verdictOn, verdictOf, isSound, sized, passing, accepted}
 use Rattle.program.specs.Edges.{leadsOut, startsFirst, ofThese, acceptance, acceptanceOf}
 use Rattle.program.specs.work.Aims.{loopAt, turnAt, farAt, markedOf}
 use Rattle.program.specs.work.Edges.{kindIs, leads, toldOf}

@@ -9,6 +9,7 @@ use lib.ListN.{length, getD}
 use Rattle.count.specs.Sizes.{storeBytes, mostRecords}
 use Rattle.count.specs.Chars.{ch}
 use Rattle.count.specs.Pick.{pick}
+use Rattle.count.specs.Axes.{axesSet}
 use Rattle.count.specs.Ranges.{nth}
 use Rattle.record.specs.declared.Held.{Held}
 use Rattle.record.specs.declared.Record.{Record}
@@ -56,13 +57,10 @@ isSound Sound = true
 isSound (Fault a p) = false
 isSound Unreadable = false
 
--- ---- an accepted program: at most 16,384 bytes and 1,000 records in use, written under axes 1, 3 or 7, readable, and its check passes
+-- ---- an accepted program: at most 16,384 bytes and 1,000 records in use, written under axes that lines set, readable, and its check passes
 
 unfoldable pub passes : List Record → Bool
 passes l = isSound (checkOf l)
-
-abbrev pub axesSet : ℕ → Bool
-axesSet axes = eqb axes 1 || eqb axes 3 || eqb axes 7
 
 abbrev pub passing : Records → Bool
 passing (are l) = passes l

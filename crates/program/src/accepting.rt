@@ -2,7 +2,7 @@
 ghost use mathlib.Core.Path.{_≡_};
 ghost use mathlib.Core.Bool.{false};
 ghost use Prim.Native.Nat.{_≤_};
-ghost use Rattle.program.specs.Program.{sized, axesSet};
+ghost use Rattle.program.specs.Program.{sized};
 ghost use Rattle.program.specs.Edges.{acceptance, acceptanceOf};
 ghost use Rattle.program.specs.work.Edges.{kindIs, leads, toldOf};
 ghost use Rattle.program.specs.work.Marks.{mark, checked};
@@ -15,13 +15,6 @@ use crate::arrays::mark_of;
 use crate::ending::decode;
 use crate::pass::check_arrays;
 use record::Held;
-
-// Whether axes are those of an accepted program: 1, 3 or 7.
-pub fn axes_set(axes: u8) -> bool
-    ensures { λ r. ⌜ r ≡ axesSet axes ⌝ }
-{
-    (axes == 1) | (axes == 3) | (axes == 7)
-}
 
 // Whether no more is in use than a program may have.
 fn is_sized(held: Held) -> bool
@@ -75,7 +68,7 @@ fn told(kinds: &[u8], offsets: &[u16], n: u16) -> Acceptance
 pub fn accepts(store: &[u8], held: Held) -> Acceptance
     ensures { λ r. ⌜ r ≡ acceptanceOf held (now (store .entry)) ⌝ }
 {
-    if !(is_sized(held) & axes_set(held.axes)) {
+    if !(is_sized(held) & count::axes_set(held.axes)) {
         return refused();
     }
     let mut kinds = [0u8; 1000];

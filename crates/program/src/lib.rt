@@ -7,7 +7,6 @@ mod ranges;
 mod running;
 
 pub use accepting::accepts;
-pub use accepting::axes_set;
 pub use ending::check;
 pub use running::leap;
 pub use running::onward;

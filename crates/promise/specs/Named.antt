@@ -13,7 +13,8 @@ use Rattle.record.specs.declared.Record.{Record}
 use Rattle.record.specs.Places.{recordsOf}
 use Rattle.record.specs.Places.Records.{are, none-are}
 use Rattle.program.specs.Check.{outside, early, overlaps, holders, strays}
-use Rattle.program.specs.Program.{loopAt, turnAt, targetAt, axesSet, accepted}
+use Rattle.count.specs.Axes.{axesSet}
+use Rattle.program.specs.Program.{loopAt, turnAt, targetAt, accepted}
 use Rattle.board.specs.Calls.{Lent}
 use Rattle.promise.specs.Machine.{Machine}
 use Rattle.promise.specs.Demands.{replied, endLine, hears}

@@ -1,5 +1,5 @@
 -- What a record's code asks of its numbers under given axes, and what is wrong with them: replies 5, 7, 3, 1 and D in this order (01,
--- "Lines": the paragraph on storing, the table of replies, and the paragraph under it; 02, §3 for circles). Order is by kind, not by place:
+-- "Lines": the paragraph on storing, the table of replies, and the paragraph under it; 02, §3 for circles, §7 for the A axis). Order is by kind, not by place:
 -- all ranges before all speeds.
 use Prim.Native.Nat.{ℕ}
 use mathlib.Core.List.{List}
@@ -9,6 +9,8 @@ use lib.IntN.{ℤ, pos}
 use Rattle.count.specs.Chars.{ch}
 use Rattle.count.specs.Pick.{pick}
 use Rattle.count.specs.Numbers.{within}
+use Rattle.count.specs.declared.Axis.the-variants.{X, A}
+use Rattle.count.specs.Axes.{part, has}
 use Rattle.count.specs.Ranges.{inOffset, inBack, inLoop, inDelay, inCharacter, inSwitch, inZero, inSpeed, inPlane, inDirection, nth, rightCount, rightDistances, rightSpeeds, rightArc}
 
 -- ---- a row: is it known at all (5), and what holds of its numbers under the axes: how many they are (7), an axes value (3), the others
@@ -39,9 +41,15 @@ unknown = record { known = false; count = λ axes n. false; values = any; ranges
 
 -- ---- the columns' entries, by what the numbers are
 
--- 3: axes are 1 to 7 and none beyond the axes set; the sets 1, 3 and 7 hold just the values up to themselves
+-- 3: axes are 1 to 7 and none beyond the axes set, where the sets 1, 3 and 7 hold just the values up to themselves; or 8, A alone, where A is
+-- set (02, §7: it is not mixed with others)
+unfoldable pub namedBy : ℕ → ℤ → Bool
+namedBy axes z =
+    (has axes X && within (pos 1) (pos 7) z && within (pos 1) (pos axes) z)
+    || (has axes A && within (pos (part A)) (pos (part A)) z)
+
 abbrev pub axesNamed : ℕ → List ℕ → Bool
-axesNamed axes l = within (pos 1) (pos 7) (nth l 0) && within (pos 1) (pos axes) (nth l 0)
+axesNamed axes l = namedBy axes (nth l 0)
 
 abbrev pub distances : ℕ → List ℕ → Bool
 distances axes l = rightDistances axes false l

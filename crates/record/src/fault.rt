@@ -3,7 +3,8 @@ ghost use mathlib.Core.Path.{_≡_};
 ghost use mathlib.Core.Bool.{true};
 ghost use lib.IntN.{pos};
 ghost use Rattle.count.specs.Numbers.{within, signed};
-ghost use Rattle.record.specs.Fault.{isMovement, isCode, countRight, axesRight, loopRight, rangesRight, speedsRight, faultOf};
+ghost use Rattle.record.specs.Fault.{isMovement, isCode, countRight, namedBy, axesRight, loopRight, rangesRight, speedsRight, faultOf};
+use count::Axis;
 
 fn is_movement(code: u8) -> bool
     ensures { λ r. ⌜ r ≡ isMovement code ⌝ }
@@ -50,12 +51,20 @@ fn from_one(most: u8, w: u32) -> bool
     (1 <= w) & (w <= (most as u32))
 }
 
+// Whether these are axes of x, y and z that are set, or A alone where it is.
+fn axes_named(axes: u8, w: u32) -> bool
+    ensures { λ r. ⌜ r ≡ namedBy axes (signed w) ⌝ }
+{
+    let few = count::has(axes as u32, Axis::X) & from_one(7, w) & from_one(axes, w);
+    few | (count::has(axes as u32, Axis::A) & (w == 8))
+}
+
 // 3: whether the axes of `n` are some of the axes set.
 fn axes_right(axes: u8, code: u8, words: [u32; 8]) -> bool
     ensures { λ r. ⌜ r ≡ axesRight axes code words ⌝ }
 {
     if code == b'n' {
-        return from_one(7, words[0]) & from_one(axes, words[0]);
+        return axes_named(axes, words[0]);
     }
     true
 }

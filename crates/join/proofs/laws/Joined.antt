@@ -23,7 +23,8 @@ use Rattle.record.proofs.laws.Stored.{AllRight, readable-list, list-readable, e
 use Rattle.record.proofs.laws.Tables.{fetch-element, fetch-end}
 use Rattle.record.proofs.laws.Entries.{filled-true}
 use Rattle.record.proofs.laws.Fills.{is-0, can-fill}
-use Rattle.program.specs.Program.{recordIn, passes, axesSet, passing, sized, accepted}
+use Rattle.count.specs.Axes.{axesSet}
+use Rattle.program.specs.Program.{recordIn, passes, passing, sized, accepted}
 use Rattle.program.proofs.laws.Run.{Accepted}
 use Rattle.program.proofs.laws.Accepting.{Holds, records-count, accepted-list, accepted-holds}
 use Rattle.program.proofs.laws.Append.{appended-passes}

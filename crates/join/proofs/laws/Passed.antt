@@ -13,7 +13,7 @@ use Rattle.count.proofs.laws.Truth.{never, and-parts}
 use Rattle.count.proofs.laws.Truth.{both as true-both}
 use Rattle.record.specs.declared.Held.{Held}
 use Rattle.record.specs.Memory.{Memory, tableFits}
-use Rattle.program.specs.Program.{axesSet}
+use Rattle.count.specs.Axes.{axesSet}
 use Rattle.program.specs.Program as program
 use Rattle.join.specs.Join.{axesBeside, counted, storesRight, axesRight, bothAccepted, entersRange, roomRight, refusalOf, both, joinedMemory, Joining, joining, answer, joinOf}
 

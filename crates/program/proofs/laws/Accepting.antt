@@ -17,7 +17,8 @@ use Rattle.record.proofs.laws.Fills.{counts}
 use Rattle.record.specs.Places.{inUse, Records, are, none-are, onto, then, recordsFrom, recordsOf, isList}
 use Rattle.record.proofs.laws.Walk.{front-stands}
 use Rattle.program.specs.declared.Verdict.the-variants.{Sound}
-use Rattle.program.specs.Program.{recordIn, verdictOn, verdictOf, isSound, passes, axesSet, sized, passing, accepted}
+use Rattle.count.specs.Axes.{axesSet}
+use Rattle.program.specs.Program.{recordIn, verdictOn, verdictOf, isSound, passes, sized, passing, accepted}
 use Rattle.program.proofs.laws.Run.{Accepted}
 
 -- ---- the check computes it

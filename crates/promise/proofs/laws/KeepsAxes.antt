@@ -19,7 +19,8 @@ use Rattle.record.specs.Bytes.{encode}
 use Rattle.record.specs.Memory.{Memory}
 use Rattle.record.specs.Keep.{Storing, hasRoom, storeOf}
 use Rattle.record.specs.Table.{fetchOf}
-use Rattle.program.specs.Program.{verdictOf, isSound, axesSet}
+use Rattle.count.specs.Axes.{axesSet}
+use Rattle.program.specs.Program.{verdictOf, isSound}
 use Rattle.line.specs.declared.Letter.{Letter}
 use Rattle.line.specs.declared.Letter.the-variants as letter
 use Rattle.line.specs.declared.Direct.{Direct}

@@ -19,7 +19,8 @@ use Rattle.record.specs.Places.Records.{are, none-are}
 use Rattle.program.specs.declared.Verdict.{Verdict}
 use Rattle.program.specs.declared.Verdict.the-variants.{Sound, Fault, Unreadable}
 use Rattle.program.specs.Check.{outside, early, overlaps, holders, strays, letter, checked}
-use Rattle.program.specs.Program.{loopAt, turnAt, targetAt, checkOf, verdictOn, verdictOf, isSound, passes, passing, axesSet, sized, accepted}
+use Rattle.count.specs.Axes.{axesSet}
+use Rattle.program.specs.Program.{loopAt, turnAt, targetAt, checkOf, verdictOn, verdictOf, isSound, passes, passing, sized, accepted}
 use Rattle.program.proofs.laws.Accepting.{sized-so, sized-parts, accepted-parts}
 use Rattle.program.proofs.laws.First.{Told, told, first, sound-if}
 use Rattle.engine.proofs.laws.Facts.{facts}

@@ -10,7 +10,7 @@ use Rattle.count.proofs.laws.Truth.{never}
 use Rattle.record.specs.declared.Held.{Held}
 use Rattle.record.specs.Memory.{Memory}
 use Rattle.program.specs.Onward.{noLoops}
-use Rattle.program.specs.Program.{axesSet}
+use Rattle.count.specs.Axes.{axesSet}
 use Rattle.circle.specs.Plan.{atFirst}
 use Rattle.engine.specs.declared.Engine.{Engine}
 use Rattle.engine.specs.declared.Job.the-variants as job

@@ -5,7 +5,7 @@ use mathlib.Core.Bool.{Bool, true, false, not, _&&_, _||_}
 use native.Mathlib.Omega.{arith}
 use lib.Dec.{ltb, leb, eqb}
 use borrow.Author.Tests.{lt-ltb, le-leb, leb-true, leb-false, ltb-true, ltb-false}
-use Rattle.count.specs.Numbers.{far}
+use Rattle.count.specs.Axes.{onAll}
 use Rattle.motion.specs.declared.Counters.{Counters}
 use Rattle.motion.specs.declared.Signs.{Signs}
 use Rattle.motion.specs.declared.Move.{Move}
@@ -13,6 +13,8 @@ use Rattle.motion.specs.declared.Mark.{Mark}
 use Rattle.motion.specs.declared.Beat.{Beat}
 use Rattle.motion.specs.declared.Look.{Look}
 use Rattle.motion.specs.declared.Look.the-variants as look
+use Rattle.motion.specs.Axes.{on}
+use Rattle.motion.specs.work.Room.{noFurther}
 use Rattle.motion.specs.Phase.{pulses, countAfter}
 use Rattle.motion.specs.Next.{leg, fromOf, toOf, signsBy, stepped}
 use Rattle.motion.specs.Sound.{inRange, underWay}
@@ -49,9 +51,9 @@ passed-by m n true false true u v w e = absurd (let z : _≡_ {A = ℕ} 0 1 = cc
 passed-by m n true true d u v w e = absurd (let z : _≡_ {A = ℕ} 0 1 = cc in omega arith)
 passed-by m n false c d u v w e = absurd (let z : _≡_ {A = ℕ} 0 1 = cc in omega arith)
 
--- the three axes as the code asks them
+-- the axes as the code asks them
 abbrev stood : Counters → Counters → Counters → ℕ → ℕ → Bool
-stood at f t k n = eqb (at .x) (countAfter k (f .x) (t .x) n) && eqb (at .y) (countAfter k (f .y) (t .y) n) && eqb (at .z) (countAfter k (f .z) (t .z) n)
+stood at f t k n = onAll (λ i. eqb (on i at) (countAfter k (on i f) (on i t) n))
 
 module _ (m : Move) (at : Counters) {j : Mark} {f t : Counters} {n : ℕ} {r : Bool} (w : j ≡ markOf m) (p : f ≡ fromOf (atMark m j)) (q : t ≡ toOf (atMark m j)) (e : n ≡ pulses f t) (g : r ≡ inRange m) where
   from-is : f ≡ fromOf m
@@ -70,8 +72,8 @@ module _ (m : Move) (at : Counters) {j : Mark} {f t : Counters} {n : ℕ} {r : B
   pub passed : refused r (m .phase) n (m .made) ≡ false → Passed m n
   passed h = passed-by m n r (leb 3 (m .phase)) (ltb n (m .made)) g refl refl h
 
-  pub asked : Passed m n → (n < 16777216) × (m .made ≤ n) × (far (f .x) (t .x) ≤ n) × (far (f .y) (t .y) ≤ n) × (far (f .z) (t .z) ≤ n)
-  asked h = let y = ready-at m long (h .range) from-is to-is in (y .0, h .made, y .1, y .2, y .3)
+  pub asked : Passed m n → (n < 16777216) × (m .made ≤ n) × noFurther f t n
+  asked h = let y = ready-at m long (h .range) from-is to-is in (y .0, h .made, y .1)
 
   pub under-stood : {s : Bool} → Passed m n → s ≡ stood at f t (m .made) n → s ≡ underWay m at
   unfolding underWay

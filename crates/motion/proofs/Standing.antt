@@ -10,12 +10,16 @@ use Rattle.count.specs.Pick.{pick}
 use Rattle.count.specs.Numbers.{far}
 use Rattle.motion.specs.declared.Counters.{Counters}
 use Rattle.motion.specs.declared.Move.{Move}
+use Rattle.count.specs.declared.Axis.{Axis}
+use Rattle.count.proofs.laws.Axes.{each-of}
+use Rattle.motion.specs.Axes.{on}
+use Rattle.motion.specs.work.Room.{noFurther}
 use Rattle.motion.specs.Phase.{steps, countAfter, pulses}
 use Rattle.motion.specs.Next.{fromOf, toOf, leg, afterOf}
 use Rattle.motion.proofs.laws.Axis.{below, above, steps-is, steps-empty, steps-at-most}
 use Rattle.motion.proofs.laws.Pulses.{pulses-small}
 use Rattle.motion.specs.Sound.{inRange}
-use Rattle.motion.proofs.laws.Passed.{ranges-of, leg-x, leg-y, leg-z}
+use Rattle.motion.proofs.laws.Passed.{ranges-of, leg-on}
 
 -- s is the quotient of x by m exactly if m·s ≤ x < m·s + m
 quot-test : (x m s : ℕ) → 0 < m → leb (m * s) x && ltb x (m * s + m) ≡ eqb s (x / m)
@@ -80,10 +84,10 @@ module _ (at k from to n : ℕ) (w : k ≤ n) (f : far from to ≤ n) {s d : ℕ
 
 -- what each axis asks where the ranges are right
 pub ready-at : (m : Move) {n : ℕ} {f t : Counters} → n ≡ leg m → inRange m ≡ true → f ≡ fromOf m → t ≡ toOf m
-    → (n < 16777216) × (far (f .x) (t .x) ≤ n) × (far (f .y) (t .y) ≤ n) × (far (f .z) (t .z) ≤ n)
+    → (n < 16777216) × noFurther f t n
 ready-at m e h a b =
-    let r = ranges-of m h in
-    rw (e, a, b) (pulses-small (fromOf m) (toOf m), leg-x m r, leg-y m r, leg-z m r)
+    rw (e, a, b)
+    (pulses-small (fromOf m) (toOf m), each-of (λ (i : Axis). far (on i (fromOf m)) (on i (toOf m)) ≤ leg m) (leg-on m (ranges-of m h)))
 
 -- the pulses left fit 32 bits
 pub after-small : (m : Move) → afterOf m < 33554432

@@ -10,20 +10,24 @@ use Rattle.motion.specs.declared.Signs.{Signs}
 use Rattle.motion.specs.declared.Move.{Move}
 use Rattle.motion.specs.declared.Beat.{Beat}
 use Rattle.motion.specs.declared.Beaten.the-variants as beat
+use Rattle.count.specs.declared.Axis.{Axis}
+use Rattle.count.proofs.laws.Axes.{each-of}
+use Rattle.motion.specs.Axes.{on}
 use Rattle.motion.specs.Phase.{pulses}
+use Rattle.motion.specs.work.Room.{noFurther}
 use Rattle.motion.specs.Next.{leg, fromOf, toOf, signsBy, stepped}
 use Rattle.motion.specs.work.Here.{signHere, withinOf}
 use Rattle.motion.specs.work.Beat.{beatOf, beaten}
-use Rattle.motion.proofs.laws.Pulses.{pulses-small, most-x, most-y, most-z}
+use Rattle.motion.proofs.laws.Pulses.{pulses-small, most-on}
 
 -- products of the formula fit 64 bits
 pub product : (k a p q : ℕ) → k ≤ p → a ≤ q → k * a ≤ p * q
 product k a p q h l = omega (arith, mul-le-mul-right a h, mul-le-mul-left p l)
 
-pub ready : (f t : Counters) (k n : ℕ) → n ≡ pulses f t → k < n → (n < 16777216) × (far (f .x) (t .x) ≤ n) × (far (f .y) (t .y) ≤ n) × (far (f .z) (t .z) ≤ n)
+pub ready : (f t : Counters) (k n : ℕ) → n ≡ pulses f t → k < n → (n < 16777216) × noFurther f t n
 ready f t k n e l =
     let h : k < pulses f t = rw e at l in
-    rw e (pulses-small f t, most-x f t k h, most-y f t k h, most-z f t k h)
+    rw e (pulses-small f t, each-of (λ (i : Axis). far (on i f) (on i t) ≤ pulses f t) (most-on f t k h))
 
 -- the pulse of a phase from its parts, as the code has them
 module _ (m : Move) (at : Counters) {f t : Counters} {n : ℕ} (p : f ≡ fromOf m) (q : t ≡ toOf m) (e : n ≡ pulses f t) where

@@ -1,4 +1,5 @@
 pub mod Axis
+pub mod Points
 pub mod Pulses
 pub mod Passed
 pub mod Plans

@@ -76,8 +76,7 @@ fn first_speed(three: bool, at: Counters, goals: Counters, words: [u32; 8]) -> u
 // The movement through its resting points.
 fn route_of(axes: u8, three: bool, at: Counters, words: [u32; 8], goals: Counters, z2: u32) -> Move
     requires { ⌜ (firstSpeed (asked axes three at at true words) goals ≤ 10000)
-        × (laterSpeed (asked axes three at at true words) 5 ≤ 10000) × (laterSpeed (asked axes three at at true words) 7 ≤ 10000)
-        × (rightSpeeds axes words ≡ true) ⌝ }
+        × (laterSpeed (asked axes three at at true words) 5 ≤ 10000) × (laterSpeed (asked axes three at at true words) 7 ≤ 10000) ⌝ }
     ensures { λ r. ⌜ r ≡ route (asked axes three at at true words) goals z2 ⌝ }
 {
     let own = count::has(axes as u32, Axis::Z) & !three;

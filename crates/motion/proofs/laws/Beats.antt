@@ -6,6 +6,9 @@ use lib.Dec.{ltb, eqb}
 use native.Mathlib.Omega.{arith}
 use borrow.Author.Tests.{lt-ltb}
 use Rattle.count.specs.Pick.{pick}
+use Rattle.count.specs.declared.Axis.{Axis}
+use Rattle.count.specs.Axes.{Each}
+use Rattle.count.proofs.laws.Axes.{each-at}
 use Rattle.motion.specs.declared.Counters.{Counters}
 use Rattle.motion.specs.declared.Signs.{Signs}
 use Rattle.motion.specs.declared.Move.{Move}
@@ -17,52 +20,50 @@ use Rattle.motion.specs.declared.Look.the-variants as look
 use Rattle.motion.specs.declared.Stepped.{Stepped}
 use Rattle.motion.specs.declared.Next.{Next}
 use Rattle.motion.specs.declared.Next.the-variants.{Over, Made}
+use Rattle.motion.specs.Axes.{on}
 use Rattle.motion.specs.Next.{fromOf, toOf, leg, atPhase, skipped, settled, signsBy, stepped}
 use Rattle.motion.specs.work.Here.{signHere, nextOf, withinOf}
 use Rattle.motion.specs.work.Beat.{markOf, atMark, beatOf, beaten, nextBack, lookedBy}
+use Rattle.motion.proofs.laws.Points.{same-point}
 use Rattle.motion.proofs.laws.Skip.{skip-with, settled-here, onward}
 use Rattle.motion.proofs.laws.Within.{next-settled}
 
 -- ---- the points of a phase, count by count
 
 -- one of four points is, on each axis, one of four counts
-from-by : (a b c : Bool) (p q r s : Counters)
-    → _≡_ {A = Counters} (record {
-      x = pick a (p .x) (pick b (q .x) (pick c (r .x) (s .x)));
-      y = pick a (p .y) (pick b (q .y) (pick c (r .y) (s .y)));
-      z = pick a (p .z) (pick b (q .z) (pick c (r .z) (s .z)));
-    }) (pick a p (pick b q (pick c r s)))
-from-by true b c p q r s = refl
-from-by false true c p q r s = refl
-from-by false false true p q r s = refl
-from-by false false false p q r s = refl
+pick-on : (i : Axis) (b : Bool) (p q : Counters) → pick b (on i p) (on i q) ≡ on i (pick b p q)
+pick-on i true p q = refl
+pick-on i false p q = refl
 
-to-by : (a b : Bool) (p q r : Counters)
-    → _≡_ {A = Counters} (record {
-      x = pick a (p .x) (pick b (q .x) (r .x));
-      y = pick a (p .y) (pick b (q .y) (r .y));
-      z = pick a (p .z) (pick b (q .z) (r .z));
-    }) (pick a p (pick b q r))
-to-by true b p q r = refl
-to-by false true p q r = refl
-to-by false false p q r = refl
+abbrev fromAxis : ℕ → ℕ → ℕ → ℕ → ℕ → ℕ
+fromAxis k a b c d = pick (eqb k 0) a (pick (eqb k 1) b (pick (eqb k 2) c d))
 
-abbrev fromAxis : Mark → ℕ → ℕ → ℕ → ℕ → ℕ
-fromAxis k a b c d = pick (eqb (k .phase) 0) a (pick (eqb (k .phase) 1) b (pick (eqb (k .phase) 2) c d))
+abbrev toAxis : ℕ → ℕ → ℕ → ℕ → ℕ
+toAxis k b c d = pick (eqb k 0) b (pick (eqb k 1) c d)
 
-abbrev toAxis : Mark → ℕ → ℕ → ℕ → ℕ
-toAxis k b c d = pick (eqb (k .phase) 0) b (pick (eqb (k .phase) 1) c d)
-
-module _ (m : Move) (k : Mark) {x y z : ℕ} where
-  pub from-by-axis : x ≡ fromAxis k (m .start .x) (m .first .x) (m .second .x) (m .third .x) → y ≡ fromAxis k (m .start .y) (m .first .y) (m .second .y) (m .third .y)
-      → z ≡ fromAxis k (m .start .z) (m .first .z) (m .second .z) (m .third .z) → _≡_ {A = Counters} (record { x = x; y = y; z = z }) (fromOf (atMark m k))
+module _ (m : Move) (i : Axis) where
+  from-on : fromAxis (m .phase) (on i (m .start)) (on i (m .first)) (on i (m .second)) (on i (m .third)) ≡ on i (fromOf m)
   unfolding fromOf
-  from-by-axis p q r = rw (p, q, r) (from-by (eqb (k .phase) 0) (eqb (k .phase) 1) (eqb (k .phase) 2) (m .start) (m .first) (m .second) (m .third))
+  from-on =
+      ap (λ (n : ℕ). pick (eqb (m .phase) 0) (on i (m .start)) n)
+      (ap (λ (n : ℕ). pick (eqb (m .phase) 1) (on i (m .first)) n) (pick-on i (eqb (m .phase) 2) (m .second) (m .third)) ∙ pick-on i (eqb (m .phase) 1) (m .first) _)
+      ∙ pick-on i (eqb (m .phase) 0) (m .start) _
 
-  pub to-by-axis : x ≡ toAxis k (m .first .x) (m .second .x) (m .third .x) → y ≡ toAxis k (m .first .y) (m .second .y) (m .third .y)
-      → z ≡ toAxis k (m .first .z) (m .second .z) (m .third .z) → _≡_ {A = Counters} (record { x = x; y = y; z = z }) (toOf (atMark m k))
+  to-on : toAxis (m .phase) (on i (m .first)) (on i (m .second)) (on i (m .third)) ≡ on i (toOf m)
   unfolding toOf
-  to-by-axis p q r = rw (p, q, r) (to-by (eqb (k .phase) 0) (eqb (k .phase) 1) (m .first) (m .second) (m .third))
+  to-on =
+      ap (λ (n : ℕ). pick (eqb (m .phase) 0) (on i (m .first)) n) (pick-on i (eqb (m .phase) 1) (m .second) (m .third))
+      ∙ pick-on i (eqb (m .phase) 0) (m .first) _
+
+-- a point that has on each axis the count of the phase's start is that start, and so of its end
+module _ (m : Move) {c : Counters} where
+  pub from-by-axis : Each (λ i. on i c ≡ fromAxis (m .phase) (on i (m .start)) (on i (m .first)) (on i (m .second)) (on i (m .third))) → c ≡ fromOf m
+  from-by-axis e =
+      same-point (λ i. each-at (λ (j : Axis). on j c ≡ fromAxis (m .phase) (on j (m .start)) (on j (m .first)) (on j (m .second)) (on j (m .third))) e i ∙ from-on m i)
+
+  pub to-by-axis : Each (λ i. on i c ≡ toAxis (m .phase) (on i (m .first)) (on i (m .second)) (on i (m .third))) → c ≡ toOf m
+  to-by-axis e =
+      same-point (λ i. each-at (λ (j : Axis). on j c ≡ toAxis (m .phase) (on j (m .first)) (on j (m .second)) (on j (m .third))) e i ∙ to-on m i)
 
 -- ---- only the mark changes
 

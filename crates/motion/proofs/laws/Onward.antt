@@ -8,13 +8,17 @@ use lib.Dec.{ltb}
 use borrow.Author.Tests.{lt-ltb, le-ltb, ltb-true, ltb-false}
 use Rattle.count.specs.Pick.{pick}
 use Rattle.count.specs.Numbers.{far, full}
+use Rattle.count.specs.declared.Axis.{Axis}
+use Rattle.count.proofs.laws.Axes.{each-of}
 use Rattle.motion.specs.declared.Counters.{Counters}
+use Rattle.motion.specs.declared.Sign.{Sign}
 use Rattle.motion.specs.declared.Signs.{Signs}
 use Rattle.motion.specs.declared.Move.{Move}
 use Rattle.motion.specs.declared.Stepped.{Stepped}
 use Rattle.motion.specs.declared.Next.{Next}
 use Rattle.motion.specs.declared.Next.the-variants.{Made, Over}
 use Rattle.motion.specs.work.Here.{signHere}
+use Rattle.motion.specs.Axes.{on, shows, pulse}
 use Rattle.motion.specs.Phase.{signAt, countAfter, moved, movedAll}
 use Rattle.motion.specs.work.Here.{nextOf}
 use Rattle.motion.specs.Next.{fromOf, toOf, leg, atPhase, settled, SignRule, signsBy, stepped, nextBy, pulseOf, afterOf, leftOf}
@@ -22,8 +26,9 @@ use Rattle.motion.specs.Sound.{speedRight, counted, underWay}
 use Rattle.motion.proofs.laws.Room.{room-here}
 use Rattle.motion.specs.work.Room.{room, hasRoom}
 use Rattle.motion.proofs.laws.Axis.{here-is-at, count-next, count-small}
+use Rattle.motion.proofs.laws.Points.{shows-pulse, on-moved}
 use Rattle.motion.proofs.laws.Pulses.{In24}
-use Rattle.motion.proofs.laws.Passed.{Ranges, speed-in, from-in, to-in, leg-x, leg-y, leg-z, Passed, passed, passes, counted-of}
+use Rattle.motion.proofs.laws.Passed.{Ranges, speed-in, from-in, to-in, leg-on, Passed, passed, passes, counted-of}
 use Rattle.motion.proofs.laws.Skip.{Stood, stood-settled, settled-past, leg-past, left-past, left-settled, third-settled}
 
 -- ---- the two cases of a next pulse
@@ -108,7 +113,7 @@ abbrev pub formula : SignRule
 formula here from to k n = signAt k from to n
 
 pub stood : (m : Move) (at : Counters) → underWay m at ≡ true → Stood m at
-stood m at u = let p = passed m at u in record { ranges = p .ranges; made = p .made; x = p .x; y = p .y; z = p .z }
+stood m at u = let p = passed m at u in record { ranges = p .ranges; made = p .made; stands = p .stands }
 
 module _ (m : Move) (at : Counters) (s : Stood m at) (l : m .made < leg m) where
   r : Ranges m
@@ -117,20 +122,20 @@ module _ (m : Move) (at : Counters) (s : Stood m at) (l : m .made < leg m) where
   -- both rules show the same
   agrees : signsBy signHere at (fromOf m) (toOf m) (m .made) (leg m) ≡ signsBy formula at (fromOf m) (toOf m) (m .made) (leg m)
   agrees =
-      let ex = axis-agrees (at .x) (m .made) (fromOf m .x) (toOf m .x) (leg m) (s .x) l (leg-x m r) in
-      let ey = axis-agrees (at .y) (m .made) (fromOf m .y) (toOf m .y) (leg m) (s .y) l (leg-y m r) in
-      let ez = axis-agrees (at .z) (m .made) (fromOf m .z) (toOf m .z) (leg m) (s .z) l (leg-z m r) in
-      λ i. record { x = ex i; y = ey i; z = ez i }
+      let h : (i : Axis) → signHere (on i at) (on i (fromOf m)) (on i (toOf m)) (m .made) (leg m) ≡ signAt (m .made) (on i (fromOf m)) (on i (toOf m)) (leg m) =
+      λ i. axis-agrees (on i at) (m .made) (on i (fromOf m)) (on i (toOf m)) (leg m) (s .stands i) l (leg-on m r i) in
+      λ j. pulse (λ i. h i j)
+
+  -- what the pulse shows on an axis
+  shown-on : (i : Axis) → shows i (pulseBy formula m at .signs) ≡ signAt (m .made) (on i (fromOf m)) (on i (toOf m)) (leg m)
+  shown-on = shows-pulse (λ (i : Axis). signAt (m .made) (on i (fromOf m)) (on i (toOf m)) (leg m))
 
   -- every count has room for its sign
   rooms : hasRoom at (pulseBy formula m at .signs)
   rooms =
-      let a = from-in m r in
-      let b = to-in m r in (
-        axis-room (at .x) (m .made) (fromOf m .x) (toOf m .x) (leg m) (s .x) l (leg-x m r) (a .x) (b .x),
-        axis-room (at .y) (m .made) (fromOf m .y) (toOf m .y) (leg m) (s .y) l (leg-y m r) (a .y) (b .y),
-        axis-room (at .z) (m .made) (fromOf m .z) (toOf m .z) (leg m) (s .z) l (leg-z m r) (a .z) (b .z),
-      )
+      each-of (λ (i : Axis). room (on i at) (shows i (pulseBy formula m at .signs)))
+      (λ i. rw (shown-on i)
+      (axis-room (on i at) (m .made) (on i (fromOf m)) (on i (toOf m)) (leg m) (s .stands i) l (leg-on m r i) (from-in m r .each i) (to-in m r .each i)))
 
   within-phases : m .phase < 3
   within-phases = by (ltb (m .phase) 3) refl
@@ -139,6 +144,12 @@ module _ (m : Move) (at : Counters) (s : Stood m at) (l : m .made < leg m) where
       by true e = ltb-true (m .phase) 3 e
       by false e = absurd (omega (arith, leg-past m (ltb-false (m .phase) 3 e)))
 
+  -- an axis after the pulse
+  next-on : (i : Axis) → on i (pulseBy formula m at .at) ≡ countAfter (m .made + 1) (on i (fromOf m)) (on i (toOf m)) (leg m)
+  next-on i =
+      on-moved at (pulseBy formula m at .signs) i ∙ ap (λ (g : Sign). moved (on i at) g) (shown-on i)
+      ∙ axis-next (on i at) (m .made) (on i (fromOf m)) (on i (toOf m)) (leg m) (s .stands i) l (leg-on m r i)
+
   -- the movement after the pulse passes at the counters after it
   goes-on : Passed (pulseBy formula m at .rest) (pulseBy formula m at .at)
   unfolding fromOf toOf
@@ -146,25 +157,15 @@ module _ (m : Move) (at : Counters) (s : Stood m at) (l : m .made < leg m) where
     ranges = record { speed1 = r .speed1; speed2 = r .speed2; speed3 = r .speed3; start = r .start; first = r .first; second = r .second; third = r .third };
     phase = within-phases;
     made = omega arith;
-    x = axis-next (at .x) (m .made) (fromOf m .x) (toOf m .x) (leg m) (s .x) l (leg-x m r);
-    y = axis-next (at .y) (m .made) (fromOf m .y) (toOf m .y) (leg m) (s .y) l (leg-y m r);
-    z = axis-next (at .z) (m .made) (fromOf m .z) (toOf m .z) (leg m) (s .z) l (leg-z m r);
+    stands = next-on;
   }
 
   -- which are of 24 bits
   stays : In24 (pulseBy formula m at .at)
-  stays =
-      let a = from-in m r in
-      let b = to-in m r in
-      let k = m .made + 1 in
-      let nx = axis-next (at .x) (m .made) (fromOf m .x) (toOf m .x) (leg m) (s .x) l (leg-x m r) in
-      let ny = axis-next (at .y) (m .made) (fromOf m .y) (toOf m .y) (leg m) (s .y) l (leg-y m r) in
-      let nz = axis-next (at .z) (m .made) (fromOf m .z) (toOf m .z) (leg m) (s .z) l (leg-z m r) in
-      record {
-        x = rw nx (count-small k (fromOf m .x) (toOf m .x) (leg m) (leg-x m r) (omega arith) (a .x) (b .x));
-        y = rw ny (count-small k (fromOf m .y) (toOf m .y) (leg m) (leg-y m r) (omega arith) (a .y) (b .y));
-        z = rw nz (count-small k (fromOf m .z) (toOf m .z) (leg m) (leg-z m r) (omega arith) (a .z) (b .z));
-      }
+  stays = record {
+    each = λ i. rw (next-on i)
+        (count-small (m .made + 1) (on i (fromOf m)) (on i (toOf m)) (leg m) (leg-on m r i) (omega arith) (from-in m r .each i) (to-in m r .each i));
+  }
 
 -- the code's rule is 01's
 pub next-is-pulse : (m : Move) (at : Counters) → underWay m at ≡ true → nextOf m at ≡ pulseOf m at

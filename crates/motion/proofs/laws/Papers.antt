@@ -19,37 +19,38 @@ use Rattle.motion.specs.declared.Planned.the-variants.{Going, Outside}
 use Rattle.motion.specs.declared.Next.{Next}
 use Rattle.motion.specs.declared.Next.the-variants.{Made, Over}
 use Rattle.motion.specs.declared.Look.the-variants as look
-use Rattle.motion.specs.Plan.{Asked, goalX, goalY, goalZ1, goalZ2, routed, goingTo, planOf, pointThen, plannedPaper}
+use Rattle.count.specs.Axes.{onAll}
+use Rattle.motion.specs.Axes.{pointThen}
+use Rattle.motion.specs.Plan.{Asked, goalOf, goalZ2, lies, goingTo, planOf, plannedPaper}
 use Rattle.motion.specs.Next.{toOf, speedAt, atPhase, nextPaper}
 use Rattle.motion.specs.Sound.{counted, underWay}
 use Rattle.motion.specs.work.Here.{nextOf}
 use Rattle.motion.specs.work.Beat.{beaten, lookedBy, lookOf, beatenPaper, lookPaper}
 use Rattle.motion.proofs.laws.Beats.{next-back}
-use Rattle.motion.proofs.laws.Plans.{plan-sound}
+use Rattle.motion.proofs.laws.Plans.{plan-sound, allLie, routeOf}
 use Rattle.motion.proofs.laws.Whole.{allPulses, reached, whole}
 
--- a resting point whose reply is 0
-abbrev pub lies : Placed → Bool
-lies p = eqb (paper p .number) 48
-
-routed-paper : (q : Asked) (x y z1 z2 : Placed) → plannedPaper (routed q x y z1 z2) .number ≡ pick (lies x && lies y && lies z1 && lies z2) 48 57
-routed-paper q (placed.At x) (placed.At y) (placed.At z1) (placed.At z2) = refl
-routed-paper q (placed.At x) (placed.At y) (placed.At z1) placed.Outside = refl
-routed-paper q (placed.At x) (placed.At y) placed.Outside z2 = refl
-routed-paper q (placed.At x) placed.Outside z1 z2 = refl
-routed-paper q placed.Outside y z1 z2 = refl
+-- a resting point lies in 24 bits exactly if its reply is 0
+lies-paper : (p : Placed) → lies p ≡ eqb (paper p .number) 48
+lies-paper (placed.At c) = refl
+lies-paper placed.Outside = refl
 
 -- A PLAN'S REPLY is 9 exactly if a resting point's is
-pub goals-paper : (q : Asked) → plannedPaper (goingTo q) .number ≡ pick (lies (goalX q) && lies (goalY q) && lies (goalZ1 q) && lies (goalZ2 q)) 48 57
+pub goals-paper : (q : Asked)
+    → plannedPaper (goingTo q) .number ≡ pick (onAll (λ i. eqb (paper (goalOf q i) .number) 48) && eqb (paper (goalZ2 q) .number) 48) 48 57
 unfolding goingTo
-goals-paper q = routed-paper q (goalX q) (goalY q) (goalZ1 q) (goalZ2 q)
+goals-paper q = by (allLie q) ∙ (λ j. pick (onAll (λ i. lies-paper (goalOf q i) j) && lies-paper (goalZ2 q) j) 48 57)
+  where
+    by : (b : Bool) → plannedPaper (pick b (Going (routeOf q)) Outside) .number ≡ pick b 48 57
+    by true = refl
+    by false = refl
 
 -- ITS LAST POINT is where all its pulses lead
 pub end-paper : (q : Asked) (m : Move) → counted (q .at) ≡ true → planOf q ≡ Going m
-    → pointThen (reached (q .at) (allPulses m (q .at))) [] ≡ take 3 (drop 6 (plannedPaper (planOf q) .values))
+    → pointThen (reached (q .at) (allPulses m (q .at))) [] ≡ take 4 (drop 8 (plannedPaper (planOf q) .values))
 end-paper q m c e =
     ap (λ (p : Counters). pointThen p []) (whole m (q .at) (plan-sound q m c e) .ends)
-    ∙ sym (ap (λ (g : Planned). take 3 (drop 6 (plannedPaper g .values))) e)
+    ∙ sym (ap (λ (g : Planned). take 4 (drop 8 (plannedPaper g .values))) e)
 
 -- ITS POINTS AND SPEEDS are those that the phases go to and have, whatever the pulses made
 pub phases-paper : (m : Move) (i j k n : ℕ)

@@ -6,32 +6,27 @@ use lib.Dec.{ltb, leb, eqb}
 use borrow.Author.Tests.{lt-ltb, le-leb, eq-eqb, ltb-true, leb-true, eqb-true}
 use Rattle.count.specs.Pick.{pick}
 use Rattle.count.specs.Numbers.{far, full}
+use Rattle.count.specs.declared.Axis.{Axis}
 use Rattle.count.proofs.laws.Truth.{and-left, and-right, both}
+use Rattle.count.proofs.laws.Axes.{all-each, each-all}
 use Rattle.motion.specs.declared.Counters.{Counters}
 use Rattle.motion.specs.declared.Move.{Move}
+use Rattle.motion.specs.Axes.{on}
 use Rattle.motion.specs.Phase.{countAfter}
 use Rattle.motion.specs.Next.{fromOf, toOf, leg, speedAt}
 use Rattle.motion.specs.Sound.{speedRight, counted, inRange, standsAt, underWay}
 use Rattle.motion.proofs.laws.Axis.{count-small}
-use Rattle.motion.proofs.laws.Pulses.{In24, within-x, within-y, within-z}
+use Rattle.motion.proofs.laws.Pulses.{In24, within-on}
 
--- ---- three counts of 24 bits
+-- ---- counts of 24 bits
 
 pub in24-of : (c : Counters) → counted c ≡ true → In24 c
 unfolding counted
-in24-of c e =
-    let x = ltb (c .x) full in
-    let y = ltb (c .y) full in
-    let z = ltb (c .z) full in
-    record {
-      x = ltb-true (c .x) full (and-left x y (and-left (x && y) z e));
-      y = ltb-true (c .y) full (and-right x y (and-left (x && y) z e));
-      z = ltb-true (c .z) full (and-right (x && y) z e);
-    }
+in24-of c e = record { each = λ i. ltb-true (on i c) full (all-each (λ (j : Axis). ltb (on j c) full) e i) }
 
 pub counted-of : (c : Counters) → In24 c → counted c ≡ true
 unfolding counted
-counted-of c i = both (both (lt-ltb (c .x) full (i .x)) (lt-ltb (c .y) full (i .y))) (lt-ltb (c .z) full (i .z))
+counted-of c h = each-all (λ (j : Axis). ltb (on j c) full) (λ i. lt-ltb (on i c) full (h .each i))
 
 -- ---- speeds and resting points
 
@@ -89,14 +84,8 @@ module _ (m : Move) (r : Ranges m) where
   to-in = pick-in (eqb (m .phase) 0) (m .first) _ (r .first) (pick-in (eqb (m .phase) 1) (m .second) (m .third) (r .second) (r .third))
 
   -- so that no axis has further to go than the phase has pulses
-  pub leg-x : far (fromOf m .x) (toOf m .x) ≤ leg m
-  leg-x = within-x (fromOf m) (toOf m) from-in to-in
-
-  pub leg-y : far (fromOf m .y) (toOf m .y) ≤ leg m
-  leg-y = within-y (fromOf m) (toOf m) from-in to-in
-
-  pub leg-z : far (fromOf m .z) (toOf m .z) ≤ leg m
-  leg-z = within-z (fromOf m) (toOf m) from-in to-in
+  pub leg-on : (i : Axis) → far (on i (fromOf m)) (on i (toOf m)) ≤ leg m
+  leg-on = within-on (fromOf m) (toOf m) from-in to-in
 
   -- and the phase's speed is a speed
   pick-right : (t : Bool) (a b : ℕ) → speedRight a ≡ true → speedRight b ≡ true → speedRight (pick t a b) ≡ true
@@ -115,9 +104,11 @@ pub record Passed (m : Move) (at : Counters) : Type 0 where
   pub ranges : Ranges m
   pub phase : m .phase < 3
   pub made : m .made ≤ leg m
-  pub x : at .x ≡ countAfter (m .made) (fromOf m .x) (toOf m .x) (leg m)
-  pub y : at .y ≡ countAfter (m .made) (fromOf m .y) (toOf m .y) (leg m)
-  pub z : at .z ≡ countAfter (m .made) (fromOf m .z) (toOf m .z) (leg m)
+  pub stands : (i : Axis) → on i at ≡ countAfter (m .made) (on i (fromOf m)) (on i (toOf m)) (leg m)
+
+-- an axis where its pulse number puts it
+abbrev placed : Move → Counters → Axis → Bool
+placed m at i = eqb (on i at) (countAfter (m .made) (on i (fromOf m)) (on i (toOf m)) (leg m))
 
 pub passed : (m : Move) (at : Counters) → underWay m at ≡ true → Passed m at
 unfolding underWay
@@ -125,38 +116,29 @@ passed m at e =
     let r = inRange m in
     let p = ltb (m .phase) 3 in
     let k = leb (m .made) (leg m) in
-    let cx = countAfter (m .made) (fromOf m .x) (toOf m .x) (leg m) in
-    let cy = countAfter (m .made) (fromOf m .y) (toOf m .y) (leg m) in
-    let cz = countAfter (m .made) (fromOf m .z) (toOf m .z) (leg m) in
     let h = and-left (r && (p && k)) (standsAt m at) e in
     let s = and-right (r && (p && k)) (standsAt m at) e in
     let pk = and-right r (p && k) h in
-    let xy = and-left (eqb (at .x) cx && eqb (at .y) cy) (eqb (at .z) cz) s in
     record {
       ranges = ranges-of m (and-left r (p && k) h);
       phase = ltb-true (m .phase) 3 (and-left p k pk);
       made = leb-true (m .made) (leg m) (and-right p k pk);
-      x = eqb-true (at .x) cx (and-left (eqb (at .x) cx) (eqb (at .y) cy) xy);
-      y = eqb-true (at .y) cy (and-right (eqb (at .x) cx) (eqb (at .y) cy) xy);
-      z = eqb-true (at .z) cz (and-right (eqb (at .x) cx && eqb (at .y) cy) (eqb (at .z) cz) s);
+      stands = λ i. eqb-true (on i at) _ (all-each (placed m at) s i);
     }
 
 pub passes : (m : Move) (at : Counters) → Passed m at → underWay m at ≡ true
 unfolding underWay
 passes m at s =
     both (both (of-ranges m (s .ranges)) (both (lt-ltb (m .phase) 3 (s .phase)) (le-leb (m .made) (leg m) (s .made))))
-    (both (both (eq-eqb (at .x) _ (s .x)) (eq-eqb (at .y) _ (s .y))) (eq-eqb (at .z) _ (s .z)))
+    (each-all (placed m at) (λ i. eq-eqb (on i at) _ (s .stands i)))
 
 -- the counters of a movement that passes are of 24 bits
 pub position-in : (m : Move) (at : Counters) → underWay m at ≡ true → counted at ≡ true
 position-in m at u =
     let p = passed m at u in
     let r = p .ranges in
-    let a = from-in m r in
-    let b = to-in m r in
     counted-of at
     (record {
-      x = rw (p .x) (count-small (m .made) (fromOf m .x) (toOf m .x) (leg m) (leg-x m r) (p .made) (a .x) (b .x));
-      y = rw (p .y) (count-small (m .made) (fromOf m .y) (toOf m .y) (leg m) (leg-y m r) (p .made) (a .y) (b .y));
-      z = rw (p .z) (count-small (m .made) (fromOf m .z) (toOf m .z) (leg m) (leg-z m r) (p .made) (a .z) (b .z));
+      each = λ i. rw (p .stands i)
+          (count-small (m .made) (on i (fromOf m)) (on i (toOf m)) (leg m) (leg-on m r i) (p .made) (from-in m r .each i) (to-in m r .each i));
     })

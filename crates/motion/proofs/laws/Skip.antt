@@ -7,12 +7,14 @@ use lib.Dec.{ltb, leb, eqb}
 use borrow.Author.Tests.{lt-ltb, ne-eqb, ltb-true, ltb-false, leb-true, leb-false}
 use Rattle.count.specs.Pick.{pick}
 use Rattle.count.specs.Numbers.{far}
+use Rattle.count.specs.declared.Axis.{Axis}
 use Rattle.motion.specs.declared.Counters.{Counters}
 use Rattle.motion.specs.declared.Move.{Move}
+use Rattle.motion.specs.Axes.{on}
 use Rattle.motion.specs.Phase.{most, pulses, countAfter}
 use Rattle.motion.specs.Next.{fromOf, toOf, leg, atPhase, skipped, settled, afterOf, leftOf}
 use Rattle.motion.proofs.laws.Axis.{count-first, count-last}
-use Rattle.motion.proofs.laws.Passed.{Ranges, leg-x, leg-y, leg-z}
+use Rattle.motion.proofs.laws.Passed.{Ranges, leg-on}
 
 -- the movement at the start of the phase after
 abbrev pub onward : Move → Move
@@ -69,8 +71,11 @@ module _ (m : Move) (h : 3 ≤ m .phase) where
   unfolding afterOf
   after-past = rw (ne-eqb (m .phase) 0 (λ e. omega arith), ne-eqb (m .phase) 1 (λ e. omega arith))
 
+far-none : (n : ℕ) → far n n ≡ 0
+far-none n = omega arith
+
 most-none : (c : Counters) → most c c ≡ 0
-most-none c = omega arith
+most-none c = rw (far-none (c .x), far-none (c .y), far-none (c .z), far-none (c .a))
 
 pulses-none : (c : Counters) → pulses c c ≡ 0
 unfolding pulses
@@ -129,9 +134,7 @@ left-settled m = left-skip (skipped (skipped m)) ∙ left-skip (skipped m) ∙ l
 pub record Stood (m : Move) (at : Counters) : Type 0 where
   pub ranges : Ranges m
   pub made : m .made ≤ leg m
-  pub x : at .x ≡ countAfter (m .made) (fromOf m .x) (toOf m .x) (leg m)
-  pub y : at .y ≡ countAfter (m .made) (fromOf m .y) (toOf m .y) (leg m)
-  pub z : at .z ≡ countAfter (m .made) (fromOf m .z) (toOf m .z) (leg m)
+  pub stands : (i : Axis) → on i at ≡ countAfter (m .made) (on i (fromOf m)) (on i (toOf m)) (leg m)
 
 ranges-onward : (m : Move) → Ranges m → Ranges (onward m)
 ranges-onward m r =
@@ -145,14 +148,12 @@ stood-onward m at s o d =
     let r = s .ranges in
     let j = joined m o in
     let t = toOf (onward m) in
-    let n = leg (onward m) in
     let k : m .made ≡ leg m = omega arith in
     record {
       ranges = ranges-onward m r;
       made = omega arith;
-      x = rw j (axis-onward (at .x) (m .made) (fromOf m .x) (toOf m .x) (leg m) (t .x) (pulses (toOf m) t) (s .x) k (leg-x m r));
-      y = rw j (axis-onward (at .y) (m .made) (fromOf m .y) (toOf m .y) (leg m) (t .y) (pulses (toOf m) t) (s .y) k (leg-y m r));
-      z = rw j (axis-onward (at .z) (m .made) (fromOf m .z) (toOf m .z) (leg m) (t .z) (pulses (toOf m) t) (s .z) k (leg-z m r));
+      stands = λ i. rw j
+          (axis-onward (on i at) (m .made) (on i (fromOf m)) (on i (toOf m)) (leg m) (on i t) (pulses (toOf m) t) (s .stands i) k (leg-on m r i));
     }
 
 pub stood-settled : (m : Move) (at : Counters) → Stood m at → Stood (settled m) at

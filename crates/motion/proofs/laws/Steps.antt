@@ -6,15 +6,18 @@ use native.Mathlib.Omega.{arith}
 use lib.Dec.{ltb}
 use borrow.Author.Tests.{ltb-true, lt-ltb, le-ltb, ltb-false}
 use Rattle.count.specs.Numbers.{full}
-use Rattle.count.proofs.laws.Truth.{and-left, and-right}
+use Rattle.count.specs.declared.Axis.{Axis}
+use Rattle.count.proofs.laws.Axes.{all-each, each-of}
 use Rattle.motion.specs.declared.Counters.{Counters}
 use Rattle.motion.specs.declared.Signs.{Signs}
 use Rattle.motion.specs.declared.Sign.{Sign}
 use Rattle.motion.specs.declared.Sign.the-variants.{Minus, Rest, Plus}
 use Rattle.motion.specs.declared.Moved.the-variants.{To, Outside}
+use Rattle.motion.specs.Axes.{on, shows}
 use Rattle.motion.specs.Phase.{moved, movedAll}
 use Rattle.motion.specs.Pulse.{hasStep, haveSteps, stepTo}
 use Rattle.motion.specs.work.Room.{room, hasRoom}
+use Rattle.motion.proofs.laws.Points.{on-moved}
 use Rattle.motion.proofs.laws.Pulses.{In24}
 
 -- a step up ends within 24 bits exactly below the last count
@@ -37,26 +40,17 @@ step-small c Minus h l = omega arith
 step-small c Rest h l = l
 step-small c Plus h l = ltb-true (c + 1) full h
 
--- ---- three
+-- ---- each count
 
 module _ (c : Counters) (s : Signs) (h : haveSteps c s ≡ true) where
-  xy : hasStep (c .x) (s .x) && hasStep (c .y) (s .y) ≡ true
-  xy = and-left (hasStep (c .x) (s .x) && hasStep (c .y) (s .y)) (hasStep (c .z) (s .z)) h
-
-  hx : hasStep (c .x) (s .x) ≡ true
-  hx = and-left (hasStep (c .x) (s .x)) (hasStep (c .y) (s .y)) xy
-
-  hy : hasStep (c .y) (s .y) ≡ true
-  hy = and-right (hasStep (c .x) (s .x)) (hasStep (c .y) (s .y)) xy
-
-  hz : hasStep (c .z) (s .z) ≡ true
-  hz = and-right (hasStep (c .x) (s .x) && hasStep (c .y) (s .y)) (hasStep (c .z) (s .z)) h
+  step-on : (i : Axis) → hasStep (on i c) (shows i s) ≡ true
+  step-on = all-each (λ (i : Axis). hasStep (on i c) (shows i s)) h
 
   pub steps-room : hasRoom c s
-  steps-room = (step-room (c .x) (s .x) hx, step-room (c .y) (s .y) hy, step-room (c .z) (s .z) hz)
+  steps-room = each-of (λ (i : Axis). room (on i c) (shows i s)) (λ i. step-room (on i c) (shows i s) (step-on i))
 
   pub steps-small : In24 c → In24 (movedAll c s)
-  steps-small i = record { x = step-small (c .x) (s .x) hx (i .x); y = step-small (c .y) (s .y) hy (i .y); z = step-small (c .z) (s .z) hz (i .z) }
+  steps-small l = record { each = λ i. rw (on-moved c s i) (step-small (on i c) (shows i s) (step-on i) (l .each i)) }
 
 -- ---- the step
 
@@ -65,14 +59,14 @@ unfolding stepTo
 step-made c s h = rw h
 
 -- from the code's tests
-module _ (c : Counters) (s : Signs) {x y z : Bool} (p : x ≡ hasStep (c .x) (s .x)) (q : y ≡ hasStep (c .y) (s .y)) (r : z ≡ hasStep (c .z) (s .z)) where
-  pub tested : x && y && z ≡ haveSteps c s
-  tested = rw (p, q, r)
+module _ (c : Counters) (s : Signs) {x y z a : Bool} (p : x ≡ hasStep (c .x) (s .x)) (q : y ≡ hasStep (c .y) (s .y)) (r : z ≡ hasStep (c .z) (s .z)) (t : a ≡ hasStep (c .a) (s .a)) where
+  pub tested : x && y && z && a ≡ haveSteps c s
+  tested = rw (p, q, r, t)
 
-  pub to-made : {d : Counters} → x && y && z ≡ true → d ≡ movedAll c s → To d ≡ stepTo c s
+  pub to-made : {d : Counters} → x && y && z && a ≡ true → d ≡ movedAll c s → To d ≡ stepTo c s
   unfolding stepTo
   to-made h e = rw (e, sym tested, h)
 
-  pub to-none : x && y && z ≡ false → Outside ≡ stepTo c s
+  pub to-none : x && y && z && a ≡ false → Outside ≡ stepTo c s
   unfolding stepTo
   to-none h = rw (sym tested, h)

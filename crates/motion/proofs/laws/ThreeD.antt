@@ -1,14 +1,17 @@
 -- z2 stays in 3D: two movements asked for whose numbers are right and differ in z2 alone have the same plan, so the same pulses with the
--- same speeds and the same end. The same holds of absolute movement. Assumes nothing.
+-- same speeds and the same end. The same holds of absolute movement. With A set there is no z2. Assumes nothing.
 use mathlib.Core.Path.{_≡_, refl, sym, ap, _∙_}
 use mathlib.Core.Bool.{Bool, true, false, _&&_, not}
 use mathlib.Core.List.{List}
 use Prim.Native.Nat.{ℕ}
 use native.Mathlib.Omega.{arith}
-use lib.Dec.{ltb}
+use lib.Dec.{ltb, eqb}
 use lib.ListN.{getD}
 use Rattle.count.specs.Pick.{pick}
 use Rattle.count.specs.Numbers.{far}
+use Rattle.count.specs.declared.Axis.{Axis}
+use Rattle.count.specs.declared.Axis.the-variants.{X, Y, Z, A}
+use Rattle.count.specs.Axes.{has, onAll}
 use Rattle.count.specs.Ranges.{rightDistances, rightSpeeds}
 use Rattle.count.specs.declared.Placed.{Placed}
 use Rattle.count.specs.declared.Placed.the-variants as placed
@@ -16,7 +19,8 @@ use Rattle.motion.specs.declared.Counters.{Counters}
 use Rattle.motion.specs.declared.Move.{Move}
 use Rattle.motion.specs.declared.Planned.{Planned}
 use Rattle.motion.specs.declared.Planned.the-variants.{Going, Outside}
-use Rattle.motion.specs.Plan.{Asked, asked, goal, goalX, goalY, goalZ1, goalZ2, hasY, hasZ, movesZ2, onFrom, firstSpeed, laterSpeed, route, routed, goingTo, planOf}
+use Rattle.motion.specs.Axes.{point}
+use Rattle.motion.specs.Plan.{Asked, asked, goal, goalOf, goalZ2, movesZ2, onFrom, firstSpeed, laterSpeed, restingAt, withZ, route, lies, countOf, goingTo, planOf}
 use Rattle.motion.proofs.laws.Whole.{allPulses}
 
 -- the same numbers but for z2, which stands at 6
@@ -45,17 +49,18 @@ still-absolute true false = refl
 still-absolute false c = refl
 
 pub three-still : (q : Asked) → q .three ≡ true → movesZ2 q ≡ false
-three-still q e = ap (λ (b : Bool). hasZ q && not b && not (q .absolute)) e ∙ still-three (hasZ q) (not (q .absolute))
+three-still q e = ap (λ (b : Bool). eqb (q .axes) 7 && not b && not (q .absolute)) e ∙ still-three (eqb (q .axes) 7) (not (q .absolute))
 
 pub absolute-still : (q : Asked) → q .absolute ≡ true → movesZ2 q ≡ false
-absolute-still q e = ap (λ (b : Bool). hasZ q && not (q .three) && not b) e ∙ still-absolute (hasZ q) (not (q .three))
+absolute-still q e = ap (λ (b : Bool). eqb (q .axes) 7 && not (q .three) && not b) e ∙ still-absolute (eqb (q .axes) 7) (not (q .three))
 
 -- where z2 does not move, the movement ends where z1 rests
-pub still-z2 : (q : Asked) → movesZ2 q ≡ false → goalZ2 q ≡ goalZ1 q
+pub still-z2 : (q : Asked) → movesZ2 q ≡ false → goalZ2 q ≡ goalOf q Z
 unfolding goalZ2
-still-z2 q e = ap (λ (b : Bool). pick b (onFrom (goalZ1 q) (getD (q .words) 6 0)) (goalZ1 q)) e
+still-z2 q e = ap (λ (b : Bool). pick b (onFrom (goalOf q Z) (getD (q .words) 6 0)) (goalOf q Z)) e
 
-module _ (q : Asked) (m : List ℕ) (s : SameButZ2 (q .words) m) where
+-- with A the number at 6 is A's, so z2 is one without A only
+module _ (q : Asked) (m : List ℕ) (s : SameButZ2 (q .words) m) (no : has (q .axes) A ≡ false) where
   w0 : getD (q .words) 0 0 ≡ getD m 0 0
   w0 = s .others 0 (λ e. omega arith)
 
@@ -77,55 +82,42 @@ module _ (q : Asked) (m : List ℕ) (s : SameButZ2 (q .words) m) where
   w7 : getD (q .words) 7 0 ≡ getD m 7 0
   w7 = s .others 7 (λ e. omega arith)
 
-  x-same : goalX q ≡ goalX (withWords q m)
-  unfolding goalX
-  x-same = λ i. goal (q .absolute) (q .at .x) (q .origin .x) (w0 i)
-
-  y-same : goalY q ≡ goalY (withWords q m)
-  unfolding goalY
-  y-same = λ i. pick (hasY q) (goal (q .absolute) (q .at .y) (q .origin .y) (w2 i)) (placed.At (q .at .y))
-
-  z1-same : goalZ1 q ≡ goalZ1 (withWords q m)
-  unfolding goalZ1
-  z1-same = λ i. pick (hasZ q) (goal (q .absolute) (q .at .z) (q .origin .z) (w4 i)) (placed.At (q .at .z))
+  goal-same : (i : Axis) → goalOf q i ≡ goalOf (withWords q m) i
+  unfolding goalOf
+  goal-same X = λ j. pick (has (q .axes) X) (goal (q .absolute) (q .at .x) (q .origin .x) (w0 j)) (placed.At (q .at .x))
+  goal-same Y = λ j. pick (has (q .axes) Y) (goal (q .absolute) (q .at .y) (q .origin .y) (w2 j)) (placed.At (q .at .y))
+  goal-same Z = λ j. pick (has (q .axes) Z) (goal (q .absolute) (q .at .z) (q .origin .z) (w4 j)) (placed.At (q .at .z))
+  goal-same A = rw no
 
   z2-same : movesZ2 q ≡ false → goalZ2 q ≡ goalZ2 (withWords q m)
-  z2-same n = still-z2 q n ∙ z1-same ∙ sym (still-z2 (withWords q m) n)
+  z2-same n = still-z2 q n ∙ goal-same Z ∙ sym (still-z2 (withWords q m) n)
 
-  first-same : (x y : ℕ) → firstSpeed q x y ≡ firstSpeed (withWords q m) x y
+  first-same : (goals : Counters) → firstSpeed q goals ≡ firstSpeed (withWords q m) goals
   unfolding firstSpeed
-  first-same x y = λ i. pick (q .three) (w1 i) (pick (ltb (far (q .at .x) x) (far (q .at .y) y)) (w3 i) (w1 i))
+  first-same goals = λ j. pick (q .three) (w1 j) (pick (ltb (far (q .at .x) (goals .x)) (far (q .at .y) (goals .y))) (w3 j) (w1 j))
 
   later-same : (k : ℕ) → getD (q .words) k 0 ≡ getD m k 0 → laterSpeed q k ≡ laterSpeed (withWords q m) k
   unfolding laterSpeed
-  later-same k w = λ i. pick (hasZ q && not (q .three)) (w i) (w1 i)
+  later-same k w = λ j. pick (has (q .axes) Z && not (q .three)) (w j) (w1 j)
 
-  route-same : (x y z1 z2 : ℕ) → route q x y z1 z2 ≡ route (withWords q m) x y z1 z2
+  route-same : (goals : Counters) (z2 : ℕ) → route q goals z2 ≡ route (withWords q m) goals z2
   unfolding route
-  route-same x y z1 z2 = λ i. record {
+  route-same goals z2 = λ j. record {
     start = q .at;
-    first = record { x = x; y = y; z = pick (q .three) z1 (q .at .z) };
-    second = record { x = x; y = y; z = z1 };
-    third = record { x = x; y = y; z = z2 };
-    speed1 = first-same x y i;
-    speed2 = later-same 5 w5 i;
-    speed3 = later-same 7 w7 i;
+    first = restingAt q goals 0;
+    second = restingAt q goals 1;
+    third = withZ (restingAt q goals 2) z2;
+    speed1 = first-same goals j;
+    speed2 = later-same 5 w5 j;
+    speed3 = later-same 7 w7 j;
     phase = 0;
     made = 0;
   }
 
-  routed-same : (x y z1 z2 : Placed) → routed q x y z1 z2 ≡ routed (withWords q m) x y z1 z2
-  routed-same (placed.At x) (placed.At y) (placed.At z1) (placed.At z2) = ap Going (route-same x y z1 z2)
-  routed-same (placed.At x) (placed.At y) (placed.At z1) placed.Outside = refl
-  routed-same (placed.At x) (placed.At y) placed.Outside z2 = refl
-  routed-same (placed.At x) placed.Outside z1 z2 = refl
-  routed-same placed.Outside y z1 z2 = refl
-
   going-same : movesZ2 q ≡ false → goingTo q ≡ goingTo (withWords q m)
   unfolding goingTo
-  going-same n =
-      let u : Asked = withWords q m in
-      routed-same (goalX q) (goalY q) (goalZ1 q) (goalZ2 q) ∙ (λ i. routed u (x-same i) (y-same i) (z1-same i) (z2-same n i))
+  going-same n = λ j. pick (onAll (λ i. lies (goal-same i j)) && lies (z2-same n j))
+      (Going (route-same (point (λ i. countOf (goal-same i j))) (countOf (z2-same n j)) j)) Outside
 
   module _ (p : rightAsked q ≡ true) (r : rightAsked (withWords q m) ≡ true) where
     pub still-plan : movesZ2 q ≡ false → planOf q ≡ planOf (withWords q m)

@@ -7,6 +7,8 @@ use native.Mathlib.Omega.{arith}
 use lib.IntN.{ℤ, pos, _+ℤ_, +ℤ-idr, +ℤ-assoc}
 use lib.ListN.{length}
 use Rattle.count.specs.Numbers.{far, half, value}
+use Rattle.count.specs.declared.Axis.{Axis}
+use Rattle.count.proofs.laws.Axes.{each-at}
 use Rattle.count.proofs.laws.Laws.{sub-eq, sub-plus, sub-minus}
 use Rattle.motion.specs.declared.Counters.{Counters}
 use Rattle.motion.specs.declared.Sign.{Sign}
@@ -17,6 +19,7 @@ use Rattle.motion.specs.declared.Stepped.{Stepped}
 use Rattle.motion.specs.declared.Next.{Next}
 use Rattle.motion.specs.declared.Next.the-variants.{Made, Over}
 use Rattle.motion.specs.declared.Planned.the-variants.{Going}
+use Rattle.motion.specs.Axes.{on, shows}
 use Rattle.motion.specs.Phase.{most, pulses, countAfter, moved, signValue}
 use Rattle.motion.specs.Plan.{Asked, planOf}
 use Rattle.motion.specs.work.Here.{nextOf}
@@ -24,8 +27,9 @@ use Rattle.motion.specs.Next.{fromOf, toOf, leg, settled, pulseOf, after
 use Rattle.motion.specs.Sound.{counted, underWay}
 use Rattle.motion.specs.work.Room.{room, hasRoom}
 use Rattle.motion.proofs.laws.Axis.{count-first, count-last}
+use Rattle.motion.proofs.laws.Points.{on-moved, same-point}
 use Rattle.motion.proofs.laws.Pulses.{pulses-most}
-use Rattle.motion.proofs.laws.Passed.{passed, leg-x, leg-y, leg-z}
+use Rattle.motion.proofs.laws.Passed.{passed, leg-on}
 use Rattle.motion.proofs.laws.Plans.{plan-sound, planned-first}
 use Rattle.motion.proofs.laws.Skip.{stood-settled, settled-past, leg-past, from-past, third-settled}
 use Rattle.motion.proofs.laws.Onward.{formula, stood, next-is-pulse, taken, left-made, left-over, over-is}
@@ -41,11 +45,7 @@ axis-first at k from to n e d = rw (e, d) (count-first from to n)
 pub at-resting-point : (m : Move) (at : Counters) → underWay m at ≡ true → m .made ≡ leg m → at ≡ toOf m
 at-resting-point m at u e =
     let p = passed m at u in
-    let r = p .ranges in
-    let ex = axis-last (at .x) (m .made) (fromOf m .x) (toOf m .x) (leg m) (p .x) e (leg-x m r) in
-    let ey = axis-last (at .y) (m .made) (fromOf m .y) (toOf m .y) (leg m) (p .y) e (leg-y m r) in
-    let ez = axis-last (at .z) (m .made) (fromOf m .z) (toOf m .z) (leg m) (p .z) e (leg-z m r) in
-    λ i. record { x = ex i; y = ey i; z = ez i }
+    same-point (λ i. axis-last (on i at) (m .made) (on i (fromOf m)) (on i (toOf m)) (leg m) (p .stands i) e (leg-on m (p .ranges) i))
 
 -- ---- no guard is met: the pulses of each phase are its greatest distance, and each count has room for its sign
 
@@ -80,9 +80,9 @@ reached at [] = at
 reached at (s ∷ l) = reached (s .at) l
 
 -- the sum of what they show on an axis
-abbrev pub total : (Signs → Sign) → List Stepped → ℤ
-total axis [] = pos 0
-total axis (s ∷ l) = signValue (axis (s .signs)) +ℤ total axis l
+abbrev pub total : Axis → List Stepped → ℤ
+total i [] = pos 0
+total i (s ∷ l) = signValue (shows i (s .signs)) +ℤ total i l
 
 -- a sign on a count is its number added to the count's
 pub value-moved : (c : ℕ) (s : Sign) → room c s → value (moved c s) ≡ value c +ℤ signValue s
@@ -100,19 +100,15 @@ at-rest m at u e =
     let k : t .made ≡ 0 = omega (arith, s .made, leg-past t h) in
     let j : m .third ≡ t .third = sym (third-settled m) in
     let c = from-past t h in
-    let ex = axis-first (at .x) (t .made) (fromOf t .x) (toOf t .x) (leg t) (s .x) k ∙ ap (λ (p : Counters). p .x) c in
-    let ey = axis-first (at .y) (t .made) (fromOf t .y) (toOf t .y) (leg t) (s .y) k ∙ ap (λ (p : Counters). p .y) c in
-    let ez = axis-first (at .z) (t .made) (fromOf t .z) (toOf t .z) (leg t) (s .z) k ∙ ap (λ (p : Counters). p .z) c in
-    let there : at ≡ t .third = λ i. record { x = ex i; y = ey i; z = ez i } in
+    let there : at ≡ t .third =
+    same-point (λ i. axis-first (on i at) (t .made) (on i (fromOf t)) (on i (toOf t)) (leg t) (s .stands i) k ∙ ap (λ (p : Counters). on i p) c) in
     there ∙ sym j
 
 -- the number of pulses is the number left, they end at the last resting point, and on each axis they add up from the start to it
 pub record Whole (k : ℕ) (m : Move) (at : Counters) : Type 0 where
   pub count : length (pulsesOf k m at) ≡ k
   pub ends : reached at (pulsesOf k m at) ≡ m .third
-  pub x : value (at .x) +ℤ total (λ (g : Signs). g .x) (pulsesOf k m at) ≡ value (m .third .x)
-  pub y : value (at .y) +ℤ total (λ (g : Signs). g .y) (pulsesOf k m at) ≡ value (m .third .y)
-  pub z : value (at .z) +ℤ total (λ (g : Signs). g .z) (pulsesOf k m at) ≡ value (m .third .z)
+  pub sums : (i : Axis) → value (on i at) +ℤ total i (pulsesOf k m at) ≡ value (on i (m .third))
 
 -- one pulse more in front
 axis-sum : (at there third : ℕ) (g : Sign) (rest : ℤ) → room at g → there ≡ moved at g → value there +ℤ rest ≡ value third
@@ -135,9 +131,9 @@ module _ (k : ℕ) (rec : (m : Move) (at : Counters) → underWay m at ≡ true 
       record {
         count = rw e (ap suc (w .count));
         ends = rw e (w .ends ∙ v);
-        x = rw e (axis-sum (at .x) (s .at .x) (m .third .x) (s .signs .x) _ (t .rooms .0) (ap (λ (c : Counters). c .x) (t .there)) (w .x ∙ ap (λ (c : Counters). value (c .x)) v));
-        y = rw e (axis-sum (at .y) (s .at .y) (m .third .y) (s .signs .y) _ (t .rooms .1) (ap (λ (c : Counters). c .y) (t .there)) (w .y ∙ ap (λ (c : Counters). value (c .y)) v));
-        z = rw e (axis-sum (at .z) (s .at .z) (m .third .z) (s .signs .z) _ (t .rooms .2) (ap (λ (c : Counters). c .z) (t .there)) (w .z ∙ ap (λ (c : Counters). value (c .z)) v));
+        sums = λ i. rw e
+            (axis-sum (on i at) (on i (s .at)) (on i (m .third)) (shows i (s .signs)) _ (each-at (λ (o : Axis). room (on o at) (shows o (s .signs))) (t .rooms) i)
+            (ap (λ (c : Counters). on i c) (t .there) ∙ on-moved at (s .signs) i) (w .sums i ∙ ap (λ (c : Counters). value (on i c)) v));
       }
   one-more Over e = absurd (omega (arith, over-left m at e))
 
@@ -157,9 +153,7 @@ whole-from zero m at u l =
     record {
       count = refl;
       ends = e;
-      x = +ℤ-idr (value (at .x)) ∙ ap (λ (c : Counters). value (c .x)) e;
-      y = +ℤ-idr (value (at .y)) ∙ ap (λ (c : Counters). value (c .y)) e;
-      z = +ℤ-idr (value (at .z)) ∙ ap (λ (c : Counters). value (c .z)) e;
+      sums = λ i. +ℤ-idr (value (on i at)) ∙ ap (λ (c : Counters). value (on i c)) e;
     }
 whole-from (suc k) m at u l = one-more k (whole-from k) m at u l (pulseOf m at) refl
 

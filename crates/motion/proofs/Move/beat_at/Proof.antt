@@ -16,7 +16,7 @@ pulses-of-requires : tie.Need-pulses-of-requires
 pulses-of-requires c κs = search needs
 
 signs-at-requires : tie.Need-signs-at-requires
-signs-at-requires c κs = let r = ready (c .before .before .before .before .from-at .result) (c .before .before .before .to-at .result) (c .before .before .before .before .before .args .mark .made) (c .before .before .pulses-of .result) (c .before .before .pulses-of .ensures) (c .if1 .taken) in (c .if1 .taken, r .0, r .1, r .2, r .3)
+signs-at-requires c κs = let r = ready (c .before .before .before .before .from-at .result) (c .before .before .before .to-at .result) (c .before .before .before .before .before .args .mark .made) (c .before .before .pulses-of .result) (c .before .before .pulses-of .ensures) (c .if1 .taken) in (c .if1 .taken, r .0, r .1)
 
 beat-by-requires : tie.Need-beat-by-requires
 beat-by-requires c κs = (c .signs-at .ensures .1, omega (arith, c .before .if1 .taken, ready (c .before .before .before .before .before .from-at .result) (c .before .before .before .before .to-at .result) (c .before .before .before .before .before .before .args .mark .made) (c .before .before .before .pulses-of .result) (c .before .before .before .pulses-of .ensures) (c .before .if1 .taken) .0))

@@ -33,7 +33,7 @@ returns-2 : tie.Need-returns-2
 returns-2 c = look-wrong (c .before .before .before .before .before .before .before .before .before .args .self) (c .before .before .before .before .before .before .before .before .before .args .at) (c .before .before .before .before .before .before .before .before .mark .ensures) (c .before .before .before .before .before .before .before .from-at .ensures) (c .before .before .before .before .before .before .to-at .ensures) (c .before .before .before .before .before .pulses-of .ensures) (c .before .before .before .before .in-range .ensures) (sym (under-stood (c .before .before .before .before .before .before .before .before .before .args .self) (c .before .before .before .before .before .before .before .before .before .args .at) (c .before .before .before .before .before .before .before .before .mark .ensures) (c .before .before .before .before .before .before .before .from-at .ensures) (c .before .before .before .before .before .before .to-at .ensures) (c .before .before .before .before .before .pulses-of .ensures) (c .before .before .before .before .in-range .ensures) (passed (c .before .before .before .before .before .before .before .before .before .args .self) (c .before .before .before .before .before .before .before .before .before .args .at) (c .before .before .before .before .before .before .before .before .mark .ensures) (c .before .before .before .before .before .before .before .from-at .ensures) (c .before .before .before .before .before .before .to-at .ensures) (c .before .before .before .before .before .pulses-of .ensures) (c .before .before .before .before .in-range .ensures) (c .before .before .if1 .left)) (c .before .stand-at .ensures)) ∙ not-true _ (c .if2 .taken))
 
 signs-at-requires : tie.Need-signs-at-requires
-signs-at-requires c κs = let r = asked (c .before .before .before .before .before .before .before .before .before .before .args .self) (c .before .before .before .before .before .before .before .before .before .before .args .at) (c .before .before .before .before .before .before .before .before .before .mark .ensures) (c .before .before .before .before .before .before .before .before .from-at .ensures) (c .before .before .before .before .before .before .before .to-at .ensures) (c .before .before .before .before .before .before .pulses-of .ensures) (c .before .before .before .before .before .in-range .ensures) (passed (c .before .before .before .before .before .before .before .before .before .before .args .self) (c .before .before .before .before .before .before .before .before .before .before .args .at) (c .before .before .before .before .before .before .before .before .before .mark .ensures) (c .before .before .before .before .before .before .before .before .from-at .ensures) (c .before .before .before .before .before .before .before .to-at .ensures) (c .before .before .before .before .before .before .pulses-of .ensures) (c .before .before .before .before .before .in-range .ensures) (c .before .before .before .if1 .left)) in (c .if3 .taken, r .0, r .2, r .3, r .4)
+signs-at-requires c κs = let r = asked (c .before .before .before .before .before .before .before .before .before .before .args .self) (c .before .before .before .before .before .before .before .before .before .before .args .at) (c .before .before .before .before .before .before .before .before .before .mark .ensures) (c .before .before .before .before .before .before .before .before .from-at .ensures) (c .before .before .before .before .before .before .before .to-at .ensures) (c .before .before .before .before .before .before .pulses-of .ensures) (c .before .before .before .before .before .in-range .ensures) (passed (c .before .before .before .before .before .before .before .before .before .before .args .self) (c .before .before .before .before .before .before .before .before .before .before .args .at) (c .before .before .before .before .before .before .before .before .before .mark .ensures) (c .before .before .before .before .before .before .before .before .from-at .ensures) (c .before .before .before .before .before .before .before .to-at .ensures) (c .before .before .before .before .before .before .pulses-of .ensures) (c .before .before .before .before .before .in-range .ensures) (c .before .before .before .if1 .left)) in (c .if3 .taken, r .0, r .2)
 
 beat-by-requires : tie.Need-beat-by-requires
 beat-by-requires c κs = (c .signs-at .ensures .1, omega (arith, ap (λ (x : Mark). x .made) (c .before .before .before .before .before .before .before .before .before .before .mark .ensures), c .before .if3 .taken, asked (c .before .before .before .before .before .before .before .before .before .before .before .args .self) (c .before .before .before .before .before .before .before .before .before .before .before .args .at) (c .before .before .before .before .before .before .before .before .before .before .mark .ensures) (c .before .before .before .before .before .before .before .before .before .from-at .ensures) (c .before .before .before .before .before .before .before .before .to-at .ensures) (c .before .before .before .before .before .before .before .pulses-of .ensures) (c .before .before .before .before .before .before .in-range .ensures) (passed (c .before .before .before .before .before .before .before .before .before .before .before .args .self) (c .before .before .before .before .before .before .before .before .before .before .before .args .at) (c .before .before .before .before .before .before .before .before .before .before .mark .ensures) (c .before .before .before .before .before .before .before .before .before .from-at .ensures) (c .before .before .before .before .before .before .before .before .to-at .ensures) (c .before .before .before .before .before .before .before .pulses-of .ensures) (c .before .before .before .before .before .before .in-range .ensures) (c .before .before .before .before .if1 .left)) .0))

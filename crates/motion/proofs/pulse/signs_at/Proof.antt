@@ -12,8 +12,18 @@ sign-here-requires-2 c κs = search needs
 sign-here-requires-3 : tie.Need-sign-here-requires-3
 sign-here-requires-3 c κs = search needs
 
+sign-here-requires-4 : tie.Need-sign-here-requires-4
+sign-here-requires-4 c κs = search needs
+
 returns : tie.Need-returns
-returns c = (cc, (c .before .before .sign-here .ensures .1, c .before .sign-here2 .ensures .1, c .sign-here3 .ensures .1))
+returns c = (cc, (c .before .before .before .sign-here .ensures .1, c .before .before .sign-here2 .ensures .1, c .before .sign-here3 .ensures .1, c .sign-here4 .ensures .1))
 
 pub signs-at-spec : {M : Type 1} → statement M
-signs-at-spec = tie.close (tie.spec sign-here-requires sign-here-requires-2 sign-here-requires-3 returns)
+signs-at-spec =
+    tie.close
+    (tie.spec
+    sign-here-requires
+    sign-here-requires-2
+    sign-here-requires-3
+    sign-here-requires-4
+    returns)

@@ -45,11 +45,11 @@ fn runs_of_accepted_programs() {
     for _ in 0..2_000 {
         let (mut b, _) = random_program(&mut rng);
         let (store, table, used) = (b.store.clone(), b.table.clone(), b.board.used);
-        let mut sum = [0; 3];
+        let mut sum = [0; 4];
         b.line("@0S");
         for _ in 0..3_000 {
             match b.clock() {
-                Answer::Pulse(pulse) => (0..3).for_each(|a| sum[a] += pulse.signs[a] as i32),
+                Answer::Pulse(pulse) => (0..4).for_each(|a| sum[a] += pulse.signs[a] as i32),
                 Answer::Nothing if b.board.job == Job::Idle => break,
                 Answer::Nothing => drop(b.byte(rng.between(33, 41) as u8)),
                 _ => {}

@@ -12,7 +12,7 @@ use trial::motion::Motion;
 fn turning(rng: &mut Rng) -> Bench {
     let direction = arcs::direction(rng);
     let plane = rng.below(3);
-    let mut b = Bench::with_axes(7);
+    let mut b = Bench::with_axes(rng.pick(&[7, 15]));
     let near = rng.between(0, 30);
     let at = rng.pick(&[0, 0, 8_388_607 - near, -8_388_608 + near]);
     b.board.position = [at as i32; 4];

@@ -1,12 +1,13 @@
 //! What holds for every accepted program, tried on random ones.
 
+use crate::axes;
 use crate::program::{self, Span, Taste};
 use crate::rng::Rng;
 use crate::Bench;
 use trial::board::{Answer, Job};
 
 fn random_program(rng: &mut Rng) -> (Bench, String) {
-    let axes = rng.pick(&[1, 3, 7]);
+    let axes = rng.pick(&axes::ALL);
     let taste = Taste { axes, span: Span { reach: 5, edges: 40 }, waits: true, long: false };
     let lines = program::sound(rng, &taste);
     let lines: Vec<&str> = lines.iter().map(String::as_str).collect();

@@ -2,6 +2,7 @@
 #![cfg(test)]
 
 mod arcs;
+mod axes;
 mod damage;
 mod gen_arc;
 mod gen_arc_host;
@@ -14,6 +15,8 @@ mod gen_quiet;
 mod gen_room;
 mod gen_spoil;
 mod gen_table;
+mod gen_turn;
+mod gen_turn_host;
 mod gen_walk;
 mod host;
 mod program;

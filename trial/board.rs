@@ -137,8 +137,9 @@ impl Board {
     /// The test of 103, with the movement's own or without it.
     #[inline]
     pub(crate) fn right(&self, movement_too: bool) -> bool {
-        all_in_24_bits(&self.position)
-            && all_in_24_bits(&self.origin)
+        let asked = if cfg!(slip_a_103) { 3 } else { 4 };
+        all_in_24_bits(&self.position[..asked])
+            && all_in_24_bits(&self.origin[..asked])
             && axes_known(self.axes)
             && axes_known(self.store_axes)
             && self.used as usize <= STORE

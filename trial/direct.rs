@@ -75,12 +75,15 @@ impl Board {
     fn add_a(&mut self) -> Result<(), u8> {
         self.axes = match self.axes {
             0 | 8 => 8,
+            15 if cfg!(slip_a_drops_others) => 8,
             7 | 15 => 15,
             3 if cfg!(slip_a_after_3) => 15,
             _ => return Err(b'3'),
         };
         self.position[A] = 0;
-        self.origin[A] = 0;
+        if !cfg!(slip_a_origin_kept) {
+            self.origin[A] = 0;
+        }
         if cfg!(slip_a_zeroes_x) {
             self.position[0] = 0;
         }

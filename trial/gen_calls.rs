@@ -103,6 +103,10 @@ impl Script<'_> {
 
     /// Idle, with these axes and mostly 2.5D. A alone is set on a board without axes.
     fn set_up(&mut self, axes: u8) {
+        if self.rng.once_in(10) && !self.tame {
+            self.byte(255);
+            self.set_axes_often();
+        }
         let reset = axes == 8 || self.rng.once_in(3);
         self.byte(if reset { 254 } else { 255 });
         self.line("");

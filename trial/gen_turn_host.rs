@@ -19,6 +19,25 @@ impl Script<'_> {
         }
     }
 
+    /// Axes lines in states that the host has made, each with the state that it leaves.
+    pub fn set_axes_often(&mut self) {
+        self.altered = true;
+        for _ in 0..self.rng.between(1, 4) {
+            for name in ["x", "y", "z", "a", "ox", "oy", "oz", "oa"] {
+                let value = self.rng.between(-9, 9);
+                self.say(format!("H {name} {value}"));
+            }
+            let (axes, z) = (self.rng.pick(&[0, 1, 3, 7, 7, 8, 15]), self.rng.below(2));
+            let (plane, turn) = (self.rng.below(3), self.rng.between(-1, 0));
+            self.line(&format!("@0z{z}"));
+            self.say(format!("H axes {axes}\nH plane {plane}\nH turn {turn}"));
+            let other = self.rng.between(9, 16);
+            let value = self.rng.pick(&[1, 3, 7, 8, 8, 8, 8, other]);
+            self.line(&format!("@0{value}"));
+            self.say("S".to_string());
+        }
+    }
+
     /// A movement of A, or of another axis, that just stays within 24 bits or just does not, from where the host
     /// has put it.
     pub fn move_at_an_end(&mut self, axes: u8) {

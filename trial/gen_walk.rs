@@ -277,7 +277,11 @@ fn edge(rng: &mut Rng, axes: u8, out: &mut Vec<u8>) {
     lines.push(format!("@0A1{tail}"));
     match rng.below(3) {
         0 => lines.push(format!("@0A8388607{tail}")),
-        1 => lines.extend([format!("@0n{}", axes::masks(axes)[0]), format!("@0M8388607{tail}"), format!("@0M1{tail}")]),
+        1 => lines.extend([
+            format!("@0n{}", axes::masks(axes)[0]),
+            format!("@0M8388607{tail}"),
+            format!("@0M1{tail}"),
+        ]),
         _ => lines.extend([format!("@0A-2{tail}"), format!("@0A-8388608{tail}")]),
     }
     if axes == 7 {

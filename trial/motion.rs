@@ -80,11 +80,19 @@ pub fn plan(setting: &Setting, absolute: bool, numbers: &[i32]) -> Option<Move> 
     }
     let z2 = if setting.axes == 7 && !absolute { numbers[6] } else { 0 };
     let points = resting_points(start, goal, z2, setting.three);
-    if !all_in_24_bits(points.as_flattened()) {
+    if !within_24_bits(points) {
         return None;
     }
     let speeds = phase_speeds(&points, setting, numbers);
     Some(Move { points, speeds, phase: 0, made: 0 })
+}
+
+/// The slip: A's ends are not asked.
+fn within_24_bits(mut points: [Point; 4]) -> bool {
+    if cfg!(slip_a_nine) {
+        points.iter_mut().for_each(|point| point[A] = 0);
+    }
+    all_in_24_bits(points.as_flattened())
 }
 
 /// The last of three phases is z2's or A's: no axes have both.

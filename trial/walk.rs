@@ -98,7 +98,7 @@ impl Walk {
 /// How many signs and positions are printed: A's too while it is set.
 #[inline]
 fn shown(axes: u8) -> usize {
-    if axes & 8 == 0 {
+    if axes & 8 == 0 || axes == 8 && cfg!(slip_a_not_shown) {
         3
     } else {
         4

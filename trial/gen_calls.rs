@@ -154,6 +154,9 @@ impl Script<'_> {
         let numbers = program::movement(self.rng, axes, absolute, span);
         let numbers = program::spaced(self.rng, numbers);
         self.line(&format!("@0{}{numbers}", if absolute { 'M' } else { 'A' }));
+        if axes & 8 != 0 && !self.tame && self.rng.once_in(2) {
+            (0..self.rng.between(1, 3)).for_each(|_| self.alter_a());
+        }
     }
 
     fn store(&mut self, axes: u8) {
@@ -231,6 +234,7 @@ impl Script<'_> {
                 12 => self.line("@0S"),
                 13..=14 if !calm => self.table(),
                 15 | 16 if !calm && self.arc.is_some() => self.alter_arc(),
+                15 | 16 if !calm && axes & 8 != 0 => self.alter_a(),
                 _ => {}
             }
         }

@@ -56,6 +56,21 @@ impl Script<'_> {
         self.line(&format!("@0{letter}{}", axes::single(axes, pair, number)));
     }
 
+    /// The host alters A's position, origin or points in a movement under way, and mostly mends it after a call.
+    pub fn alter_a(&mut self) {
+        self.altered = true;
+        let names = ["a", "oa", "starta", "firsta", "firsta", "seconda", "seconda", "thirda", "thirda"];
+        let name = self.rng.pick(&names);
+        let value = self.rng.pick(&[0, 1, -1, 2, -3, 5, HIGH, LOW, HIGH + 1, 4_286_578_687]);
+        self.say(format!("H {name} {value}"));
+        let calls = self.rng.pick(&[1, 1, 2, 5]);
+        self.clocks(calls);
+        if !self.rng.once_in(3) {
+            let mended = self.rng.pick(&[0, 0, 1, -1]);
+            self.say(format!("H {name} {mended}"));
+        }
+    }
+
     /// Before a program is started: other axes by a line or by the host, or the same again.
     pub fn change_axes(&mut self) {
         if self.rng.once_in(3) {

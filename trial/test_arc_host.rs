@@ -180,8 +180,7 @@ fn behind(lines: &[&str], script: &str) -> String {
 #[test]
 fn an_arc_set_by_a_host() {
     let lines = ["@07", "@0y4,600,0,2,0,-1,-1"];
-    let script =
-        "H arcplane 2|H arcturn -1|H centre1 10|H centre2 -1|H start1 3|H start2 4|H arcspeed 77|\
+    let script = "H arcplane 2|H arcturn -1|H centre1 10|H centre2 -1|H start1 3|H start2 4|H arcspeed 77|\
         H length 9|H made 7|C 1|H y 15|H z -1|C 3|S";
     let wanted = "C 103|C Pulse ..+. 77|C Pulse ..+. 77|C Send 48|\
         S axes 7 position 0 15 1 0 origin 0 0 0 0 three 0 output 0 used 0 records 0 store_axes 0 job Idle standing 0 \

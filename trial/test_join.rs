@@ -135,7 +135,22 @@ fn into_a_range_from_the_start() {
 #[test]
 fn axes_that_differ() {
     let (one, two) = (stored(1, &["133"]), stored(1, &["134"]));
-    for (axes, other) in [(1, 3), (3, 1), (7, 3), (1, 7), (1, 0), (0, 7), (2, 3), (255, 1), (3, 131), (7, 15), (15, 7), (8, 15), (1, 8), (8, 0)] {
+    for (axes, other) in [
+        (1, 3),
+        (3, 1),
+        (7, 3),
+        (1, 7),
+        (1, 0),
+        (0, 7),
+        (2, 3),
+        (255, 1),
+        (3, 131),
+        (7, 15),
+        (15, 7),
+        (8, 15),
+        (1, 8),
+        (8, 0),
+    ] {
         assert_eq!(joined(&one.clone().under(axes), &two.clone().under(other)), Err(b'3'));
     }
     for axes in (0..=255).filter(|axes| ![1, 3, 7, 8, 15].contains(axes)) {

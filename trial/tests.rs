@@ -51,6 +51,8 @@ mod test_spaces;
 mod test_stop;
 mod test_table;
 mod test_table_random;
+mod test_turn_random;
+mod test_turntable;
 
 use trial::board::{Answer, Board, Refusal};
 use trial::motion::A;

@@ -55,9 +55,14 @@ impl Turn {
         }
     }
 
-    /// Whether the axes that the plane needs are set.
+    /// Whether the axes that the plane needs are set. A is in no plane.
     pub fn fits(self, axes: u8) -> bool {
-        axes == 7 || axes == 3 && self.plane == 0
+        match axes {
+            7 | 15 => true,
+            3 => self.plane == 0,
+            8 => cfg!(slip_a_circle),
+            _ => false,
+        }
     }
 
     /// Which way each axis may move at a point; 0 is not at all.
@@ -151,7 +156,7 @@ impl Arc {
     /// Moves the counters by a step of the plane's axes.
     #[inline]
     pub(crate) fn moved(&self, step: Pair, counters: &mut Point) -> Pulse {
-        let mut signs = [0i8; 3];
+        let mut signs = [0i8; 4];
         for (axis, by) in self.turn.axes().into_iter().zip(step) {
             signs[axis] = by as i8;
             counters[axis] += by as i32;

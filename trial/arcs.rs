@@ -1,5 +1,6 @@
 //! Random lines of circles: planes, directions, and arcs that mostly are right for the direction given.
 
+use crate::axes;
 use crate::program::{self, Span};
 use crate::rng::Rng;
 
@@ -14,7 +15,7 @@ const HIGH: i64 = 8_388_607;
 
 /// A plane, mostly one that these axes allow.
 pub fn plane(rng: &mut Rng, axes: u8) -> i64 {
-    if axes == 7 || rng.once_in(8) {
+    if axes & 7 == 7 || rng.once_in(8) {
         rng.between(0, 2)
     } else {
         0
@@ -137,7 +138,7 @@ pub fn records(rng: &mut Rng, axes: u8, span: Span) -> Vec<String> {
     if !rng.once_in(6) {
         lines.push(format!("f{gap}{direction}"));
     }
-    if axes != 1 || rng.once_in(6) {
+    if axes::turns(axes) || rng.once_in(6) {
         lines.push(format!("y{gap}{}", stored_arc(rng, span, direction)));
     }
     if lines.is_empty() {

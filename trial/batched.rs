@@ -76,8 +76,8 @@ impl Move {
         let (mut movement, mut at, mut more) = (*self, *counters, true);
         while more && movement.made < last {
             movement.made += 1;
-            let mut signs = [0i8; 3];
-            for a in 0..3 {
+            let mut signs = [0i8; 4];
+            for a in 0..4 {
                 signs[a] = movement.sign(phase, a, n, at[a]);
                 at[a] += signs[a] as i32;
             }
@@ -99,8 +99,8 @@ impl Move {
             return None;
         }
         let (k, n) = (self.made as i64, self.pulses(phase) as i64);
-        let (mut right, mut signs) = (true, [0i8; 3]);
-        for a in 0..3 {
+        let (mut right, mut signs) = (true, [0i8; 4]);
+        for a in 0..4 {
             let from = self.points[phase][a];
             let d = (self.points[phase + 1][a] - from) as i64;
             let steps = (counters[a] - from) as i64 * if d < 0 { -1 } else { 1 };
@@ -111,7 +111,7 @@ impl Move {
         if !right {
             return None;
         }
-        for a in 0..3 {
+        for a in 0..4 {
             counters[a] += signs[a] as i32;
         }
         self.made += 1;

@@ -73,12 +73,18 @@ pub const TABLE_WRONG: Refusal = 104;
 pub const TEXT_SHORT: Refusal = 106;
 pub const UNREADABLE: Refusal = b'G';
 
+/// None, or some that a line can set: x, x with y, all three, A alone, all four.
+#[inline]
+fn axes_known(axes: u8) -> bool {
+    matches!(axes, 0 | 1 | 3 | 7 | 8 | 15)
+}
+
 impl Board {
     /// A reset board with an emptied store.
     pub fn fresh() -> Board {
         Board {
-            position: [0; 3],
-            origin: [0; 3],
+            position: [0; 4],
+            origin: [0; 4],
             axes: 0,
             three: false,
             turn: Turn::FRESH,
@@ -131,10 +137,11 @@ impl Board {
     /// The test of 103, with the movement's own or without it.
     #[inline]
     pub(crate) fn right(&self, movement_too: bool) -> bool {
-        all_in_24_bits(&self.position)
-            && all_in_24_bits(&self.origin)
-            && matches!(self.axes, 0 | 1 | 3 | 7)
-            && matches!(self.store_axes, 0 | 1 | 3 | 7)
+        let asked = if cfg!(slip_a_103) { 3 } else { 4 };
+        all_in_24_bits(&self.position[..asked])
+            && all_in_24_bits(&self.origin[..asked])
+            && axes_known(self.axes)
+            && axes_known(self.store_axes)
             && self.used as usize <= STORE
             && self.records <= RECORDS
             && self.depth <= 7

@@ -31,6 +31,8 @@ fn odd(rng: &mut Rng) -> &'static str {
         "z-0",
         "n0",
         "n8",
+        "n9",
+        "n15",
         "n4",
         "n7",
         "N1",

@@ -3,7 +3,7 @@
 use crate::arc::Turn;
 use crate::board::{Board, Job};
 use crate::line::{self, Line};
-use crate::motion::{self, Motion, Setting};
+use crate::motion::{self, Motion, Setting, A};
 use crate::number::write_hexadecimal;
 use crate::receive::{refuse_if, say, Outcome, Ports};
 use crate::record;
@@ -47,7 +47,7 @@ impl Board {
 
     fn count_for_line(&self, letter: u8) -> usize {
         match letter {
-            b'A' | b'M' => [2, 4, 8][self.axes.count_ones() as usize - 1],
+            b'A' | b'M' => record::movement_count(self.axes).unwrap_or(0),
             b'P' | b'i' | b'k' | b'S' => 0,
             b'B' => 2,
             b'y' => 7,
@@ -56,12 +56,39 @@ impl Board {
     }
 
     fn set_axes(&mut self, value: i32) -> Result<(), u8> {
+        if value == 8 {
+            return self.add_a();
+        }
         refuse_if(!matches!(value, 1 | 3 | 7), b'3')?;
         self.axes = value as u8;
-        self.position = [0; 3];
-        self.origin = [0; 3];
+        let kept = if cfg!(slip_a_kept) { self.position[A] } else { 0 };
+        self.position = [0, 0, 0, kept];
+        self.origin = [0; 4];
         self.three = false;
         if !cfg!(slip_arc_plane_kept) {
+            self.turn = Turn::FRESH;
+        }
+        Ok(())
+    }
+
+    /// A beside all three axes or alone. Nothing of the others changes, nor how they move.
+    fn add_a(&mut self) -> Result<(), u8> {
+        self.axes = match self.axes {
+            0 | 8 => 8,
+            15 if cfg!(slip_a_drops_others) => 8,
+            7 | 15 => 15,
+            3 if cfg!(slip_a_after_3) => 15,
+            _ => return Err(b'3'),
+        };
+        self.position[A] = 0;
+        if !cfg!(slip_a_origin_kept) {
+            self.origin[A] = 0;
+        }
+        if cfg!(slip_a_zeroes_x) {
+            self.position[0] = 0;
+        }
+        self.three &= !cfg!(slip_a_resets_3d);
+        if cfg!(slip_a_resets_turn) {
             self.turn = Turn::FRESH;
         }
         Ok(())
@@ -79,7 +106,7 @@ impl Board {
 
     /// Origin := position on the axes of the mask.
     pub(crate) fn set_origin(&mut self, mask: u8) {
-        for a in 0..3 {
+        for a in 0..4 {
             if mask >> a & 1 == 1 {
                 self.origin[a] = self.position[a];
             }
@@ -87,7 +114,7 @@ impl Board {
     }
 
     fn set_zero(&mut self, mask: u8) {
-        for a in 0..3 {
+        for a in 0..4 {
             if mask >> a & 1 == 1 {
                 self.position[a] = 0;
                 self.origin[a] = 0;
@@ -127,11 +154,12 @@ impl Board {
     }
 
     fn report_position(&self, reply: &mut [u8]) -> usize {
+        let axes = if self.axes == 15 || self.axes == 8 && cfg!(slip_a_p_24) { 4 } else { 3 };
         reply[0] = b'0';
-        for a in 0..3 {
+        for a in 0..axes {
             write_hexadecimal(&mut reply[1 + 6 * a..7 + 6 * a], self.position[a] as u32);
         }
-        19
+        1 + 6 * axes
     }
 
     /// Goes on with what stands stopped, else starts the stored program.
@@ -142,7 +170,8 @@ impl Board {
             return Ok(0);
         }
         refuse_if(self.records == 0, b'8')?;
-        refuse_if(self.axes != self.store_axes, b'G')?;
+        let taken = cfg!(slip_a_store_7) && (self.axes, self.store_axes) == (15, 7);
+        refuse_if(self.axes != self.store_axes && !taken, b'G')?;
         self.clear_place();
         self.job = Job::Ready;
         Ok(0)

@@ -1,6 +1,7 @@
 //! `gen KIND SEED COUNT`: streams for trials, the same for the same seed. See README.md.
 
 mod arcs;
+mod axes;
 mod damage;
 mod gen_arc;
 mod gen_arc_host;
@@ -17,6 +18,8 @@ mod gen_room;
 mod gen_sheet;
 mod gen_spoil;
 mod gen_table;
+mod gen_turn;
+mod gen_turn_host;
 mod gen_unread;
 mod gen_unread_join;
 mod gen_walk;

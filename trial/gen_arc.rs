@@ -1,6 +1,7 @@
 //! Scenes of circles for `walk`: arcs by lines and by programs, at the edges of 24 bits too.
 
 use crate::arcs;
+use crate::axes;
 use crate::gen_walk::{line, unharmed};
 use crate::program::{self, Span};
 use crate::rng::Rng;
@@ -18,7 +19,7 @@ pub fn circles(rng: &mut Rng, axes: u8, out: &mut Vec<u8>) {
             0 | 1 => direction = turn(rng, axes, out),
             2 => line(rng, out, "@0P"),
             3 if rng.once_in(4) => {
-                line(rng, out, &format!("@0{axes}")); // plane 0, clockwise
+                axes::lines(axes).iter().for_each(|text| line(rng, out, text)); // plane 0, clockwise, but for A alone
                 direction = 0;
             }
             _ => {}
@@ -45,9 +46,9 @@ pub fn edge(rng: &mut Rng, axes: u8, out: &mut Vec<u8>) {
     let (step, [first, second]) = (rng.between(-3, 3), [[0, 1], [0, 2], [1, 2]][plane as usize]);
     let mut steps = [0; 3];
     (steps[first], steps[second]) = (step, step);
-    unharmed(out, &format!("@0N{axes}"));
+    axes::masks(axes).iter().for_each(|mask| unharmed(out, &format!("@0N{mask}")));
     unharmed(out, &shift(axes, steps));
-    let at = if axes == 7 { [step, step] } else { [step, if axes == 3 { step } else { 0 }] };
+    let at = [step, if axes::turns(axes) { step } else { 0 }];
     let start = arcs::start_at_an_edge(rng, at);
     let near = Span { reach: 3, edges: u64::MAX };
     let numbers = arcs::numbers(rng, near, start, direction);
@@ -65,7 +66,7 @@ pub fn edge(rng: &mut Rng, axes: u8, out: &mut Vec<u8>) {
 /// A movement by so many steps.
 fn shift(axes: u8, [x, y, z]: [i64; 3]) -> String {
     match axes {
-        1 => format!("@0A{x},600"),
+        1 | 8 => format!("@0A{x},600"),
         3 => format!("@0A{x},600,{y},600"),
         _ => format!("@0A{x},600,{y},600,{z},600,0,600"),
     }

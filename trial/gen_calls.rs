@@ -1,6 +1,7 @@
 //! Scripts for `calls`: COUNT scenes with stops between any two calls and what a host does, and in half
 //! of them one more that an E may pass over.
 
+use crate::axes;
 use crate::damage;
 use crate::gen_arc_host::Sent;
 use crate::gen_fault;
@@ -73,34 +74,18 @@ impl Script<'_> {
 
     /// A scene starts from a board that is set up afresh and ends with its state.
     pub fn scene(&mut self) {
-        let axes = self.rng.pick(&[1, 3, 7, 7]);
+        let axes = axes::any(self.rng);
         self.tame = self.rng.once_in(4);
         self.arc = None;
         self.mark_once_in(4);
         if self.altered {
             self.repair();
         }
-        if self.rng.once_in(3) {
-            self.byte(254);
-        } else {
-            self.byte(255);
-        }
-        self.line("");
-        self.line(&format!("@0{axes}"));
-        if self.rng.once_in(3) {
-            let z = self.rng.below(2);
-            self.line(&format!("@0z{z}"));
-        }
+        self.set_up(axes);
         match self.rng.below(10) {
             0..=1 => self.move_directly(axes),
-            2..=3 if axes != 1 || self.rng.once_in(5) => self.arc_directly(axes),
-            _ => {
-                self.store(axes);
-                if self.rng.once_in(8) && !self.tame {
-                    self.table();
-                }
-                self.line("@0S");
-            }
+            2..=3 if axes::turns(axes) || self.rng.once_in(5) => self.arc_directly(axes),
+            _ => self.start_stored(axes),
         }
         if self.tame {
             self.run_quietly();
@@ -114,6 +99,37 @@ impl Script<'_> {
         if self.rng.once_in(3) {
             self.show_entries();
         }
+    }
+
+    /// Idle, with these axes and mostly 2.5D. A alone is set on a board without axes.
+    fn set_up(&mut self, axes: u8) {
+        if self.rng.once_in(10) && !self.tame {
+            self.byte(255);
+            self.set_axes_often();
+        }
+        let reset = axes == 8 || self.rng.once_in(3);
+        self.byte(if reset { 254 } else { 255 });
+        self.line("");
+        axes::lines(axes).iter().for_each(|text| self.line(text));
+        if self.rng.once_in(3) {
+            let z = self.rng.below(2);
+            self.line(&format!("@0z{z}"));
+        }
+        if self.rng.once_in(8) && !self.tame {
+            self.put_a();
+        }
+    }
+
+    /// A program stored and started, now and then with something altered in between.
+    fn start_stored(&mut self, axes: u8) {
+        self.store(axes);
+        if self.rng.once_in(8) && !self.tame {
+            self.table();
+        }
+        if self.rng.once_in(12) {
+            self.change_axes();
+        }
+        self.line("@0S");
     }
 
     fn mark_once_in(&mut self, times: u64) {
@@ -130,11 +146,17 @@ impl Script<'_> {
     }
 
     fn move_directly(&mut self, axes: u8) {
+        if self.rng.once_in(4) && !self.tame {
+            return self.move_at_an_end(axes);
+        }
         let absolute = self.rng.once_in(3);
         let span = self.span();
         let numbers = program::movement(self.rng, axes, absolute, span);
         let numbers = program::spaced(self.rng, numbers);
         self.line(&format!("@0{}{numbers}", if absolute { 'M' } else { 'A' }));
+        if axes & 8 != 0 && !self.tame && self.rng.once_in(2) {
+            (0..self.rng.between(1, 3)).for_each(|_| self.alter_a());
+        }
     }
 
     fn store(&mut self, axes: u8) {
@@ -212,6 +234,7 @@ impl Script<'_> {
                 12 => self.line("@0S"),
                 13..=14 if !calm => self.table(),
                 15 | 16 if !calm && self.arc.is_some() => self.alter_arc(),
+                15 | 16 if !calm && axes & 8 != 0 => self.alter_a(),
                 _ => {}
             }
         }

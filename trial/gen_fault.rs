@@ -16,7 +16,8 @@ pub fn faulty(rng: &mut Rng, axes: u8, long: u64) -> Vec<String> {
         7 => early(rng),
         _ => bent(rng, axes),
     };
-    lines.into_iter().map(|line| program::spaced(rng, line)).collect()
+    let lines = lines.into_iter().map(|line| if axes == 8 && line == "n1" { "n8".to_string() } else { line });
+    lines.map(|line| program::spaced(rng, line)).collect()
 }
 
 /// Whether a jump goes back or to itself: if the program is accepted, it may run without end.

@@ -2,9 +2,9 @@
 
 use crate::gen_calls::Script;
 
-const RESTING_POINTS: [&str; 12] = [
-    "startx", "starty", "startz", "firstx", "firsty", "firstz", "secondx", "secondy", "secondz", "thirdx",
-    "thirdy", "thirdz",
+const RESTING_POINTS: [&str; 16] = [
+    "startx", "starty", "startz", "starta", "firstx", "firsty", "firstz", "firsta", "secondx", "secondy",
+    "secondz", "seconda", "thirdx", "thirdy", "thirdz", "thirda",
 ];
 
 /// Lines that are wrong, or at the limit of what is right.
@@ -24,6 +24,11 @@ const WRONG_LINES: &[&str] = &[
     "H x",
     "H over 2",
     "H x -8388609",
+    "H a -8388609",
+    "H oa 4286578688",
+    "H aa 0",
+    "H fourtha 0",
+    "H firsta 4286578688",
     "H x 4286578688",
     "M -1",
     "L 1",
@@ -113,7 +118,8 @@ impl Script<'_> {
     /// Sets every field so that no call is refused; what isn't there is a wrong line.
     pub fn repair(&mut self) {
         self.altered = false;
-        for name in ["x", "y", "z", "ox", "oy", "oz", "depth", "len", "over", "standing", "place"] {
+        for name in ["x", "y", "z", "a", "ox", "oy", "oz", "oa", "depth", "len", "over", "standing", "place"]
+        {
             self.say(format!("H {name} 0"));
         }
         self.say("H axes 7".to_string());
@@ -142,7 +148,7 @@ impl Script<'_> {
             }
             3 => {
                 let (used, records) = (4 * self.rng.below(30), self.rng.below(9));
-                let axes = self.rng.pick(&[0, 1, 3, 7, 7, 2]);
+                let axes = self.rng.pick(&[0, 1, 3, 7, 7, 8, 15, 2]);
                 self.say(format!("K {used} {records} {axes}"));
             }
             4 => self.bring_back(),
@@ -160,7 +166,7 @@ impl Script<'_> {
                     4_294_967_295i64,
                 ]);
                 let records = self.rng.pick(&[0, 1, 2, 999, 1_000, 1_001, 65_535, 65_536]);
-                let axes = self.rng.pick(&[0, 1, 3, 7, 7, 255, 256]);
+                let axes = self.rng.pick(&[0, 1, 3, 7, 7, 8, 15, 12, 255, 256]);
                 self.say(format!("K {used} {records} {axes}"));
             }
             _ => self.wrong_line(),
@@ -211,14 +217,14 @@ impl Script<'_> {
         self.altered = true;
         let (name, values): (&str, &[i64]) = match self.rng.below(14) {
             0 => (
-                self.rng.pick(&["x", "y", "z"]),
+                self.rng.pick(&["x", "y", "z", "a", "a"]),
                 &[0, 1, 3, -2, 8_388_607, 8_388_608, -8_388_608, 4_286_578_687],
             ),
             1 => (
-                self.rng.pick(&["ox", "oy", "oz"]),
+                self.rng.pick(&["ox", "oy", "oz", "oa"]),
                 &[0, 1, -5, 8_388_607, 8_388_608, 4_000_000_000, -8_388_608],
             ),
-            2 => ("axes", &[0, 1, 3, 7, 2, 4, 8, 255]),
+            2 => ("axes", &[0, 1, 3, 7, 2, 4, 8, 8, 9, 14, 15, 15, 16, 255]),
             3 => ("depth", &[0, 1, 2, 6, 7, 8, 255]),
             4 => ("len", &[0, 1, 2, 79, 80, 81, 255]),
             5 => (self.rng.pick(&["over", "standing", "standing"]), &[0, 1]),
@@ -249,7 +255,7 @@ impl Script<'_> {
 
     fn mend(&mut self, name: &str) {
         let value = match name {
-            "axes" => 7,
+            "axes" => self.rng.pick(&[7, 7, 8, 15]),
             "depth" | "len" | "over" | "phase" | "made" => 0,
             "speed1" | "speed2" | "speed3" => 500,
             "place" | "standing" | "plane" | "turn" => return,

@@ -1,5 +1,6 @@
 //! Joins: pairs of parts, right ones and such as are refused.
 
+use crate::axes;
 use crate::gen_part::{record, sound, Part, Taste};
 use crate::gen_room;
 use crate::gen_spoil::spoil;
@@ -14,7 +15,7 @@ pub fn join(rng: &mut Rng) -> [Part; 2] {
 }
 
 fn short(rng: &mut Rng) -> [Part; 2] {
-    let axes = rng.pick(&[1, 3, 7]);
+    let axes = rng.pick(&axes::ALL);
     let mut parts = match rng.below(12) {
         0..=2 => [0, 1].map(|_| any(rng, axes)),
         3..=6 => meeting(rng, axes),
@@ -78,14 +79,14 @@ fn cut(rng: &mut Rng, axes: u8) -> [Part; 2] {
 fn with_empty(rng: &mut Rng, axes: u8) -> [Part; 2] {
     let mut parts = [0, 1].map(|_| any(rng, axes));
     let which = rng.below(5);
-    let own = rng.pick(&[axes, axes, 0, 1, 2, 3, 7, 255]);
+    let own = rng.pick(&[axes, axes, 0, 1, 2, 3, 7, 8, 9, 15, 255]);
     for (side, part) in parts.iter_mut().enumerate() {
         if which % 2 == side as u64 || which == 4 {
             empty(rng, part, own);
         }
     }
     if which == 4 && rng.once_in(4) {
-        parts[0].axes = rng.pick(&[0, 1, 2, 3, 7, 255]);
+        parts[0].axes = rng.pick(&[0, 1, 2, 3, 7, 8, 15, 255]);
     }
     parts
 }
@@ -104,7 +105,7 @@ fn empty(rng: &mut Rng, part: &mut Part, axes: u8) {
 
 /// One part's axes are others, or both parts' are the same ones.
 fn other_axes(rng: &mut Rng, parts: &mut [Part; 2]) {
-    let axes = rng.pick(&[0, 1, 1, 2, 3, 3, 4, 5, 6, 7, 7, 8, 15, 131, 255]);
+    let axes = rng.pick(&[0, 1, 1, 2, 3, 3, 4, 6, 7, 7, 8, 8, 9, 12, 14, 15, 15, 16, 131, 255]);
     match rng.below(4) {
         0 => parts.iter_mut().for_each(|part| part.axes = axes),
         side => parts[(side % 2) as usize].axes = axes,

@@ -1,6 +1,7 @@
 //! Parts of a join: small sound programs as lines, and how lines lie in a store.
 
 use crate::arcs;
+use crate::axes;
 use crate::program::{self, Span};
 use crate::rng::Rng;
 
@@ -114,7 +115,7 @@ fn plain(rng: &mut Rng, axes: u8) -> String {
     match rng.below(12) {
         0 => format!("0 {}", program::movement(rng, axes, false, span)),
         1 => format!("m {}", program::movement(rng, axes, true, span)),
-        2..=3 => format!("n {}", rng.pick(&[1, 1, axes])),
+        2..=3 => format!("n {}", axes::mask(rng, axes)),
         4 => {
             let (start, direction) = (arcs::start(rng, 9), arcs::direction(rng));
             format!("y {}", arcs::numbers(rng, span, start, direction))

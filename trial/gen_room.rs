@@ -1,13 +1,15 @@
 //! Joins of parts that fill a store together, exactly or with a little too much.
 
+use crate::axes;
 use crate::gen_part::{record, Part};
 use crate::program::{self, Span};
 use crate::rng::Rng;
 
 /// Some are refused before room is asked for.
 pub fn room(rng: &mut Rng) -> [Part; 2] {
-    let axes = rng.pick(&[1, 3, 7]);
-    let [mut first, mut second] = if axes == 1 || rng.once_in(3) { records(rng) } else { bytes(rng, axes) };
+    let axes = rng.pick(&axes::ALL);
+    let [mut first, mut second] =
+        if axes::pairs(axes) == 1 || rng.once_in(3) { records(rng) } else { bytes(rng, axes) };
     let last = first.len().saturating_sub(1);
     let change = rng.below(24);
     if change < 4 {
@@ -21,7 +23,7 @@ pub fn room(rng: &mut Rng) -> [Part; 2] {
     }
     let mut parts = [first, second].map(|lines| Part::of(axes, &lines));
     if change == 7 {
-        parts[1].axes = rng.pick(&[0, 1, 3, 7]);
+        parts[1].axes = rng.pick(&[0, 1, 3, 7, 8, 15]);
     }
     parts
 }

@@ -2,6 +2,7 @@
 //! programs that fail the check.
 
 use crate::arcs;
+use crate::axes;
 use crate::gen_fault;
 use crate::gen_part::{record, Part};
 use crate::program::{self, Span};
@@ -61,7 +62,7 @@ fn add(part: &mut Part, bytes: Vec<u8>) {
 /// A record at the limits of what is right under these axes. If it is right, it passes the check.
 fn odd(rng: &mut Rng, axes: u8) -> String {
     match rng.below(5) {
-        0 => format!("n {}", rng.pick(&[0, 1, axes, axes + 1, 7, 8, 255])),
+        0 => format!("n {}", rng.pick(&[0, 1, axes, axes + 1, 7, 8, 9, 15, 255])),
         1 => odd_movement(rng, axes),
         2 => {
             let (start, direction) = (arcs::start(rng, 9), arcs::direction(rng));
@@ -69,7 +70,7 @@ fn odd(rng: &mut Rng, axes: u8) -> String {
             format!("y {}", arcs::wrong(rng, &numbers))
         }
         3 => {
-            let other = rng.pick(&[1, 3, 7]);
+            let other = rng.pick(&axes::ALL);
             format!("m {}", program::movement(rng, other, true, Span { reach: 9, edges: 9 }))
         }
         _ => rng

@@ -1,9 +1,11 @@
 //! Inputs for `walk`: COUNT scenes of lines, programs and control codes.
 
 use crate::arcs;
+use crate::axes;
 use crate::damage;
 use crate::gen_arc;
 use crate::gen_fault;
+use crate::gen_turn;
 use crate::program::{self, Span, Taste};
 use crate::rng::Rng;
 use crate::spaces;
@@ -21,10 +23,10 @@ fn scene(rng: &mut Rng, axes: &mut u8, out: &mut Vec<u8>) {
         *axes = 0;
     }
     if *axes == 0 {
-        *axes = rng.pick(&[1, 3, 7, 7]);
-        line(rng, out, &format!("@0{axes}"));
+        *axes = axes::any(rng);
+        set(rng, *axes, out);
     }
-    match rng.below(18) {
+    match rng.below(20) {
         0..=4 => {
             for _ in 0..rng.between(1, 6) {
                 let text = direct(rng, *axes);
@@ -33,9 +35,11 @@ fn scene(rng: &mut Rng, axes: &mut u8, out: &mut Vec<u8>) {
         }
         5..=9 => stored(rng, *axes, out),
         12..=14 => failing(rng, *axes, out),
-        15..=17 if *axes == 1 && !rng.once_in(4) => line(rng, out, "@0P"),
+        15..=17 if !axes::turns(*axes) && !rng.once_in(4) => line(rng, out, "@0P"),
         15..=16 => gen_arc::circles(rng, *axes, out),
         17 => gen_arc::edge(rng, *axes, out),
+        18 => gen_turn::changing(rng, axes, out),
+        19 => gen_turn::edge(rng, *axes, out),
         10 if rng.once_in(2) => long_line(rng, out),
         10 => edge(rng, *axes, out),
         _ => {
@@ -44,6 +48,23 @@ fn scene(rng: &mut Rng, axes: &mut u8, out: &mut Vec<u8>) {
             *axes = if code == 254 { 0 } else { *axes };
         }
     }
+}
+
+/// Sets axes: A alone only on a board without any.
+fn set(rng: &mut Rng, axes: u8, out: &mut Vec<u8>) {
+    if axes == 8 {
+        out.push(254);
+    }
+    axes::lines(axes).iter().for_each(|text| line(rng, out, text));
+}
+
+/// The same, whatever axes the lines before have left: a long movement must be the one that is meant.
+pub fn set_surely(axes: u8, out: &mut Vec<u8>) {
+    unharmed(out, "");
+    if axes == 8 {
+        out.push(254);
+    }
+    axes::lines(axes).iter().for_each(|text| unharmed(out, text));
 }
 
 /// A line with its return; now and then damaged, with a control code inside, or with CRLF.
@@ -80,17 +101,19 @@ fn unspaced(rng: &mut Rng, axes: u8) -> String {
     match rng.below(25) {
         0..=4 => format!("@0{}{gap}{}", rng.pick(&['A', 'a']), program::movement(rng, axes, false, span)),
         5..=7 => format!("@0{}{gap}{}", rng.pick(&['M', 'm']), program::movement(rng, axes, true, span)),
-        8 => format!("@0n{gap}{}", rng.between(0, 8)),
-        9 => format!("@0N{gap}{}", rng.between(0, 8)),
+        8 => format!("@0n{gap}{}", axes::near_mask(rng, axes)),
+        9 => format!("@0N{gap}{}", axes::near_mask(rng, axes)),
         10 => format!("@0z{gap}{}", rng.below(2)),
         11..=13 => "@0P".to_string(),
         14 => format!("@0b{gap}{}", rng.between(-1, 4)),
         15 => format!("@0B{gap}{},{}", rng.below(2), rng.between(-1, 256)),
         16 => format!("@0{}", rng.pick(&["S", "s", "S", "k"])),
-        17 => format!("@0{}", rng.between(-1, 9)),
+        17 => format!("@0{}", rng.pick(&[-1, 0, 1, 2, 3, 4, 6, 7, 8, 8, 8, 8, 9, 10, 12, 15, 16])),
         18 => format!("@0{}{gap}{}", rng.pick(&["A", "M"]), program::movement(rng, 1, false, span)),
         19 => {
-            let text = format!("@0{}{gap}{}", rng.pick(&["A", "M"]), program::movement(rng, 7, true, span));
+            let other = rng.pick(&[7, 15]);
+            let text =
+                format!("@0{}{gap}{}", rng.pick(&["A", "M"]), program::movement(rng, other, true, span));
             lengthened(rng, &text)
         }
         20 => format!("@0e{gap}{}", rng.between(-1, 3)),
@@ -111,6 +134,12 @@ fn odd(rng: &mut Rng) -> &'static str {
         "@1",
         "@0 7",
         "@007",
+        "@008",
+        "@08 ",
+        "@08,8",
+        "@0M0,600,0,700,0,800,1,900",
+        "@0n8,8",
+        "@0A1,29",
         "@000000007",
         "@0000000007",
         "@07 ",
@@ -203,7 +232,7 @@ fn stored(rng: &mut Rng, axes: u8, out: &mut Vec<u8>) {
     }
     line(rng, out, "9");
     if rng.once_in(3) {
-        let z = rng.pick(&["@0z1", "@0z0", "@0P", "@0n1"]);
+        let z = rng.pick(&["@0z1", "@0z0", "@0P", "@0n1", "@0n8", "@08", "@08", "@07"]);
         line(rng, out, z);
     }
     for _ in 0..rng.between(1, 2) {
@@ -241,11 +270,18 @@ fn failing(rng: &mut Rng, axes: u8, out: &mut Vec<u8>) {
 
 /// Resting points just outside 24 bits, met without a long run; so these lines are never damaged.
 fn edge(rng: &mut Rng, axes: u8, out: &mut Vec<u8>) {
-    let tail = [",600", ",600,0,600", ",600,0,600,0,600,0,600"][axes.count_ones() as usize - 1];
-    let mut lines = vec![String::new(), format!("@0N{axes}"), format!("@0A1{tail}")];
+    let tail = &axes::single(axes, 0, 0)[1..];
+    set_surely(axes, out);
+    let mut lines: Vec<String> = Vec::new();
+    lines.extend(axes::masks(axes).iter().map(|mask| format!("@0N{mask}")));
+    lines.push(format!("@0A1{tail}"));
     match rng.below(3) {
         0 => lines.push(format!("@0A8388607{tail}")),
-        1 => lines.extend(["@0n1".to_string(), format!("@0M8388607{tail}"), format!("@0M1{tail}")]),
+        1 => lines.extend([
+            format!("@0n{}", axes::masks(axes)[0]),
+            format!("@0M8388607{tail}"),
+            format!("@0M1{tail}"),
+        ]),
         _ => lines.extend([format!("@0A-2{tail}"), format!("@0A-8388608{tail}")]),
     }
     if axes == 7 {

@@ -63,7 +63,7 @@ fn counter<'a>(board: &'a mut Board, name: &str) -> Option<&'a mut i32> {
             _ => None,
         };
     }
-    let axis = "xyz".find(axis)?;
+    let axis = "xyza".find(axis)?;
     let point = match point {
         "" => return Some(&mut board.position[axis]),
         "o" => return Some(&mut board.origin[axis]),

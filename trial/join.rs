@@ -70,7 +70,8 @@ fn axes(first: Part, second: Part) -> Option<u8> {
         }
     };
     let axes = counted(first, second);
-    (axes == counted(second, first) && matches!(axes, 1 | 3 | 7)).then_some(axes)
+    let allowed = record::movement_count(axes).is_some() && !(cfg!(slip_join_a) && axes >= 8);
+    (axes == counted(second, first) && allowed).then_some(axes)
 }
 
 /// Whether a program would be accepted at the end line. Numbers too large for a store are not read by.

@@ -3,8 +3,10 @@
 use crate::arc::Arc;
 use crate::number::all_in_24_bits;
 
-/// x, y and z.
-pub type Point = [i32; 3];
+/// x, y, z and a.
+pub type Point = [i32; 4];
+/// Where A is in a point.
+pub const A: usize = 3;
 
 /// What is under way: a straight movement or an arc.
 #[derive(Clone, Copy, PartialEq, Eq, Debug)]
@@ -55,7 +57,7 @@ pub struct Move {
 /// What one pulse moves, and how fast.
 #[derive(Clone, Copy, PartialEq, Eq, Debug)]
 pub struct Pulse {
-    pub signs: [i8; 3],
+    pub signs: [i8; 4],
     pub speed: u16,
 }
 
@@ -72,41 +74,51 @@ pub struct Setting {
 pub fn plan(setting: &Setting, absolute: bool, numbers: &[i32]) -> Option<Move> {
     let start = setting.position;
     let mut goal = start;
-    let set = setting.axes.count_ones() as usize;
-    for a in 0..set {
-        goal[a] = if absolute { setting.origin[a] } else { start[a] } + numbers[2 * a];
+    let set = (0..4).filter(|a| setting.axes >> a & 1 == 1);
+    for (a, number) in set.zip(numbers.iter().step_by(2)) {
+        goal[a] = if absolute { setting.origin[a] } else { start[a] } + number;
     }
-    let z2 = if set == 3 && !absolute { numbers[6] } else { 0 };
+    let z2 = if setting.axes == 7 && !absolute { numbers[6] } else { 0 };
     let points = resting_points(start, goal, z2, setting.three);
-    if !all_in_24_bits(points.as_flattened()) {
+    if !within_24_bits(points) {
         return None;
     }
     let speeds = phase_speeds(&points, setting, numbers);
     Some(Move { points, speeds, phase: 0, made: 0 })
 }
 
+/// The slip: A's ends are not asked.
+fn within_24_bits(mut points: [Point; 4]) -> bool {
+    if cfg!(slip_a_nine) {
+        points.iter_mut().for_each(|point| point[A] = 0);
+    }
+    all_in_24_bits(points.as_flattened())
+}
+
+/// The last of three phases is z2's or A's: no axes have both.
 fn resting_points(start: Point, goal: Point, z2: i32, three: bool) -> [Point; 4] {
+    let [x, y, z, a] = goal;
     if three {
-        let end = [goal[0], goal[1], goal[2] + if cfg!(slip_z2_3d) { z2 } else { 0 }];
+        let end = [x, y, z + if cfg!(slip_z2_3d) { z2 } else { 0 }, a];
         return [start, end, end, end];
     }
-    let first = [goal[0], goal[1], start[2]];
-    let third = [goal[0], goal[1], goal[2] + z2];
-    [start, first, goal, third]
+    let first = [x, y, start[2], start[A]];
+    let second = if cfg!(slip_a_before_z) { [x, y, start[2], a] } else { [x, y, z, start[A]] };
+    [start, first, second, [x, y, z + z2, a]]
 }
 
 fn phase_speeds(points: &[Point; 4], setting: &Setting, numbers: &[i32]) -> [u16; 3] {
     let x = numbers[1] as u16;
-    if setting.three || setting.axes == 1 {
+    if setting.three || matches!(setting.axes, 1 | 8) {
         return [x; 3];
     }
     let dx = (points[1][0] - points[0][0]).abs();
     let dy = (points[1][1] - points[0][1]).abs();
     let together = if dy > dx { numbers[3] as u16 } else { x };
-    if setting.axes == 7 {
-        [together, numbers[5] as u16, numbers[7] as u16]
-    } else {
-        [together, x, x]
+    match setting.axes {
+        15 if cfg!(slip_a_x_speed) => [together, numbers[5] as u16, x],
+        7 | 15 => [together, numbers[5] as u16, numbers[7] as u16],
+        _ => [together, x, x],
     }
 }
 
@@ -115,10 +127,8 @@ impl Move {
     #[inline]
     pub fn pulses(&self, phase: usize) -> u32 {
         let (from, to) = (&self.points[phase], &self.points[phase + 1]);
-        let x = (to[0] - from[0]).unsigned_abs();
-        let y = (to[1] - from[1]).unsigned_abs();
-        let z = (to[2] - from[2]).unsigned_abs();
-        x.max(y).max(z)
+        let way = |a: usize| (to[a] - from[a]).unsigned_abs();
+        way(0).max(way(1)).max(way(2)).max(way(A))
     }
 
     /// Whether a pulse is still to be made.
@@ -144,8 +154,8 @@ impl Move {
         }
         self.phase = phase as u8;
         self.made = made + 1;
-        let mut signs = [0i8; 3];
-        for a in 0..3 {
+        let mut signs = [0i8; 4];
+        for a in 0..4 {
             signs[a] = self.sign(phase, a, n, counters[a]);
             counters[a] += signs[a] as i32;
         }
@@ -173,7 +183,7 @@ impl Move {
             return false;
         }
         let n = self.pulses(self.phase as usize);
-        self.made <= n && (0..3).all(|a| self.stands_right(a, n, at[a]))
+        self.made <= n && (0..4).all(|a| self.stands_right(a, n, at[a]))
     }
 
     /// Whether axis `a` has made (2·made·|d| + n) / 2n steps, rounded down, in the sign of d.

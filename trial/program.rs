@@ -1,6 +1,7 @@
 //! Random movements and sound stored programs, as lines.
 
 use crate::arcs;
+use crate::axes;
 use crate::rng::Rng;
 
 /// How far movements go: the greatest usual distance, and how rare the edges of 24 bits are.
@@ -39,10 +40,10 @@ pub fn speed(rng: &mut Rng) -> i64 {
 
 /// The numbers of a movement, parted by commas.
 pub fn movement(rng: &mut Rng, axes: u8, absolute: bool, span: Span) -> String {
-    let pairs = [0, 1, 2, 2, 4][(axes.count_ones() + (axes == 7) as u32) as usize];
     let mut text = String::new();
-    for pair in 0..pairs {
-        let d = if absolute && pair == 3 { 0 } else { distance(rng, span) };
+    for pair in 0..axes::pairs(axes) {
+        let z2 = axes == 7 && pair == 3;
+        let d = if absolute && z2 { 0 } else { distance(rng, span) };
         let comma = if pair > 0 { "," } else { "" };
         text += &format!("{comma}{d},{}", speed(rng));
     }
@@ -71,7 +72,7 @@ fn plain(rng: &mut Rng, taste: &Taste) -> String {
     match rng.below(12) {
         0..=3 => format!("0{gap}{}", movement(rng, taste.axes, false, taste.span)),
         4..=5 => format!("m{gap}{}", movement(rng, taste.axes, true, taste.span)),
-        6 => format!("n{gap}{}", rng.between(1, taste.axes as i64)),
+        6 => format!("n{gap}{}", axes::mask(rng, taste.axes)),
         7 => format!("z{gap}{}", rng.below(2)),
         8 if taste.long && rng.once_in(6) => format!("5{gap}{}", rng.between(0, 400)),
         8 | 9 => format!("5{gap}{}", rng.below(5)),
@@ -147,7 +148,7 @@ fn jump(rng: &mut Rng, taste: &Taste, own: usize, starts: &[usize]) -> String {
 fn hidden_mark(rng: &mut Rng, taste: &Taste, lines: &mut Vec<String>) {
     lines.push("3 0,2".to_string());
     let d = if rng.once_in(10) { 2_873_088 + rng.below(256) } else { 11_223 };
-    let rest = [",600", ",600,5,700", ",600,5,700,0,800,0,900"];
-    lines.push(format!("0{d}{}", rest[taste.axes.count_ones() as usize - 1]));
+    let rest = [",600", ",600,5,700", "", ",600,5,700,0,800,0,900"];
+    lines.push(format!("0{d}{}", rest[axes::pairs(taste.axes) - 1]));
     lines.push(plain(rng, taste));
 }

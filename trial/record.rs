@@ -34,12 +34,20 @@ impl Record {
     }
 }
 
+/// How many numbers a movement takes: a distance and a speed for each axis, and for z twice where A is not set.
+pub fn movement_count(axes: u8) -> Option<usize> {
+    match axes {
+        1 | 8 => Some(2),
+        3 => Some(4),
+        7 | 15 => Some(8),
+        _ => None,
+    }
+}
+
 /// How many numbers a code takes under these axes. None: no such code, or never right.
 pub fn count_for(code: u8, axes: u8) -> Option<usize> {
     match (code, axes) {
-        (b'0' | b'm', 1) => Some(2),
-        (b'0' | b'm', 3) => Some(4),
-        (b'0' | b'm', 7) => Some(8),
+        (b'0' | b'm', _) => movement_count(axes),
         (b'n' | b'z' | b'5' | b'1' | b'e' | b'f', _) => Some(1),
         (b'3' | b'2', _) => Some(2),
         (b'y', _) => Some(7),
@@ -51,7 +59,7 @@ pub fn count_for(code: u8, axes: u8) -> Option<usize> {
 /// Their count is right already.
 pub fn refusal(code: u8, axes: u8, v: &[i32]) -> Option<u8> {
     let right = match code {
-        b'0' | b'm' => return movement_refusal(code == b'm', v),
+        b'0' | b'm' => return movement_refusal(code == b'm', axes, v),
         b'n' if !mask_right(v[0], axes) => return Some(b'3'),
         b'n' => true,
         b'z' => v[0] == 0 || v[0] == 1,
@@ -67,19 +75,24 @@ pub fn refusal(code: u8, axes: u8, v: &[i32]) -> Option<u8> {
     (!right).then_some(b'1')
 }
 
-/// Some of the axes set: with 0, 1, 3 or 7 set, those are the numbers from 1 to theirs. So it is read of other axes
-/// too, which a host may have kept and a filling of the table meets (D197).
+/// Some of x, y and z as far as they are set, or A by itself. With 0, 1, 3 or 7 set, those are the numbers from 1 to
+/// theirs. So it is read of other axes too, which a host may have kept and a filling of the table meets (D197).
 pub fn mask_right(mask: i32, axes: u8) -> bool {
-    (1..=7).contains(&mask) && mask <= axes as i32
+    match axes {
+        8 => mask == 8,
+        15 => (1..=8).contains(&mask) || cfg!(slip_a_n9) && mask == 9,
+        _ => (1..=7).contains(&mask) && mask <= axes as i32,
+    }
 }
 
 fn offset_right(v: i32) -> bool {
     (-32_768..=32_767).contains(&v)
 }
 
-/// All ranges come before all speeds; an absolute z2 must be 0.
-fn movement_refusal(absolute: bool, v: &[i32]) -> Option<u8> {
-    let z2_right = v.len() < 8 || !absolute || v[6] == 0;
+/// All ranges come before all speeds; an absolute z2 must be 0. With four axes A's target stands in its place.
+fn movement_refusal(absolute: bool, axes: u8, v: &[i32]) -> Option<u8> {
+    let has_z2 = axes == 7 || axes == 15 && cfg!(slip_a_target_0);
+    let z2_right = !has_z2 || !absolute || v[6] == 0;
     if !z2_right || v.iter().step_by(2).any(|&d| !in_24_bits(d)) {
         return Some(b'1');
     }

@@ -2,6 +2,7 @@
 //! program once unstopped and once with stops; `stop check COUNT` compares the two in what `calls` printed.
 
 mod arcs;
+mod axes;
 mod program;
 mod rng;
 
@@ -82,17 +83,17 @@ struct Case {
 }
 
 fn case(rng: &mut Rng) -> Case {
-    let axes = rng.pick(&[1, 3, 7, 7]);
+    let axes = axes::any(rng);
     let span = Span { reach: rng.pick(&[3, 9, 9, 40]), edges: 100 };
     let direction = arcs::direction(rng);
-    let mut lines =
-        vec![format!("@0{axes}"), format!("@0z{}", rng.below(2)), format!("@0B0,{}", rng.below(256))];
+    let mut lines = axes::lines(axes);
+    lines.extend([format!("@0z{}", rng.below(2)), format!("@0B0,{}", rng.below(256))]);
     lines.push(format!("@0e{}", arcs::plane(rng, axes)));
     lines.push(format!("@0f{direction}"));
     if rng.once_in(2) {
         let near = Span { reach: 9, edges: u64::MAX };
         lines.push(format!("@0A{}", program::movement(rng, axes, false, near)));
-        lines.push(format!("@0n{axes}"));
+        lines.extend(axes::masks(axes).iter().map(|mask| format!("@0n{mask}")));
     }
     let answers = (0..16).map(|_| rng.between(33, 41) as u8).collect();
     if rng.once_in(3) {
@@ -101,7 +102,7 @@ fn case(rng: &mut Rng) -> Case {
         let start = format!("@0{letter}{}", program::movement(rng, axes, absolute, span));
         return Case { lines, start: program::spaced(rng, start), answers };
     }
-    if axes != 1 && rng.once_in(4) {
+    if axes::turns(axes) && rng.once_in(4) {
         let start = format!("@0y{}", arcs::arc(rng, span, direction));
         return Case { lines, start: program::spaced(rng, start), answers };
     }
@@ -156,8 +157,9 @@ fn stand(guide: &mut Guide, rng: &mut Rng) {
             8 => {
                 guide.line(rng.pick(&["@0y4,600,0,2,0,-1,-1", "@0y0,600,0,0,1,1,-1", "@0f0", "@0e0", "@0y"]))
             }
-            5 => guide
-                .line(rng.pick(&["@07", "@0k", "@0i", "@0N1", "@0n1", "@0z1", "@0z0", "@0B0, 9", "@0e2"])),
+            5 => guide.line(rng.pick(&[
+                "@07", "@08", "@0k", "@0i", "@0N1", "@0N8", "@0n8", "@0z1", "@0z0", "@0B0, 9", "@0e2",
+            ])),
             6 => guide.line(rng.pick(&[
                 "@0A5, 600",
                 "@0M1,600,2, 700",

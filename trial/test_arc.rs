@@ -67,7 +67,7 @@ fn the_starts_value_counts() {
 
 fn arc(turn: Turn, [u, v]: [i32; 2]) -> (Arc, Point) {
     let numbers = [8_388_607, 600, 0, u, v, 0, 0];
-    (turn.arc(&[0; 3], &numbers).unwrap(), [0; 3])
+    (turn.arc(&[0; 4], &numbers).unwrap(), [0; 4])
 }
 
 /// The points from the centre after each of so many pulses.
@@ -142,12 +142,12 @@ fn stays(turn: Turn, start: [i32; 2]) {
     let reach = (start[0] * start[0] + start[1] * start[1]).isqrt() + 1;
     for u in -reach - 1..=reach + 1 {
         for v in -reach - 1..=reach + 1 {
-            let mut at = [given.centre[0] + u, 5, given.centre[1] + v];
+            let mut at = [given.centre[0] + u, 5, given.centre[1] + v, -8_388_608];
             let inside = (u, v) != (0, 0) && u.abs() <= reach && v.abs() <= reach;
             assert_eq!(given.right(&at), inside, "{start:?} {u} {v}");
             let mut arc = given;
             let pulse = arc.pulse(&mut at).unwrap();
-            assert!(!inside || arc.right(&at) && pulse.signs[1] == 0);
+            assert!(!inside || arc.right(&at) && pulse.signs[1] == 0 && pulse.signs[3] == 0);
             assert!(!inside || pulse.signs.iter().filter(|&&s| s != 0).count() == 1);
         }
     }
@@ -178,7 +178,7 @@ fn directions_of_a_line() {
 #[test]
 fn the_largest_circle() {
     let mut b = Bench::with_axes(7);
-    b.board.position = [2_731_752, -2_731_753, 0];
+    b.board.position = [2_731_752, -2_731_753, 0, 0];
     assert_eq!(b.line("@0y8388607,600,0,4000000,-4000000,-1,-1"), "");
     let (mut sum, start) = ([0i64; 2], [4_000_000i64, -4_000_000]);
     for _ in 0..200_000 {

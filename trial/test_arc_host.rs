@@ -38,11 +38,11 @@ fn refused() {
         |b| arc(b).made = 10,
         |b| arc(b).made = u32::MAX,
         |b| arc(b).length = 0,
-        |b| b.board.position = [-3, -4, 0],
-        |b| b.board.position = [4, 0, 0],
-        |b| b.board.position = [-10, 0, 0],
-        |b| b.board.position = [0, 3, 0],
-        |b| b.board.position = [0, -11, 0],
+        |b| b.board.position = [-3, -4, 0, 0],
+        |b| b.board.position = [4, 0, 0, 0],
+        |b| b.board.position = [-10, 0, 0, 0],
+        |b| b.board.position = [0, 3, 0, 0],
+        |b| b.board.position = [0, -11, 0, 0],
         |b| arc(b).centre = [i32::MIN, -4],
         |b| arc(b).centre = [-3, i32::MAX],
         |b| arc(b).turn.plane = 2, // then the point is (3, 4)
@@ -58,7 +58,7 @@ fn refused() {
             change(&mut b);
             if row == 17 {
                 arc(&mut b).centre = [0, 0];
-                b.board.position = [5, 0, 0]; // in plane 2 this is the centre
+                b.board.position = [5, 0, 0, 0]; // in plane 2 this is the centre
             }
             let before = b.board;
             assert_eq!(clock(&mut b), Err(103), "{row}");
@@ -76,9 +76,9 @@ fn not_refused() {
         (|b| arc(b).made = 0, ".-."),
         (|b| (arc(b).length, arc(b).made) = (u32::MAX, u32::MAX - 1), ".-."),
         (|b| arc(b).length = 1, "!0"),
-        (|b| b.board.position = [3, 2, 0], ".-."),
-        (|b| b.board.position = [-9, -10, 8_388_607], ".+."),
-        (|b| b.board.position = [-2, -4, 0], ".-."),
+        (|b| b.board.position = [3, 2, 0, 0], ".-."),
+        (|b| b.board.position = [-9, -10, 8_388_607, 0], ".+."),
+        (|b| b.board.position = [-2, -4, 0, 0], ".-."),
         (|b| b.board.axes = 1, ".-."),
         (|b| b.board.axes = 0, ".-."),
         (|b| arc(b).turn.counter = true, "-.."),
@@ -99,7 +99,7 @@ fn a_smaller_radius() {
     let mut b = under_way();
     arc(&mut b).start = [0, -2]; // at most 3 from the centre; the point is (4, 4)
     assert_eq!(clock(&mut b), Err(103));
-    b.board.position = [0, -4, 0];
+    b.board.position = [0, -4, 0, 0];
     assert_eq!(b.answers(), ".-. -.. -.. .-. -.. -.. .+. -.. !0");
 }
 
@@ -180,11 +180,10 @@ fn behind(lines: &[&str], script: &str) -> String {
 #[test]
 fn an_arc_set_by_a_host() {
     let lines = ["@07", "@0y4,600,0,2,0,-1,-1"];
-    let script =
-        "H arcplane 2|H arcturn -1|H centre1 10|H centre2 -1|H start1 3|H start2 4|H arcspeed 77|\
+    let script = "H arcplane 2|H arcturn -1|H centre1 10|H centre2 -1|H start1 3|H start2 4|H arcspeed 77|\
         H length 9|H made 7|C 1|H y 15|H z -1|C 3|S";
-    let wanted = "C 103|C Pulse ..+ 77|C Pulse ..+ 77|C Send 48|\
-        S axes 7 position 0 15 1 origin 0 0 0 three 0 output 0 used 0 records 0 store_axes 0 job Idle standing 0 \
+    let wanted = "C 103|C Pulse ..+. 77|C Pulse ..+. 77|C Send 48|\
+        S axes 7 position 0 15 1 0 origin 0 0 0 0 three 0 output 0 used 0 records 0 store_axes 0 job Idle standing 0 \
         loops 0 plane 0 direction 0";
     assert_eq!(behind(&lines, script), wanted);
 }
@@ -192,12 +191,12 @@ fn an_arc_set_by_a_host() {
 #[test]
 fn the_first_pulse_is_told() {
     let lines = ["@03", "@0i", "133", "y2,600,0,2,0,-1,-1", "9", "@0S"];
-    let wanted = "C Send 33|T job Ready from 0 place 1 origin 0 0 0|\
-        C Pulse .-. 600|T job Moving from 1 place 2 origin 0 0 0|C Pulse -.. 600|\
-        C Send 48|T job Idle from 2 place 0 origin 0 0 0|Q over";
+    let wanted = "C Send 33|T job Ready from 0 place 1 origin 0 0 0 0|\
+        C Pulse .-.. 600|T job Moving from 1 place 2 origin 0 0 0 0|C Pulse -... 600|\
+        C Send 48|T job Idle from 2 place 0 origin 0 0 0 0|Q over";
     assert_eq!(behind(&lines, "Q 99"), wanted);
     let again = behind(&["@03", "@0y9,600,0,2,0,-1,-1"], "Q 1|H made 0|Q 1|H made 1|Q 1");
-    let wanted = "C Pulse .-. 600|T job Direct from 0 place 0 origin 0 0 0|Q more|\
-        C Pulse -.. 600|T job Direct from 0 place 0 origin 0 0 0|Q more|C Pulse .-. 600|Q more";
+    let wanted = "C Pulse .-.. 600|T job Direct from 0 place 0 origin 0 0 0 0|Q more|\
+        C Pulse -... 600|T job Direct from 0 place 0 origin 0 0 0 0|Q more|C Pulse .-.. 600|Q more";
     assert_eq!(again, wanted);
 }

@@ -132,7 +132,7 @@ fn a_circle_at_the_ends() {
 fn axes_and_reset_give_plane_0_clockwise() {
     for axes in ["1", "3", "7"] {
         let mut b = Bench::with_axes(7);
-        replies(&mut b, &[("@0e2", "0"), ("@0f-1", "0"), ("@08", "3"), ("@01,3", "7")]);
+        replies(&mut b, &[("@0e2", "0"), ("@0f-1", "0"), ("@09", "3"), ("@01,3", "7")]);
         assert_eq!(b.board.turn, Turn { plane: 2, counter: true });
         replies(
             &mut b,
@@ -181,7 +181,7 @@ fn a_program_of_circles() {
     let (mut b, last) = Bench::with_program(7, &lines);
     assert_eq!(last + &b.line("@0S"), "0");
     assert_eq!(b.answers(), "d .+. -.. .+. -.. d d .-. d d !0");
-    assert_eq!((b.board.position, b.board.turn), ([-2, 1, 0], Turn { plane: 2, counter: false }));
+    assert_eq!((b.board.position, b.board.turn), ([-2, 1, 0, 0], Turn { plane: 2, counter: false }));
 }
 
 /// 3, then 1 for directions, then 9, each in place of the record; the store and the positions stay.
@@ -201,7 +201,7 @@ fn a_program_ended_by_an_arc() {
         let (used, store) = (b.board.used, b.store.clone());
         b.line("@0S");
         assert_eq!(b.answers(), answers, "{lines:?}");
-        assert_eq!((b.board.position, b.board.used, b.board.job), ([at, 0, 0], used, Job::Idle));
+        assert_eq!((b.board.position, b.board.used, b.board.job), ([at, 0, 0, 0], used, Job::Idle));
         assert_eq!((b.board.place, b.store == store), (0, true));
     }
 }
@@ -252,9 +252,9 @@ fn break_in_an_arc() {
     b.line("@0S");
     b.clocks(3);
     assert_eq!(b.byte(255), "F");
-    assert_eq!((b.board.position, b.board.turn), ([-1, 1, 0], Turn { plane: 0, counter: true }));
+    assert_eq!((b.board.position, b.board.turn), ([-1, 1, 0, 0], Turn { plane: 0, counter: true }));
     b.line("@0S");
     b.clocks(3);
     b.byte(254);
-    assert_eq!((b.board.turn, b.board.position, b.board.records), (Turn::FRESH, [0; 3], 2));
+    assert_eq!((b.board.turn, b.board.position, b.board.records), (Turn::FRESH, [0; 4], 2));
 }

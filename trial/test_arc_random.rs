@@ -8,7 +8,7 @@ use crate::Bench;
 use std::collections::BTreeMap;
 use trial::arc::Arc;
 use trial::board::{Answer, Job};
-use trial::motion::Motion;
+use trial::motion::{Motion, Point};
 
 /// How often each thing was met.
 #[derive(Default)]
@@ -35,7 +35,7 @@ fn under_way(b: &Bench) -> Option<&Arc> {
 }
 
 /// Whether the two moves of an arc leave the same distance.
-fn tie(arc: &Arc, at: &[i32; 3]) -> bool {
+fn tie(arc: &Arc, at: &Point) -> bool {
     let axes = arc.turn.axes();
     let [u, v] = [0, 1].map(|a| i64::from(at[axes[a]]) - i64::from(arc.centre[a]));
     let side = if arc.turn.counter { -1 } else { 1 };

@@ -7,7 +7,7 @@ use trial::motion::{Motion, Move};
 
 /// A board some pulses into a movement of up to 9 steps on each axis.
 fn moving(rng: &mut Rng) -> Bench {
-    let mut b = Bench::with_axes(7);
+    let mut b = Bench::with_axes(rng.pick(&[7, 15]));
     b.line(&format!("@0z{}", rng.below(2)));
     let numbers: Vec<String> = (0..4).map(|a| format!("{},{}", rng.between(-9, 9), 600 + a)).collect();
     b.line(&format!("@0A{}", numbers.join(",")));
@@ -24,7 +24,7 @@ fn movement(b: &mut Bench) -> Option<&mut Move> {
 
 /// Alters something that refusal 103 may be for.
 fn alter(rng: &mut Rng, b: &mut Bench) {
-    let a = rng.below(3) as usize;
+    let a = rng.below(4) as usize;
     let value = rng.pick(&[-1, 0, 1, 9, -8_388_609, 8_388_608, i32::MIN, i32::MAX]);
     let small = rng.below(5) as u8;
     match rng.below(10) {
@@ -33,13 +33,13 @@ fn alter(rng: &mut Rng, b: &mut Bench) {
         2 => b.board.origin[a] = value,
         3 => b.board.standing = true,
         4 => b.board.depth = small + 5,
-        5 => b.board.axes = small,
+        5 => b.board.axes = rng.pick(&[0, 1, 2, 7, 8, 14, 15]),
         n => {
             let Some(movement) = movement(b) else { return };
             match n {
                 6 => movement.made = rng.below(11) as u32,
                 7 => movement.phase = small,
-                8 => movement.speeds[a] = rng.pick(&[0, 29, 30, 10_000, 10_001]),
+                8 => movement.speeds[a.min(2)] = rng.pick(&[0, 29, 30, 10_000, 10_001]),
                 _ => movement.points[rng.below(4) as usize][a] = value,
             }
         }

@@ -12,10 +12,10 @@ use trial::motion::Motion;
 fn turning(rng: &mut Rng) -> Bench {
     let direction = arcs::direction(rng);
     let plane = rng.below(3);
-    let mut b = Bench::with_axes(7);
+    let mut b = Bench::with_axes(rng.pick(&[7, 15]));
     let near = rng.between(0, 30);
     let at = rng.pick(&[0, 0, 8_388_607 - near, -8_388_608 + near]);
-    b.board.position = [at as i32; 3];
+    b.board.position = [at as i32; 4];
     let start = if rng.once_in(3) { arcs::start_at_an_edge(rng, [at; 2]) } else { arcs::start(rng, 9) };
     let numbers = arcs::numbers(rng, Span { reach: 9, edges: 50 }, start, direction);
     if rng.once_in(2) {

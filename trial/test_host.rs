@@ -10,14 +10,21 @@ fn clock(b: &mut Bench) -> Result<String, u8> {
 
 #[test]
 fn wrong_plain_fields() {
-    let alter: [fn(&mut Board); 14] = [
+    let alter: [fn(&mut Board); 21] = [
         |b| b.position[0] = 8_388_608,
         |b| b.position[2] = -8_388_609,
+        |b| b.position[3] = 8_388_608,
+        |b| b.origin[3] = -8_388_609,
         |b| b.origin[1] = i32::MAX,
         |b| b.origin[2] = i32::MIN,
         |b| b.axes = 2,
-        |b| b.axes = 8,
+        |b| b.axes = 4,
+        |b| b.axes = 9,
+        |b| b.axes = 14,
+        |b| b.axes = 16,
         |b| b.store_axes = 4,
+        |b| b.store_axes = 12,
+        |b| b.store_axes = 24,
         |b| b.used = 16_385,
         |b| b.records = 1_001,
         |b| b.depth = 8,
@@ -90,7 +97,7 @@ fn altered_movements_that_are_right() {
     assert_eq!(clock(&mut b), Err(103));
     b.board.position[1] = 1;
     assert_eq!(b.answers(), "+.. ++. +.. .-. .-. !0");
-    assert_eq!(b.board.position, [4, 0, 0]);
+    assert_eq!(b.board.position, [4, 0, 0, 0]);
 }
 
 #[test]

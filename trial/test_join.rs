@@ -135,10 +135,25 @@ fn into_a_range_from_the_start() {
 #[test]
 fn axes_that_differ() {
     let (one, two) = (stored(1, &["133"]), stored(1, &["134"]));
-    for (axes, other) in [(1, 3), (3, 1), (7, 3), (1, 7), (1, 0), (0, 7), (2, 3), (255, 1), (3, 131)] {
+    for (axes, other) in [
+        (1, 3),
+        (3, 1),
+        (7, 3),
+        (1, 7),
+        (1, 0),
+        (0, 7),
+        (2, 3),
+        (255, 1),
+        (3, 131),
+        (7, 15),
+        (15, 7),
+        (8, 15),
+        (1, 8),
+        (8, 0),
+    ] {
         assert_eq!(joined(&one.clone().under(axes), &two.clone().under(other)), Err(b'3'));
     }
-    for axes in (0..=255).filter(|axes| ![1, 3, 7].contains(axes)) {
+    for axes in (0..=255).filter(|axes| ![1, 3, 7, 8, 15].contains(axes)) {
         assert_eq!(joined(&one.clone().under(axes), &two.clone().under(axes)), Err(b'3'));
         assert_eq!(joined(&one.clone().under(axes), &empty(1)), Err(b'3'));
         assert_eq!(joined(&empty(7), &one.clone().under(axes)), Err(b'3'));
@@ -150,7 +165,7 @@ fn axes_that_differ() {
 #[test]
 fn empty_parts() {
     let lines = ["133", "3 1,-1", "3 0,1"];
-    for axes in [1, 3, 7] {
+    for axes in [1, 3, 7, 8, 15] {
         let part = stored(axes, &lines);
         for own in 0..=255 {
             assert_eq!(joined(&part, &empty(own)), Ok(part.clone()));

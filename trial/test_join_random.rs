@@ -1,5 +1,6 @@
 //! Joins of random parts: what holds for every one, and which of them are generated.
 
+use crate::axes;
 use crate::gen_join;
 use crate::gen_part::{self, Taste};
 use crate::rng::Rng;
@@ -42,7 +43,7 @@ fn names(records: &[Record], loops: bool, place: usize) -> bool {
 }
 
 fn random(rng: &mut Rng) -> (Taste, Vec<String>) {
-    let axes = rng.pick(&[1, 3, 7]);
+    let axes = rng.pick(&axes::ALL);
     let taste = Taste::any(rng, axes);
     (taste, gen_part::sound(rng, taste))
 }
@@ -68,7 +69,7 @@ fn generated_parts_are_sound() {
 fn the_rule_is_what_the_check_needs() {
     let mut rng = Rng::new(21);
     let mut seen = [0; 2];
-    for _ in 0..20_000 {
+    for _ in 0..30_000 {
         let ((taste, first), (other, second)) = (random(&mut rng), random(&mut rng));
         let (one, two) = (stored(taste.axes, &first), stored(other.axes, &second));
         if taste.axes != other.axes {

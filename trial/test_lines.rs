@@ -51,7 +51,15 @@ fn axes_line() {
     let mut b = Bench::fresh();
     replies(
         &mut b,
-        &[("@00", "3"), ("@02", "3"), ("@08", "3"), ("@0-1", "3"), ("@010", "3"), ("@01,3", "7")],
+        &[
+            ("@00", "3"),
+            ("@02", "3"),
+            ("@09", "3"),
+            ("@0-1", "3"),
+            ("@010", "3"),
+            ("@015", "3"),
+            ("@01,3", "7"),
+        ],
     );
     assert_eq!(b.board.axes, 0);
     replies(&mut b, &[("@01", "0"), ("@03", "0"), ("@007", "0"), ("@000000003", "0")]);
@@ -151,9 +159,9 @@ fn outputs_and_ports() {
 #[test]
 fn positions_in_hexadecimal() {
     let mut b = Bench::with_axes(7);
-    b.board.position = [-2, 256, 8_388_607];
+    b.board.position = [-2, 256, 8_388_607, 0];
     assert_eq!(b.line("@0P"), "0FFFFFE0001007FFFFF");
-    b.board.position = [-8_388_608, -1, 0];
+    b.board.position = [-8_388_608, -1, 0, 0];
     assert_eq!(b.line("@0P"), "0800000FFFFFF000000");
 }
 
@@ -213,13 +221,13 @@ fn storing_lines() {
     );
     assert_eq!((b.board.used, b.board.records), (0, 0));
     replies(&mut b, &[("5 65535", "0"), ("133", "0"), ("1 126", "0"), ("z1", "0"), ("n3", "0"), ("9", "0")]);
-    assert_eq!((b.board.records, b.board.three, b.board.origin), (5, false, [0; 3]));
+    assert_eq!((b.board.records, b.board.three, b.board.origin), (5, false, [0; 4]));
 }
 
 #[test]
 fn refused_lines_change_nothing() {
     let mut b = Bench::with_axes(7);
-    b.board.position = [5, 6, 7];
+    b.board.position = [5, 6, 7, 0];
     for line in [
         "@02",
         "@0n8",

@@ -10,7 +10,7 @@ fn the_papers_example() {
     let first = b.clock();
     assert_eq!((short(first).as_str(), speed(first)), ("+..", 600));
     assert_eq!(b.answers(), "++. +.. !0");
-    assert_eq!(b.board.position, [3, 1, 0]);
+    assert_eq!(b.board.position, [3, 1, 0, 0]);
 }
 
 #[test]
@@ -26,7 +26,7 @@ fn phases() {
     b.line("@0A1,100,-2,200,1,300,-2,400");
     let speeds: Vec<u16> = (0..5).map(|_| speed(b.clock())).collect();
     assert_eq!(speeds, [200, 200, 300, 400, 400]);
-    assert_eq!(b.board.position, [1, -2, -1]);
+    assert_eq!(b.board.position, [1, -2, -1, 0]);
     assert_eq!(b.answers(), "!0");
 }
 
@@ -73,7 +73,7 @@ fn x_speed_at_a_tie() {
 #[test]
 fn resting_points_outside() {
     let mut b = Bench::with_axes(7);
-    b.board.position = [8_388_607, 0, 1];
+    b.board.position = [8_388_607, 0, 1, 0];
     for (line, reply) in [
         ("@0A1,30,0,30,0,30,0,30", "9"),
         ("@0A0,30,0,30,8388607,30,-5,30", "9"),
@@ -83,7 +83,7 @@ fn resting_points_outside() {
         assert_eq!(b.line(line), reply, "{line}");
     }
     b.byte(255);
-    b.board.origin = [8_388_607, 0, -8_388_608];
+    b.board.origin = [8_388_607, 0, -8_388_608, 0];
     assert_eq!(b.line("@0M1,30,0,30,0,30,0,30"), "9");
     assert_eq!(b.line("@0M0,30,0,30,-1,30,0,30"), "9");
     assert_eq!(b.line("@0M-8388608,30,0,30,8388607,30,0,30"), "");
@@ -110,22 +110,24 @@ fn every_pulse_follows_the_formula() {
     for dx in -9..=9 {
         for dy in [-13, -8, -5, -1, 0, 2, 7, 12] {
             for dz in [-9, -1, 0, 4, 13] {
-                follow([dx, dy, dz]);
+                follow(7, [dx, dy, dz, 0]);
+                follow(15, [dz, dx, 3, dy]);
             }
         }
     }
 }
 
-fn follow(d: [i64; 3]) {
-    let setting = Setting { axes: 7, three: true, position: [3, -4, 5], origin: [0; 3] };
-    let numbers = [d[0] as i32, 30, d[1] as i32, 40, d[2] as i32, 50, 9, 60];
+fn follow(axes: u8, d: [i64; 4]) {
+    let setting = Setting { axes, three: true, position: [3, -4, 5, -6], origin: [0; 4] };
+    let last = if axes == 7 { 9 } else { d[3] as i32 };
+    let numbers = [d[0] as i32, 30, d[1] as i32, 40, d[2] as i32, 50, last, 60];
     let mut movement: Move = plan(&setting, false, &numbers).unwrap();
     let mut at = setting.position;
     let n = d.iter().map(|v| v.abs()).max().unwrap();
     for k in 1..=n {
         assert!(movement.pulse_left() && movement.right(&at));
         movement.pulse(&mut at).unwrap();
-        for a in 0..3 {
+        for a in 0..4 {
             assert_eq!(at[a] as i64, setting.position[a] as i64 + steps(d[a], k, n));
         }
     }
@@ -135,12 +137,12 @@ fn follow(d: [i64; 3]) {
 
 #[test]
 fn a_wrong_position_is_noticed() {
-    let setting = Setting { axes: 3, three: false, position: [0; 3], origin: [0; 3] };
+    let setting = Setting { axes: 3, three: false, position: [0; 4], origin: [0; 4] };
     let mut movement = plan(&setting, false, &[7, 30, -3, 40]).unwrap();
-    let mut at = [0; 3];
+    let mut at = [0; 4];
     for _ in 0..7 {
         movement.pulse(&mut at);
-        for a in 0..3 {
+        for a in 0..4 {
             for off in [-2, -1, 1, 2] {
                 let mut wrong = at;
                 wrong[a] += off;

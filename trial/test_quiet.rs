@@ -23,7 +23,7 @@ const PROGRAM: &[&str] = &["@01", "@0i", "133", "0 2,600", "5 2", "9", "@0S"];
 fn the_nothing_that_ends_it_is_not_printed() {
     assert_eq!(behind(&[], "Q 1"), "Q over");
     assert_eq!(behind(&["@01", "@0i"], "Q 100000|Q 4294967295"), "Q over|Q over");
-    let wanted = "C Pulse +.. 600|T job Direct from 0 place 0 origin 0 0 0|C Pulse +.. 600|C Send 48|T job Idle from 0 place 0 origin 0 0 0|Q over";
+    let wanted = "C Pulse +... 600|T job Direct from 0 place 0 origin 0 0 0 0|C Pulse +... 600|C Send 48|T job Idle from 0 place 0 origin 0 0 0 0|Q over";
     for calls in [3, 4, 5, 100_000, 4_294_967_295u64] {
         assert_eq!(behind(MOVE, &format!("Q {calls}")), wanted, "{calls}");
     }
@@ -32,19 +32,19 @@ fn the_nothing_that_ends_it_is_not_printed() {
 
 #[test]
 fn places_behind_all_but_later_pulses() {
-    let wanted = "C Send 33|T job Ready from 0 place 1 origin 0 0 0|\
-        C Pulse +.. 600|T job Moving from 1 place 2 origin 0 0 0|C Pulse +.. 600|\
-        C Pause|T job Delay from 2 place 3 origin 0 0 0|C Pause|T job Ready from 3 place 3 origin 0 0 0|\
-        C Send 48|T job Idle from 3 place 0 origin 0 0 0|Q over";
+    let wanted = "C Send 33|T job Ready from 0 place 1 origin 0 0 0 0|\
+        C Pulse +... 600|T job Moving from 1 place 2 origin 0 0 0 0|C Pulse +... 600|\
+        C Pause|T job Delay from 2 place 3 origin 0 0 0 0|C Pause|T job Ready from 3 place 3 origin 0 0 0 0|\
+        C Send 48|T job Idle from 3 place 0 origin 0 0 0 0|Q over";
     assert_eq!(behind(PROGRAM, "Q 100000"), wanted);
     let phases = behind(&["@07", "@0A0,30,0,31,-2,32,1,33"], "Q 9");
-    let wanted = "C Pulse ..- 32|T job Direct from 0 place 0 origin 0 0 0|C Pulse ..- 32|\
-        C Pulse ..+ 33|T job Direct from 0 place 0 origin 0 0 0|C Send 48|T job Idle from 0 place 0 origin 0 0 0|Q over";
+    let wanted = "C Pulse ..-. 32|T job Direct from 0 place 0 origin 0 0 0 0|C Pulse ..-. 32|\
+        C Pulse ..+. 33|T job Direct from 0 place 0 origin 0 0 0 0|C Send 48|T job Idle from 0 place 0 origin 0 0 0 0|Q over";
     assert_eq!(phases, wanted);
     let waits = behind(&["@01", "@0i", "n1", "233,-1", "9", "@0S"], "H x -3|Q 9|B 33|Q 1|B 34|Q 9");
-    let wanted = "C Done|T job Ready from 0 place 1 origin -3 0 0|C Done|T job Wait from 1 place 2 origin -3 0 0|Q over|\
-        C Done|T job Ready from 0 place 1 origin -3 0 0|Q more|\
-        C Done|T job Wait from 1 place 2 origin -3 0 0|Q over";
+    let wanted = "C Done|T job Ready from 0 place 1 origin -3 0 0 0|C Done|T job Wait from 1 place 2 origin -3 0 0 0|Q over|\
+        C Done|T job Ready from 0 place 1 origin -3 0 0 0|Q more|\
+        C Done|T job Wait from 1 place 2 origin -3 0 0 0|Q over";
     assert_eq!(waits, wanted);
 }
 
@@ -89,22 +89,22 @@ fn a_loop_and_a_jump_go_from_their_own_place() {
 #[test]
 fn made_decides_what_is_a_first_pulse() {
     let again = behind(MOVE, "Q 1|H made 0|H x 0|H place 65535|H oz -8388608|Q 1");
-    let wanted = "C Pulse +.. 600|T job Direct from 0 place 0 origin 0 0 0|Q more|\
-        C Pulse +.. 600|T job Direct from 65535 place 65535 origin 0 0 -8388608|Q more";
+    let wanted = "C Pulse +... 600|T job Direct from 0 place 0 origin 0 0 0 0|Q more|\
+        C Pulse +... 600|T job Direct from 65535 place 65535 origin 0 0 -8388608 0|Q more";
     assert_eq!(again, wanted);
-    assert_eq!(behind(MOVE, "H made 1|H x 1|Q 1"), "C Pulse +.. 600|Q more");
+    assert_eq!(behind(MOVE, "H made 1|H x 1|Q 1"), "C Pulse +... 600|Q more");
 }
 
 #[test]
 fn the_call_tried_at_the_end_is_not_kept() {
-    let state = "S axes 1 position 0 0 0 origin 0 0 0 three 0 output 0 used 0 records 0 store_axes 0 job Direct standing 0 loops 0 plane 0 direction 0";
+    let state = "S axes 1 position 0 0 0 0 origin 0 0 0 0 three 0 output 0 used 0 records 0 store_axes 0 job Direct standing 0 loops 0 plane 0 direction 0";
     assert_eq!(behind(MOVE, "S|Q 0|Q 0|S"), format!("{state}|Q more|Q more|{state}"));
     assert!(behind(MOVE, "Q 2|C 2").ends_with("|Q more|C Send 48|C Nothing"));
     assert!(behind(MOVE, "Q 3").ends_with("|Q over"));
     assert!(behind(PROGRAM, "Q 5|S").contains("|Q more|S axes 1 position 2 0 0 "));
     assert_eq!(behind(MOVE, "B 253|Q 0|Q 1"), "Q over|Q over");
     let damaged = behind(PROGRAM, "W 0 0|Q 0|W 0 215|Q 1");
-    assert_eq!(damaged, "Q more|C Send 33|T job Ready from 0 place 1 origin 0 0 0|Q more");
+    assert_eq!(damaged, "Q more|C Send 33|T job Ready from 0 place 1 origin 0 0 0 0|Q more");
 }
 
 #[test]
@@ -119,7 +119,7 @@ fn what_is_lent_goes_to_the_first_call() {
     assert_eq!(behind(MOVE, "M 0|Q 0|Q 0"), "Q over|Q more");
     assert_eq!(behind(MOVE, "M 16384|Q 0|M 0|C 0|N 1|Q 1"), "Q more|N 1|C 102|Q over");
     let first = behind(MOVE, "M 16384|R 0|Q 1");
-    assert_eq!(first, "C Pulse +.. 600|T job Direct from 0 place 0 origin 0 0 0|Q more");
+    assert_eq!(first, "C Pulse +... 600|T job Direct from 0 place 0 origin 0 0 0 0|Q more");
     assert_eq!(printed(b"R 0\nQ 0\nB 64\nR 0\nQ 1\nB 64\n"), "Q over\nB -\nQ over\nB -\n");
 }
 

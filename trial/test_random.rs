@@ -1,12 +1,13 @@
 //! What holds for every accepted program, tried on random ones.
 
+use crate::axes;
 use crate::program::{self, Span, Taste};
 use crate::rng::Rng;
 use crate::Bench;
 use trial::board::{Answer, Job};
 
 fn random_program(rng: &mut Rng) -> (Bench, String) {
-    let axes = rng.pick(&[1, 3, 7]);
+    let axes = rng.pick(&axes::ALL);
     let taste = Taste { axes, span: Span { reach: 5, edges: 40 }, waits: true, long: false };
     let lines = program::sound(rng, &taste);
     let lines: Vec<&str> = lines.iter().map(String::as_str).collect();
@@ -45,11 +46,11 @@ fn runs_of_accepted_programs() {
     for _ in 0..2_000 {
         let (mut b, _) = random_program(&mut rng);
         let (store, table, used) = (b.store.clone(), b.table.clone(), b.board.used);
-        let mut sum = [0; 3];
+        let mut sum = [0; 4];
         b.line("@0S");
         for _ in 0..3_000 {
             match b.clock() {
-                Answer::Pulse(pulse) => (0..3).for_each(|a| sum[a] += pulse.signs[a] as i32),
+                Answer::Pulse(pulse) => (0..4).for_each(|a| sum[a] += pulse.signs[a] as i32),
                 Answer::Nothing if b.board.job == Job::Idle => break,
                 Answer::Nothing => drop(b.byte(rng.between(33, 41) as u8)),
                 _ => {}

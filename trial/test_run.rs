@@ -55,7 +55,7 @@ fn settings_take_effect_when_run() {
         Bench::with_program(7, &["z1", "0 1,100,0,200,1,300,1,400", "n7", "m-1,100,0,200,0,300,0,400"]);
     b.line("@0S");
     assert_eq!(b.answers(), "d +.+ d -.. !0");
-    assert_eq!((b.board.three, b.board.origin, b.board.position), (true, [1, 0, 1], [0, 0, 1]));
+    assert_eq!((b.board.three, b.board.origin, b.board.position), (true, [1, 0, 1, 0], [0, 0, 1, 0]));
 }
 
 #[test]

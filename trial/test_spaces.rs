@@ -181,7 +181,7 @@ fn any_board(rng: &mut Rng) -> Bench {
     b.line(&format!("@0{axes}"));
     b.line(&format!("@0z{}", rng.below(2)));
     if rng.once_in(2) {
-        b.board.position = [rng.between(-9, 9) as i32; 3];
+        b.board.position = [rng.between(-9, 9) as i32; 4];
         b.line("@0n1");
     }
     let lines =

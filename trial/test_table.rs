@@ -221,5 +221,5 @@ fn tables_of_other_lengths() {
         );
         assert_eq!(behind(&format!("{lent}|M 16383|F|{lent}|R 0|F|F")), "F 102|F 104|F 0");
     }
-    assert_eq!(behind(&format!("{start}|U 1000|C 1|U 999|U 1000|C 1")), "C Send 33|C Pulse +.. 600");
+    assert_eq!(behind(&format!("{start}|U 1000|C 1|U 999|U 1000|C 1")), "C Send 33|C Pulse +... 600");
 }

@@ -2,6 +2,7 @@
 #![cfg(test)]
 
 mod arcs;
+mod axes;
 mod damage;
 mod gen_arc;
 mod gen_arc_host;
@@ -14,6 +15,8 @@ mod gen_quiet;
 mod gen_room;
 mod gen_spoil;
 mod gen_table;
+mod gen_turn;
+mod gen_turn_host;
 mod gen_walk;
 mod host;
 mod program;
@@ -48,8 +51,11 @@ mod test_spaces;
 mod test_stop;
 mod test_table;
 mod test_table_random;
+mod test_turn_random;
+mod test_turntable;
 
 use trial::board::{Answer, Board, Refusal};
+use trial::motion::A;
 use trial::record::STORE;
 use trial::table::TABLE;
 
@@ -67,9 +73,12 @@ impl Bench {
         Bench { board: Board::fresh(), store: vec![0; STORE], table: vec![0; TABLE], ports: [0; 4] }
     }
 
+    /// All four axes take two lines.
     pub fn with_axes(axes: u8) -> Bench {
         let mut bench = Bench::fresh();
-        assert_eq!(bench.line(&format!("@0{axes}")), "0");
+        for value in if axes == 15 { vec![7, 8] } else { vec![axes] } {
+            assert_eq!(bench.line(&format!("@0{value}")), "0");
+        }
         bench
     }
 
@@ -129,9 +138,13 @@ impl Bench {
     }
 }
 
+/// A pulse has three signs, and A's as a fourth if it moves.
 pub fn short(answer: Answer) -> String {
     match answer {
-        Answer::Pulse(p) => p.signs.map(|s| b"-.+"[(s + 1) as usize] as char).iter().collect(),
+        Answer::Pulse(p) => {
+            let shown = if p.signs[A] == 0 { 3 } else { 4 };
+            p.signs[..shown].iter().map(|s| b"-.+"[(s + 1) as usize] as char).collect()
+        }
         Answer::Pause => "_".to_string(),
         Answer::Send(byte) => format!("!{}", byte as char),
         Answer::Done => "d".to_string(),

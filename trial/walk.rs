@@ -39,7 +39,7 @@ impl Walk {
             let Ok(answer) = self.board.tick(&self.store, &self.table) else { break };
             calls += 1;
             match answer {
-                Answer::Pulse(pulse) => push_pulse(&mut self.out, pulse),
+                Answer::Pulse(pulse) => push_pulse(&mut self.out, pulse, self.board.axes),
                 Answer::Send(byte) => self.reply(&[byte]),
                 Answer::Pause | Answer::Done | Answer::Nothing => {}
             }
@@ -53,9 +53,9 @@ impl Walk {
 
     /// The pulses that are left of the phase, at most so many and until the portion is full; says how many.
     fn glide(&mut self, most: u32) -> io::Result<u32> {
-        let out = &mut self.out;
+        let (out, axes) = (&mut self.out, self.board.axes);
         let made = self.board.glide(most, |pulse| {
-            push_pulse(out, pulse);
+            push_pulse(out, pulse, axes);
             out.len() < PORTION
         });
         self.flush_if_full()?;
@@ -85,7 +85,7 @@ impl Walk {
 
     fn end(&mut self) -> io::Result<()> {
         self.out.push(b'E');
-        for v in self.board.position {
+        for &v in &self.board.position[..shown(self.board.axes)] {
             self.out.push(b' ');
             push_decimal(&mut self.out, v as i64);
         }
@@ -95,11 +95,22 @@ impl Walk {
     }
 }
 
+/// How many signs and positions are printed: A's too while it is set.
 #[inline]
-fn push_pulse(out: &mut Vec<u8>, pulse: Pulse) {
-    let sign = |s: i8| b"-.+"[(s + 1) as usize];
-    let [x, y, z] = pulse.signs;
-    out.extend_from_slice(&[b'P', b' ', sign(x), sign(y), sign(z), b' ']);
+fn shown(axes: u8) -> usize {
+    if axes & 8 == 0 || axes == 8 && cfg!(slip_a_not_shown) {
+        3
+    } else {
+        4
+    }
+}
+
+#[inline]
+fn push_pulse(out: &mut Vec<u8>, pulse: Pulse, axes: u8) {
+    let signs = pulse.signs.map(|s| b"-.+"[(s + 1) as usize]);
+    out.extend_from_slice(b"P ");
+    out.extend_from_slice(&signs[..shown(axes)]);
+    out.push(b' ');
     push_decimal(out, pulse.speed as i64);
     out.push(b'\n');
 }

@@ -47,9 +47,14 @@ def nothing(n=1):
     return clock(*["Nothing"] * n)
 
 
-def told(job, before, place, origin=(0, 0, 0)):
+def four(point):
+    """x, y, z and a; A is at 0 where it is not named."""
+    return tuple(point) + (0,) * (4 - len(point))
+
+
+def told(job, before, place, origin=()):
     """The line T: `before` is the place before the call, the rest is as it is after it."""
-    return "T job %s from %d place %d origin %d %d %d" % ((job, before, place) + origin)
+    return "T job %s from %d place %d origin %d %d %d %d" % ((job, before, place) + four(origin))
 
 
 def run(n, *answers, end="over"):
@@ -73,7 +78,7 @@ def pulses(d, speed):
     answers = []
     for k in range(1, n + 1):
         signs = ""
-        for v in d:
+        for v in four(d):
             step = (2 * k * abs(v) + n) // (2 * n) - (2 * (k - 1) * abs(v) + n) // (2 * n)
             signs += "." if step == 0 else "+" if v > 0 else "-"
         answers.append("Pulse %s %d" % (signs, speed))
@@ -82,7 +87,7 @@ def pulses(d, speed):
 
 def turns(moves, speed=600):
     """The pulses of an arc, which are worked out by hand: `x- y+` and so on."""
-    return ["Pulse %s %d" % ("".join(m[1] if a == m[0] else "." for a in "xyz"), speed) for m in moves.split()]
+    return ["Pulse %s %d" % ("".join(m[1] if a == m[0] else "." for a in "xyza"), speed) for m in moves.split()]
 
 
 def x(d, speed=600):
@@ -130,9 +135,9 @@ def refused(number, call="B 64"):
     return [(call, [call[0] + " %d" % number])]
 
 
-def state(axes=0, position=(0, 0, 0), origin=(0, 0, 0), three=0, output=0, held=(0, 0, 0), job="Idle", standing=0, loops=0, turn=(0, 0)):
+def state(axes=0, position=(), origin=(), three=0, output=0, held=(0, 0, 0), job="Idle", standing=0, loops=0, turn=(0, 0)):
     """`held` are the bytes and records in use and the store's axes, `turn` the plane and the direction."""
-    said = "S axes %d position %d %d %d" % ((axes,) + position)
-    said += " origin %d %d %d three %d output %d" % (origin + (three, output))
+    said = "S axes %d position %d %d %d %d" % ((axes,) + four(position))
+    said += " origin %d %d %d %d three %d output %d" % (four(origin) + (three, output))
     said += " used %d records %d store_axes %d" % held
     return [("S", [said + " job %s standing %d loops %d plane %d direction %d" % ((job, standing, loops) + turn)])]

@@ -46,8 +46,8 @@ case("reset_standing", "a reset while it stands sends nothing and clears axes, p
      line("@01", "0"), line("@0B0,5", "0"), line("@0A3,600"), clock(*x(2)), stop, reset, state(), nothing(), no_stop, no_break, line("@0S", "4"))
 
 case("reset_standing_program", "a reset keeps the store: with the axes set again it starts from place 0",
-     line("@03", "0"), line("@0z1", "0"), store("133", "0 1,600,1,700"), line("@0S"), clock(sends("!"), "Pulse ++. 600"), stop, reset, state(held=(28, 2, 3)),
-     line("@0S", "4"), line("@03", "0"), line("@0S"), clock(sends("!"), "Pulse ++. 600", ZERO), where(1, 1, 0))
+     line("@03", "0"), line("@0z1", "0"), store("133", "0 1,600,1,700"), line("@0S"), clock(sends("!"), "Pulse ++.. 600"), stop, reset, state(held=(28, 2, 3)),
+     line("@0S", "4"), line("@03", "0"), line("@0S"), clock(sends("!"), "Pulse ++.. 600", ZERO), where(1, 1, 0))
 
 case("reset_running", "a reset in a running movement",
      line("@01", "0"), line("@0A3,600"), clock(*x(1)), reset, nothing(2), where(0, 0, 0), state())
@@ -65,7 +65,7 @@ case("reset_when_storing", "a reset ends storing and empties the store being wri
 
 case("reset_when_idle", "a reset when idle clears 3D, origins, output and axes, and keeps the store",
      line("@07", "0"), store("133"), line("@0z1", "0"), line("@0B0,255", "0"), line("@0A0,600,2,600,0,600,0,600"),
-     clock("Pulse .+. 600", "Pulse .+. 600", ZERO), line("@0n2", "0"),
+     clock("Pulse .+.. 600", "Pulse .+.. 600", ZERO), line("@0n2", "0"),
      state(axes=7, position=(0, 2, 0), origin=(0, 2, 0), three=1, output=255, held=(8, 1, 7)), reset, state(held=(8, 1, 7)), listed("133", "9"))
 
 case("reset_clears_the_line", "a reset in a line: what follows is another line; a line over 80 bytes is forgotten too",

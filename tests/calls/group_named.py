@@ -73,7 +73,7 @@ case("named_keeps_the_bytes", "the refusal empties the store and leaves its byte
      listed("138", "325,-1", "32,-1", "137", "9"))
 
 case("named_keeps_the_rest", "the refusal changes the store alone: axes, positions, origin, 3D and output stay",
-     line("@07", "0"), line("@0A1,600,0,600,0,600,0,600"), clock("Pulse +.. 600", ZERO), lines("0", "@0n1", "@0z1", "@0B0,9"), storing("3 0,-1"), line("9", "Ga0000"),
+     line("@07", "0"), line("@0A1,600,0,600,0,600,0,600"), clock("Pulse +... 600", ZERO), lines("0", "@0n1", "@0z1", "@0B0,9"), storing("3 0,-1"), line("9", "Ga0000"),
      state(axes=7, position=(1, 0, 0), origin=(1, 0, 0), three=1, output=9))
 
 case("named_and_control_codes", "a stop in the line 9 does nothing; a reset in it ends storing, and nothing is checked",

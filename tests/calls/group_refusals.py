@@ -35,12 +35,12 @@ case("refused_standing", "refused calls while it stands: S refused does not go o
      refused(101, "B 13"), nothing(), byte(13), clock(*x(1), ZERO))
 
 PLAIN = [("x", 8388608, 8388607), ("y", 4286578687, -8388608), ("z", 8388608, 0), ("ox", 8388608, -8388608), ("oy", 8388608, 8388607), ("oz", 4000000000, 1),
-         ("axes", 2, 1), ("axes", 4, 3), ("axes", 255, 7), ("axes", 8, 0), ("depth", 8, 7), ("depth", 255, 0), ("len", 81, 80), ("len", 255, 0)]
+         ("axes", 2, 1), ("axes", 4, 3), ("axes", 255, 7), ("axes", 9, 0), ("depth", 8, 7), ("depth", 255, 0), ("len", 81, 80), ("len", 255, 0)]
 case("state_refused", "each plain field just outside is 103 for every call, and just inside is none",
      *[part for name, bad, good in PLAIN for part in (host("H %s %d" % (name, bad)), refused(103), refused(103, "C 1"), refused(103, "L"),
                                                       host("H %s %d" % (name, good)), nothing(), listed("9"))])
 
-case("store_fields_refused", "more than 16,384 bytes or 1,000 records in use, or axes of the store not 0, 1, 3 or 7",
+case("store_fields_refused", "more than 16,384 bytes or 1,000 records in use, or axes of the store that none can have",
      host("K 16385 0 0"), refused(103), host("K 65535 0 0"), refused(103, "L"), host("K 16384 0 0"), nothing(), host("K 0 1001 0"), refused(103, "C 1"),
      host("K 0 65535 0"), refused(103), host("K 0 1000 0"), nothing(), host("K 0 0 2"), refused(103), host("K 0 0 255"), refused(103), host("K 0 0 4"), refused(103, "C 1"),
      host("K 16384 1000 7"), nothing(), listed("G"), host("K 0 0 0"), listed("9"))

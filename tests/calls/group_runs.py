@@ -2,7 +2,7 @@
 from case import case, BREAK, byte, clock, host, line, no_stop, nothing, run, sends, state, stop, store, told, where, wrong
 
 ZERO = sends("0")
-STEP = "Pulse +.. 600"
+STEP = "Pulse +... 600"
 MIXED = line("@01", "0") + store("133", "0 2,600", "5 2") + line("@0S")  # records of 8, 12 and 8 bytes
 # six calls: a character, two pulses, two pauses, the 0
 ALL = [(sends("!"), "Ready", 0, 1), (STEP, "Moving", 1, 2), STEP, ("Pause", "Delay", 2, 3), ("Pause", "Ready", 3, 3), (ZERO, "Idle", 3, 0)]
@@ -48,7 +48,7 @@ TOUR = ["0 1,600,0,700,2,800,-1,900", "n7", "3 1,-2", "3 0,2", "133", "5 0", "m0
 
 def pass_of_tour(origin):
     """The movement of record 0: one pulse of x, two of z and one of z back, each the first of its phase but one."""
-    return [(STEP, "Moving", 0, 1, origin), ("Pulse ..+ 800", "Moving", 1, 1, origin), "Pulse ..+ 800", ("Pulse ..- 900", "Moving", 1, 1, origin)]
+    return [(STEP, "Moving", 0, 1, origin), ("Pulse ..+. 800", "Moving", 1, 1, origin), "Pulse ..+. 800", ("Pulse ..-. 900", "Moving", 1, 1, origin)]
 
 
 LAST = (2, 0, 2)
@@ -66,15 +66,15 @@ case("run_from_behind_a_wait", "an answered wait goes on at its target, another 
      run(100000, (sends('"'), "Ready", 1, 2), ("Done", "Ready", 2, 3), ("Done", "Ready", 3, 4), (ZERO, "Idle", 4, 0)), state(axes=1, held=(44, 4, 1)))
 
 case("run_direct", "a movement by a line: job Direct, a T at the first pulse of each phase that has one, and at the 0",
-     line("@07", "0"), line("@0A2,600,-1,700,1,800,-2,900"), run(100000, ("Pulse +-. 600", "Direct", 0, 0), STEP, ("Pulse ..+ 800", "Direct", 0, 0), ("Pulse ..- 900", "Direct", 0, 0),
-                                                                "Pulse ..- 900", (ZERO, "Idle", 0, 0)),
-     line("@0n1", "0"), line("@0A0,600,0,700,0,800,1,900"), run(100000, ("Pulse ..+ 900", "Direct", 0, 0, (2, 0, 0)), (ZERO, "Idle", 0, 0, (2, 0, 0))), line("@0z1", "0"),
-     line("@0A1,600,1,700,1,800,5,900"), run(100000, ("Pulse +++ 600", "Direct", 0, 0, (2, 0, 0)), (ZERO, "Idle", 0, 0, (2, 0, 0))), line("@0A0,600,0,700,0,800,5,900", "0"), run(100000),
+     line("@07", "0"), line("@0A2,600,-1,700,1,800,-2,900"), run(100000, ("Pulse +-.. 600", "Direct", 0, 0), STEP, ("Pulse ..+. 800", "Direct", 0, 0), ("Pulse ..-. 900", "Direct", 0, 0),
+                                                                "Pulse ..-. 900", (ZERO, "Idle", 0, 0)),
+     line("@0n1", "0"), line("@0A0,600,0,700,0,800,1,900"), run(100000, ("Pulse ..+. 900", "Direct", 0, 0, (2, 0, 0)), (ZERO, "Idle", 0, 0, (2, 0, 0))), line("@0z1", "0"),
+     line("@0A1,600,1,700,1,800,5,900"), run(100000, ("Pulse +++. 600", "Direct", 0, 0, (2, 0, 0)), (ZERO, "Idle", 0, 0, (2, 0, 0))), line("@0A0,600,0,700,0,800,5,900", "0"), run(100000),
      where(3, 0, 1))
 
 case("run_standing", "what stands is quiet; after S the pulses left follow, with a T only where a phase begins",
      line("@07", "0"), line("@0A2,600,0,700,1,800,0,900"), stop, run(9), host("E"), line("@0S"), run(1, (STEP, "Direct", 0, 0), end="more"), stop, run(9), line("@0S"),
-     run(1, STEP, end="more"), stop, run(0), run(1), state(axes=7, position=(2, 0, 0), job="Direct", standing=1), line("@0S"), run(1, ("Pulse ..+ 800", "Direct", 0, 0), end="more"), stop,
+     run(1, STEP, end="more"), stop, run(0), run(1), state(axes=7, position=(2, 0, 0), job="Direct", standing=1), line("@0S"), run(1, ("Pulse ..+. 800", "Direct", 0, 0), end="more"), stop,
      line("@0S"), run(9, (ZERO, "Idle", 0, 0)), no_stop, store("133", "134"), line("@0S"), run(1, (sends("!"), "Ready", 0, 1), end="more"), stop, run(9), host("E"), line("@0S"),
      run(9, (sends('"'), "Ready", 1, 2), (ZERO, "Idle", 2, 0)))
 
@@ -89,8 +89,8 @@ case("run_without_end", "a jump back and a loop of many passes are cut at n, and
      state(axes=1, held=(20, 2, 1), job="Ready", loops=1), byte(BREAK, "F"), run(100000))
 
 case("run_after_the_host", "job, places and origin are told as the state has them, also where the host set them; made 1 again is a first pulse again",
-     line("@01", "0"), line("@0A2,600"), host("H place 65535", "H oz -8388608"), run(1, ("Pulse +.. 600", "Direct", 65535, 65535, (0, 0, -8388608)), end="more"), host("H x 0", "H made 0"),
-     run(1, ("Pulse +.. 600", "Direct", 65535, 65535, (0, 0, -8388608)), end="more"), run(9, STEP, (ZERO, "Idle", 65535, 0, (0, 0, -8388608))), host("H oz 0"), store("133", "134", "135"),
+     line("@01", "0"), line("@0A2,600"), host("H place 65535", "H oz -8388608"), run(1, ("Pulse +... 600", "Direct", 65535, 65535, (0, 0, -8388608)), end="more"), host("H x 0", "H made 0"),
+     run(1, ("Pulse +... 600", "Direct", 65535, 65535, (0, 0, -8388608)), end="more"), run(9, STEP, (ZERO, "Idle", 65535, 0, (0, 0, -8388608))), host("H oz 0"), store("133", "134", "135"),
      line("@0S"), host("H place 2"), run(1, (sends("#"), "Ready", 2, 3), end="more"), host("H place 4"), run(9, (sends("G"), "Idle", 4, 0)), state(axes=1, position=(2, 0, 0)))
 
 case("marks", "N prints its number as numbers are printed, and is no call: what M lent is still there",

@@ -9,7 +9,7 @@ for k, at in enumerate(FLAT_AT):
          line("@07", "0"), line("@0A2,600,-1,700,1,800,-2,900"), clock(*FLAT[:k]) if k else [],
          stop, nothing(2), where(*at), no_stop, line("@0S"), clock(*FLAT[k:], ZERO), nothing(), where(2, -1, -1))
 
-SPACE = ["Pulse +.+ 600", "Pulse .-+ 600", "Pulse +.+ 600"]
+SPACE = ["Pulse +.+. 600", "Pulse .-+. 600", "Pulse +.+. 600"]
 SPACE_AT = [(0, 0, 0), (1, 0, 1), (1, -1, 2), (2, -1, 3)]
 for k, at in enumerate(SPACE_AT):
     case("stop_3d_after_%d" % k, "3D, one phase of 3 pulses at the x speed, z2 unused: a stop after %d of them" % k,

@@ -17,6 +17,8 @@ import group_stops
 import group_table
 import group_table_filled
 import group_table_refused
+import group_turntable
+import group_turntable_altered
 from case import CASES
 
 here = os.path.dirname(os.path.abspath(__file__))

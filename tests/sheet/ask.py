@@ -106,9 +106,9 @@ def part(fields, length):
 def kinds(axes):
     """Under these axes, the kinds of records: code, name, and the numbers allowed at each place."""
     way, speed, offset, character = range(-2**23, 2**23), range(30, 10001), range(-2**15, 2**15), range(33, 127)
-    pairs = {1: 1, 3: 2, 7: 4}[axes]
-    target = [way, speed] * pairs if pairs < 4 else [way, speed] * 3 + [range(1), speed]
-    masks = [mask for mask in range(1, 8) if mask | axes == axes]
+    pairs = {1: 1, 3: 2, 7: 4, 8: 1, 15: 4}[axes]
+    target = [way, speed] * pairs if axes != 7 else [way, speed] * 3 + [range(1), speed]
+    masks = [mask for mask in range(1, 9) if mask | axes == axes]
     left, right, sign = range(-4000000, 0), range(1, 4000001), (1, -1)
     starts = [(u, range(-4000000, 4000001)) for u in (left, right)] + [(range(1), v) for v in (left, right)]
     return [(b"0", "relative", [way, speed] * pairs), (b"m", "absolute", target), (b"n", "origin", [masks]),
@@ -180,7 +180,7 @@ def lend(fields):
 
 def joined(parts):
     axes = {own for _, records, own, _ in parts if records} or {own for _, _, own, _ in parts}
-    if len(axes) != 1 or not axes <= {1, 3, 7}:
+    if len(axes) != 1 or not axes <= {1, 3, 7, 8, 15}:
         return ["3"]
     axes = axes.pop()
     if any(used > STORE or records > MOST for used, records, _, _ in parts):

@@ -32,9 +32,9 @@ def P(d, speed):
     return printed
 
 
-def T(moves, speed=600):
+def T(moves, speed=600, axes="xyz"):
     """The pulses of an arc, which are worked out by hand: `x- y+` and so on."""
-    return ["P %s %d" % ("".join(m[1] if a == m[0] else "." for a in "xyz"), speed) for m in moves.split()]
+    return ["P %s %d" % ("".join(m[1] if a == m[0] else "." for a in axes), speed) for m in moves.split()]
 
 
 def all_reply(reply, *texts):

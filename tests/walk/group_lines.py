@@ -9,8 +9,8 @@ case("example", "the paper's own", lines("@03", "@0A3,600,1,900"),
      ["R 0", "P +.. 600", "P ++. 600", "P +.. 600", "R 0"], "3 1 0")
 
 good, said = all_reply("0", "@01", "@03", "@07")
-bad, refused = all_reply("3", "@00", "@02", "@04", "@05", "@06", "@08", "@09", "@010", "@0-1", "@0-7", "@099999999")
-case("axes_values", "1, 3 and 7 are allowed; all else is 3", good + bad, said + refused)
+bad, refused = all_reply("3", "@00", "@02", "@04", "@05", "@06", "@09", "@010", "@0-1", "@0-7", "@099999999")
+case("axes_values", "1, 3 and 7 are allowed; all else is 3, but 8", good + bad, said + refused)
 
 case("axes_count", "two numbers are 7, before 3", lines("@01,3", "@02,2", "@07,"), R("7", "7", "5"))
 

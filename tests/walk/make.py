@@ -9,6 +9,8 @@ import group_lines
 import group_long
 import group_movement
 import group_programs
+import group_turntable
+import group_turntable_stored
 from case import CASES
 
 here = os.path.dirname(os.path.abspath(__file__))

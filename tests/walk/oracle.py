@@ -12,6 +12,8 @@ from oracle_check import faults
 from oracle_right import HIGH, LOW, Refused, refuse, right, within
 
 LIMIT = 100000
+# Which axis each pair of a movement moves, and what runs together in 2.5D: the pairs in their order, cut into rows.
+ROWS = {1: ["x"], 3: ["xy"], 7: ["xy", "z", "z"], 8: ["a"], 15: ["xy", "z", "a"]}
 DIRECT = re.compile(rb"@0(?:([AaMmSsnNzPbBikefy])( ?-?\d{1,8}(?:, ?-?\d{1,8})*)?|(-?\d{1,8}(?:, ?-?\d{1,8})*))\Z")
 STORED = re.compile(rb"(?:(9)|([0mnz3512efy])( ?-?\d{1,8}(?:, ?-?\d{1,8})*)?)\Z")
 
@@ -24,7 +26,7 @@ class Board:
     def __init__(self, program=(), program_axes=0):
         self.axes, self.three = 0, False
         self.plane, self.direction = 0, 0
-        self.at, self.origin = [0, 0, 0], [0, 0, 0]
+        self.at, self.origin = [0] * 4, [0] * 4
         self.line = b""
         self.storing = None
         self.program, self.program_axes = list(program), program_axes
@@ -33,22 +35,35 @@ class Board:
 
     # Movement: one list of distances and a speed for each phase.
     def phases(self, absolute, v, axes):
-        count = {1: 1, 3: 2, 7: 3}[axes]
-        base = self.origin if absolute else self.at
-        goal = [base[a] + v[2 * a] if a < count else self.at[a] for a in range(3)]
-        d = [goal[a] - self.at[a] for a in range(3)]
+        pairs, seen, rows = list(zip(v[0::2], v[1::2])), "", []
+        for row in ROWS[axes]:
+            phase = []
+            for axis in row:
+                a, (d, speed) = "xyza".index(axis), pairs.pop(0)
+                if axis in seen:  # the second number of z
+                    d = 0 if absolute or self.three else d
+                elif absolute:
+                    d += self.origin[a] - self.at[a]
+                phase.append((a, d, speed))
+                seen += axis
+            rows.append(phase)
         if self.three:
-            phases = [(d, v[1])]
+            phases = [(self.together(sum(rows, [])), v[1])]
         else:
-            longest = v[3] if axes != 1 and abs(d[1]) > abs(d[0]) else v[1]
-            phases = [([d[0], d[1], 0], longest)]
-            if axes == 7:
-                phases += [([0, 0, d[2]], v[5])] + ([] if absolute else [([0, 0, v[6]], v[7])])
+            phases = [(self.together(row), max(row, key=lambda move: abs(move[1]))[2]) for row in rows]
         place = list(self.at)
         for distances, _ in phases:
             place = [p + q for p, q in zip(place, distances)]
             refuse(not all(within(p, LOW, HIGH) for p in place), "9")
         return [(distances, speed) for distances, speed in phases if any(distances)]
+
+    @staticmethod
+    def together(moves):
+        return [sum(d for axis, d, _ in moves if axis == a) for a in range(4)]
+
+    def shown(self, four):
+        """Of what has one for each axis, as much as is printed: A's only while it is set."""
+        return four if self.axes & 8 else four[:3]
 
     def pulses(self, phases):
         for d, speed in phases:
@@ -56,11 +71,11 @@ class Board:
             start = list(self.at)
             for k in range(1, n + 1):
                 before = list(self.at)
-                for a in range(3):
+                for a in range(4):
                     made = (2 * k * abs(d[a]) + n) // (2 * n)
                     self.at[a] = start[a] + (made if d[a] > 0 else -made)
-                step = "".join("-.+"[self.at[a] - before[a] + 1] for a in range(3))
-                yield "P %s %d" % (step, speed)
+                step = "".join("-.+"[self.at[a] - before[a] + 1] for a in range(4))
+                yield "P %s %d" % (self.shown(step), speed)
 
     def movement(self, pulses):
         yield from pulses
@@ -77,7 +92,8 @@ class Board:
         for _ in range(length):
             which, sign = next(path)
             self.at[axes[which]] += sign
-            yield "P %s %d" % ("".join("." if a != axes[which] else "-.+"[sign + 1] for a in range(3)), speed)
+            step = "".join("." if a != axes[which] else "-.+"[sign + 1] for a in range(4))
+            yield "P %s %d" % (self.shown(step), speed)
 
     # A program: each yield is one clock call; a yield of WAIT is none and gets the byte.
     def run(self):
@@ -137,7 +153,7 @@ class Board:
         return 1
 
     def set_origin(self, mask):
-        for a in range(3):
+        for a in range(4):
             if mask & 1 << a:
                 self.origin[a] = self.at[a]
 
@@ -202,8 +218,13 @@ class Board:
         return getattr(self, "line_" + (letter or "axes"))(*v)
 
     def line_axes(self, value):
+        if value == 8:  # beside none or all of the others
+            refuse(self.axes & 7 not in (0, 7), "3")
+            self.axes |= 8
+            self.at[3:], self.origin[3:] = [0], [0]
+            return "0"
         refuse(value not in (1, 3, 7), "3")
-        self.axes, self.three, self.at, self.origin = value, False, [0, 0, 0], [0, 0, 0]
+        self.axes, self.three, self.at, self.origin = value, False, [0] * 4, [0] * 4
         self.plane, self.direction = 0, 0
         return "0"
 
@@ -212,7 +233,7 @@ class Board:
         return "0"
 
     def line_N(self, mask):
-        for a in range(3):
+        for a in range(4):
             if mask & 1 << a:
                 self.at[a] = self.origin[a] = 0
         return "0"
@@ -236,7 +257,7 @@ class Board:
         return "" if v[0] else "0"
 
     def line_P(self):
-        return "0" + "".join("%06X" % (p % 2 ** 24) for p in self.at)
+        return "0" + "".join("%06X" % (p % 2 ** 24) for p in (self.at if self.axes == 15 else self.at[:3]))
 
     def line_b(self, port):
         refuse(not within(port, 0, 3), "1")
@@ -290,7 +311,8 @@ def main():
             out.append("L 100000")
             board.at = kept
             break
-    print("\n".join(out), "\nE %d %d %d" % tuple(board.at), sep="")
+    out.append("E " + " ".join(str(p) for p in board.shown(board.at)))
+    print("\n".join(out))
 
 
 main()

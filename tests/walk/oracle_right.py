@@ -2,7 +2,7 @@
 import oracle_arc as arc
 
 LOW, HIGH = -8388608, 8388607
-PAIRS = {1: 1, 3: 2, 7: 4}
+PAIRS = {1: 1, 3: 2, 7: 4, 8: 1, 15: 4}
 
 
 class Refused(Exception):
@@ -28,7 +28,7 @@ def right(code, v, axes, turn=None):
         refuse(v[5:] not in ([arc.expected(v[3:5], turn[1])] if turn else arc.DIRECTIONS), "1")
         refuse(not within(v[1], 30, 10000), "D")
     elif code == "n":
-        refuse(v[0] not in [m for m in range(1, 8) if m | axes == axes], "3")
+        refuse(v[0] not in [m for m in range(1, 9) if m | axes == axes], "3")
     elif code in "0m":
         refuse(any(not within(d, LOW, HIGH) for d in v[0::2]), "1")
         refuse(code == "m" and axes == 7 and v[6] != 0, "1")

@@ -9,7 +9,8 @@ use Rattle.count.specs.Chars.{ch}
 use Rattle.count.specs.Pick.{pick}
 use Rattle.count.specs.Paper.{Paper, says}
 use Rattle.count.specs.Numbers.{half, full, value, count, word}
-use Rattle.count.specs.Ranges.{names, nth, inSpeed, rightArc}
+use Rattle.count.specs.Axes.{has}
+use Rattle.count.specs.Ranges.{nth, inSpeed, rightArc}
 use Rattle.motion.specs.declared.Sign.{Sign}
 use Rattle.motion.specs.declared.Sign.the-variants.{Minus, Rest, Plus}
 use Rattle.motion.specs.declared.Counters.{Counters}
@@ -25,7 +26,7 @@ use Rattle.circle.specs.declared.Ways.{Ways}
 use Rattle.circle.specs.declared.Arc.{Arc}
 use Rattle.circle.specs.declared.Bent.{Bent}
 use Rattle.circle.specs.declared.Bent.the-variants.{Going, Refused}
-use Rattle.circle.specs.Rule.{pair, ways, planeNumber, directionNumber, onPlane, measure, waysAt, shifted}
+use Rattle.circle.specs.Rule.{pair, ways, firstAxis, secondAxis, planeNumber, directionNumber, onPlane, measure, waysAt, shifted}
 use Rattle.circle.specs.Arc as arc
 
 -- ---- plane and direction
@@ -46,9 +47,7 @@ atFirst = circling XY Clockwise
 
 -- 3: a plane needs both its axes set
 abbrev pub planeSet : ℕ → Plane → Bool
-planeSet axes XY = names axes 1 && names axes 2
-planeSet axes XZ = names axes 1 && names axes 4
-planeSet axes YZ = names axes 2 && names axes 4
+planeSet axes p = has axes (firstAxis p) && has axes (secondAxis p)
 
 -- ---- 1: the two ways sent are those in which the rule sends the axes off; where it gives an axis none there, the one that it gives this axis
 -- once the first pulse is made

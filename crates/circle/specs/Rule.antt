@@ -7,10 +7,13 @@ use lib.IntN.{ℤ, pos, negsuc}
 use Rattle.count.specs.Pick.{pick}
 use Rattle.count.specs.Paper.{Paper, says}
 use Rattle.count.specs.Numbers.{far}
+use Rattle.count.specs.declared.Axis.{Axis}
+use Rattle.count.specs.declared.Axis.the-variants.{X, Y, Z}
 use Rattle.motion.specs.declared.Sign.{Sign}
 use Rattle.motion.specs.declared.Sign.the-variants.{Minus, Rest, Plus}
 use Rattle.motion.specs.declared.Signs.{Signs}
 use Rattle.motion.specs.declared.Counters.{Counters}
+use Rattle.motion.specs.Axes.{on}
 use Rattle.motion.specs.Phase.{moved}
 use Rattle.circle.specs.declared.Plane.{Plane}
 use Rattle.circle.specs.declared.Plane.the-variants.{XY, XZ, YZ}
@@ -33,17 +36,25 @@ planeNumber XY = 0
 planeNumber XZ = 1
 planeNumber YZ = 2
 
+abbrev pub firstAxis : Plane → Axis
+firstAxis XY = X
+firstAxis XZ = X
+firstAxis YZ = Y
+
+abbrev pub secondAxis : Plane → Axis
+secondAxis XY = Y
+secondAxis XZ = Z
+secondAxis YZ = Z
+
 -- where the axes of a plane stand
 abbrev pub onPlane : Plane → Counters → Pair
-onPlane XY c = pair (c .x) (c .y)
-onPlane XZ c = pair (c .x) (c .z)
-onPlane YZ c = pair (c .y) (c .z)
+onPlane p c = pair (on (firstAxis p) c) (on (secondAxis p) c)
 
--- what the axes of a plane show, on the three axes: the third rests
+-- what the axes of a plane show: the others rest, and so does A always
 abbrev pub onAxes : Plane → Ways → Signs
-onAxes XY w = record { x = w .first; y = w .second; z = Rest }
-onAxes XZ w = record { x = w .first; y = Rest; z = w .second }
-onAxes YZ w = record { x = Rest; y = w .first; z = w .second }
+onAxes XY w = record { x = w .first; y = w .second; z = Rest; a = Rest }
+onAxes XZ w = record { x = w .first; y = Rest; z = w .second; a = Rest }
+onAxes YZ w = record { x = Rest; y = w .first; z = w .second; a = Rest }
 
 -- ---- the point is counted from the centre
 

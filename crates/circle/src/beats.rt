@@ -1,7 +1,8 @@
 // The pulses of an arc.
 ghost use mathlib.Core.Path.{_≡_};
 ghost use Prim.Native.Nat.{_<_};
-ghost use Rattle.motion.specs.Sound.{counted};
+ghost use Rattle.count.specs.Axes.{Each};
+ghost use Rattle.motion.specs.Axes.{on};
 ghost use Rattle.circle.specs.Rule.{measure};
 ghost use Rattle.circle.specs.Arc.{zero, arcSigns, countedPair, arcBeat, withMade, arcLeft};
 use super::Arc;
@@ -17,12 +18,6 @@ use motion::Counters;
 use motion::Mark;
 use motion::Moved;
 use motion::Signs;
-
-pub(crate) fn is_counted(c: Counters) -> bool
-    ensures { λ r. ⌜ r ≡ counted c ⌝ }
-{
-    count::in_range(c.x) & count::in_range(c.y) & count::in_range(c.z) & count::in_range(c.a)
-}
 
 fn is_counted_pair(p: Pair) -> bool
     ensures { λ r. ⌜ r ≡ countedPair p ⌝ }
@@ -51,7 +46,7 @@ pub(crate) fn start_value(start: Pair) -> u64
 impl Arc {
     // What the next pulse shows.
     fn signs(self, at: Counters) -> Signs
-        requires { ⌜ (at .x < 16777216) × (at .y < 16777216) × (at .z < 16777216) × (self .centre .first < 16777216) × (self .centre .second < 16777216)
+        requires { ⌜ Each (λ i. on i at < 16777216) × (self .centre .first < 16777216) × (self .centre .second < 16777216)
             × (self .start .first < 16777216) × (self .start .second < 16777216) ⌝ }
         ensures { λ r. ⌜ r ≡ arcSigns self at ⌝ }
     {
@@ -70,7 +65,7 @@ impl Arc {
         if self.length <= made {
             return Beaten::Over;
         }
-        if !(is_counted(at) & is_counted_pair(self.centre) & is_counted_pair(self.start)) {
+        if !(motion::counted_at(at) & is_counted_pair(self.centre) & is_counted_pair(self.start)) {
             return Beaten::Over;
         }
         let signs = self.signs(at);

@@ -5,7 +5,7 @@ ghost use Prim.Native.Nat.{_<_, _≤_};
 ghost use lib.Dec.{eqb};
 ghost use lib.ListN.{getD};
 ghost use Rattle.count.specs.Numbers.{count, signed, word};
-ghost use Rattle.count.specs.Ranges.{names, inStart, rightArc};
+ghost use Rattle.count.specs.Ranges.{inStart, rightArc};
 ghost use Rattle.motion.specs.Phase.{signValue};
 ghost use Rattle.circle.specs.Plan.{planeOf, directionOf, planeSet, startOf, orElse, firstWays, less, centreOf, arcFrom, goingBy, bendOf};
 use super::Arc;
@@ -16,7 +16,6 @@ use super::Pair;
 use super::Plane;
 use super::Ways;
 use super::beats::at_centre;
-use super::beats::is_counted;
 use super::rule::on_plane;
 use super::rule::shifted_by;
 use super::rule::ways_of;
@@ -165,7 +164,7 @@ fn bend_by(circling: Circling, at: Counters, start: Pair, words: [u32; 8]) -> Be
     requires { ⌜ (start .first < 16777216) × (start .second < 16777216) × (getD words 1 0 ≤ 10000) ⌝ }
     ensures { λ r. ⌜ r ≡ goingBy circling at start words ⌝ }
 {
-    if !is_counted(at) {
+    if !motion::counted_at(at) {
         return Bent::Refused(b'9');
     }
     let plane = circling.plane;

@@ -9,7 +9,6 @@ ghost use Rattle.circle.specs.Plan.{root, reaches, hasRoom};
 ghost use Rattle.circle.specs.Sound.{startSound, pointSound, arcUnderWay, arcLook};
 use super::Arc;
 use super::Pair;
-use super::beats::is_counted;
 use super::beats::start_value;
 use super::rule::on_plane;
 use motion::Beaten;
@@ -92,7 +91,7 @@ impl Arc {
     pub fn sound(self, at: Counters) -> bool
         ensures { λ r. ⌜ r ≡ arcUnderWay self at ⌝ }
     {
-        if !(is_counted(at) & speed_right(self.speed) & start_right(self.start)) {
+        if !(motion::counted_at(at) & speed_right(self.speed) & start_right(self.start)) {
             return false;
         }
         self.placed(at) & (self.made <= self.length)

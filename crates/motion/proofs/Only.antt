@@ -1,6 +1,7 @@
 -- No second outcome satisfies the contract of an exported function: of any two results that the contract itself allows for the same
 -- arguments, each is the other. Assumes nothing.
 use mathlib.Core.Path.{_≡_, sym, _∙_}
+use Rattle.motion.proofs.sound.counted_at.Reads as counted-at
 use Rattle.motion.proofs.route.plan.Reads as plan
 use Rattle.motion.proofs.steps.step_to.Reads as step-to
 use Rattle.motion.proofs.Move.next.Reads as next
@@ -45,3 +46,6 @@ look-one κs a r r′ s s′ p q = p ∙ sym q
 
 pub at-mark-one : (κs : _) (a : _) (r r′ : _) (s s′ : _) → at-mark.Post κs a r s → at-mark.Post κs a r′ s′ → r ≡ r′
 at-mark-one κs a r r′ s s′ p q = p ∙ sym q
+
+pub counted-at-one : (κs : _) (a : _) (r r′ : _) (s s′ : _) → counted-at.Post κs a r s → counted-at.Post κs a r′ s′ → r ≡ r′
+counted-at-one κs a r r′ s s′ p q = p ∙ sym q

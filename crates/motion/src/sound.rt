@@ -25,8 +25,8 @@ fn speed_right(v: u16) -> bool
     (30 <= v) & (v <= 10000)
 }
 
-// Counts of 24 bits.
-fn counted_at(c: Counters) -> bool
+// Whether the counts of a point are of 24 bits.
+pub fn counted_at(c: Counters) -> bool
     ensures { λ r. ⌜ r ≡ counted c ⌝ }
 {
     count::in_range(c.x) & count::in_range(c.y) & count::in_range(c.z) & count::in_range(c.a)

@@ -9,7 +9,7 @@ use Rattle.motion.specs.declared.Next.{Next as StraightNext}
 use Rattle.motion.specs.declared.Next.the-variants as straight
 use Rattle.motion.specs.declared.Beaten.{Beaten}
 use Rattle.motion.specs.declared.Beaten.the-variants as beat
-use Rattle.motion.specs.Phase.{signValue}
+use Rattle.motion.specs.Phase.{signsThen}
 use Rattle.motion.specs.Next.{pulseOf as straightPulse, leftOf as straightLeft}
 use Rattle.circle.specs.declared.Arc.{Arc}
 use Rattle.circle.specs.Arc.{arcBeat, withMade, arcLeft}
@@ -48,5 +48,5 @@ leftOf (travel.Round a) = arcLeft a
 
 -- the clock's answers are 1, a pulse with its signs and speed, to 5, nothing
 abbrev pub nextPaper : Next → Paper
-nextPaper (Made s) = says 1 (signValue (s .signs .x) ∷ signValue (s .signs .y) ∷ signValue (s .signs .z) ∷ pos (s .speed) ∷ [])
+nextPaper (Made s) = says 1 (signsThen (s .signs) (pos (s .speed) ∷ []))
 nextPaper Over = says 5 []

@@ -119,9 +119,9 @@ unfolding pointSound
 point-sound start centre p h g o =
     both (both (le-leb _ (reachOf start) h) (le-leb _ (reachOf start) g)) (point-of (centre .first) (centre .second) (p .first) (p .second) o)
 
--- ---- the axes of a plane and the three axes
+-- ---- the axes of a plane and all axes
 
--- a move of the plane's axes, and what it is on the three
+-- a move of the plane's axes, and what it is on all
 pub plane-moved : (q : Plane) (w : Ways) (at : Counters) → onPlane q (movedAll at (onAxes q w)) ≡ shifted (onPlane q at) w
 plane-moved XY w at = refl
 plane-moved XZ w at = refl
@@ -129,9 +129,9 @@ plane-moved YZ w at = refl
 
 pub plane-steps : (q : Plane) (w : Ways) (at : Counters) → hasStep (onPlane q at .first) (w .first) ≡ true → hasStep (onPlane q at .second) (w .second) ≡ true
     → haveSteps at (onAxes q w) ≡ true
-plane-steps XY w at h g = both (both h g) refl
-plane-steps XZ w at h g = both (both h refl) g
-plane-steps YZ w at h g = both (both refl h) g
+plane-steps XY w at h g = both (both (both h g) refl) refl
+plane-steps XZ w at h g = both (both (both h refl) g) refl
+plane-steps YZ w at h g = both (both (both refl h) g) refl
 
 -- ---- numbers of 24 bits, and the radius
 

@@ -9,6 +9,9 @@ use lib.ListN.{getD}
 use borrow.Author.Tests.{lt-ltb, le-ltb, le-leb, lt-leb, ltb-true, leb-true}
 use Rattle.count.specs.Pick.{pick}
 use Rattle.count.specs.Numbers.{full, in24, signed, word, within}
+use Rattle.count.specs.declared.Axis.{Axis}
+use Rattle.count.specs.Axes.{Each}
+use Rattle.count.proofs.laws.Axes.{each-at, each-of}
 use Rattle.count.specs.Ranges.{nth, inArc, inZero, inWay, inStart, inSpeed, rightArc}
 use Rattle.count.proofs.laws.Laws.{signed-low, signed-high, within-up}
 use Rattle.count.proofs.laws.Truth.{and-left, and-right}
@@ -20,7 +23,9 @@ use Rattle.motion.specs.declared.Beat.{Beat}
 use Rattle.motion.specs.declared.Beaten.{Beaten}
 use Rattle.motion.specs.declared.Beaten.the-variants as beat
 use Rattle.motion.specs.declared.Look.the-variants as look
+use Rattle.motion.specs.Axes.{on}
 use Rattle.motion.specs.Phase.{signValue}
+use Rattle.motion.proofs.laws.Passed.{in24-of}
 use Rattle.motion.specs.Pulse.{stepTo}
 use Rattle.motion.specs.Sound.{counted, speedRight}
 use Rattle.circle.specs.declared.Plane.{Plane}
@@ -31,7 +36,7 @@ use Rattle.circle.specs.declared.Ways.{Ways}
 use Rattle.circle.specs.declared.Arc.{Arc}
 use Rattle.circle.specs.declared.Bent.{Bent}
 use Rattle.circle.specs.declared.Bent.the-variants.{Going, Refused}
-use Rattle.circle.specs.Rule.{onPlane, rests, firstOnly, secondOnly, shifted, off, moveOf}
+use Rattle.circle.specs.Rule.{firstAxis, secondAxis, onPlane, rests, firstOnly, secondOnly, shifted, off, moveOf}
 use Rattle.circle.specs.Arc.{arcSigns, countedPair, beatTo, arcBeat, withMade}
 use Rattle.circle.specs.Plan.{planeSet, startOf, firstWays, waysFit, centreOf, hasRoom, arcFrom, goingBy, bendOf}
 use Rattle.circle.specs.Sound.{startSound, pointSound, arcUnderWay, arcLook}
@@ -62,19 +67,11 @@ module _ (value : ℕ) (centre at : Pair) (w : Ways) where
 -- ---- counts of 24 bits
 
 -- where the axes of a plane stand
-pub plane-small : {p : Pair} (plane : Plane) (c : Counters) → p ≡ onPlane plane c → c .x < full → c .y < full → c .z < full
-    → (p .first < full) × (p .second < full)
-plane-small XY c e x y z = rw e (x, y)
-plane-small XZ c e x y z = rw e (x, z)
-plane-small YZ c e x y z = rw e (y, z)
+pub plane-small : {p : Pair} (plane : Plane) (c : Counters) → p ≡ onPlane plane c → Each (λ i. on i c < full) → (p .first < full) × (p .second < full)
+plane-small plane c e h = rw e (each-at (λ (i : Axis). on i c < full) h (firstAxis plane), each-at (λ (i : Axis). on i c < full) h (secondAxis plane))
 
-pub counted-parts : (c : Counters) → counted c ≡ true → (c .x < full) × (c .y < full) × (c .z < full)
-unfolding counted
-counted-parts c h =
-    let a = ltb (c .x) full in
-    let b = ltb (c .y) full in
-    let d = ltb (c .z) full in
-    (ltb-true (c .x) full (and-left a b (and-left (a && b) d h)), ltb-true (c .y) full (and-right a b (and-left (a && b) d h)), ltb-true (c .z) full (and-right (a && b) d h))
+pub counted-parts : (c : Counters) → counted c ≡ true → Each (λ i. on i c < full)
+counted-parts c h = each-of (λ (i : Axis). on i c < full) (in24-of c h .each)
 
 pub pair-parts : (p : Pair) → countedPair p ≡ true → (p .first < full) × (p .second < full)
 pair-parts p h =
@@ -107,13 +104,13 @@ module _ (a : Arc) (k : ℕ) (at : Counters) where
         none (ltb k (a .length)) (beatTo (withMade a k) (arcSigns (withMade a k) at) (stepTo at (arcSigns (withMade a k) at))) beat.Over (all ∙ h)
 
     module _ (t : x && y && z ≡ true) where
-      pub beat-parts : (at .x < full) × (at .y < full) × (at .z < full) × (a .centre .first < full) × (a .centre .second < full)
+      pub beat-parts : Each (λ i. on i at < full) × (a .centre .first < full) × (a .centre .second < full)
           × (a .start .first < full) × (a .start .second < full)
       beat-parts =
           let c = counted-parts at (sym p ∙ and-left x y (and-left (x && y) z t)) in
           let d = pair-parts (a .centre) (sym q ∙ and-right x y (and-left (x && y) z t)) in
           let e = pair-parts (a .start) (sym r ∙ and-right (x && y) z t) in
-          (c .0, c .1, c .2, d .0, d .1, e .0, e .1)
+          (c, d .0, d .1, e .0, e .1)
 
       module _ {s : Signs} {m : Moved} (l : k < a .length) (u : s ≡ arcSigns a at) (v : m ≡ stepTo at s) where
         pub beat-none : m ≡ moved.Outside → beat.Over ≡ arcBeat (withMade a k) at

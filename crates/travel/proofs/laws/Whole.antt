@@ -7,7 +7,8 @@ use native.Mathlib.Omega.{arith}
 use lib.IntN.{ℤ, pos, _+ℤ_, +ℤ-idr, +ℤ-assoc}
 use lib.ListN.{length}
 use Rattle.count.specs.Numbers.{value}
-use Rattle.motion.specs.declared.Sign.{Sign}
+use Rattle.count.specs.declared.Axis.{Axis}
+use Rattle.count.proofs.laws.Axes.{each-at}
 use Rattle.motion.specs.declared.Signs.{Signs}
 use Rattle.motion.specs.declared.Counters.{Counters}
 use Rattle.motion.specs.declared.Move.{Move}
@@ -18,7 +19,9 @@ use Rattle.motion.specs.declared.Next.{Next as StraightNext}
 use Rattle.motion.specs.declared.Next.the-variants as straight
 use Rattle.motion.specs.Phase.{movedAll, signValue}
 use Rattle.motion.specs.Next.{pulseOf as straightPulse}
-use Rattle.motion.specs.work.Room.{hasRoom}
+use Rattle.motion.specs.Axes.{on, shows}
+use Rattle.motion.specs.work.Room.{room, hasRoom}
+use Rattle.motion.proofs.laws.Points.{on-moved}
 use Rattle.motion.proofs.laws.Whole.{over-left as straight-over, none-left as straight-none, value-moved, pulsesOf as straightPulses, pulseThen as straightThen}
 use Rattle.circle.specs.declared.Arc.{Arc}
 use Rattle.circle.specs.Arc.{arcBeat}
@@ -74,38 +77,22 @@ remains m (s ∷ l) = remains (s .rest) l
 
 -- ---- an axis
 
-pub data Axis : Type 0 where
-  X : Axis
-  Y : Axis
-  Z : Axis
-
-abbrev pub countOn : Axis → Counters → ℕ
-countOn X c = c .x
-countOn Y c = c .y
-countOn Z c = c .z
-
-abbrev pub signOn : Axis → Signs → Sign
-signOn X s = s .x
-signOn Y s = s .y
-signOn Z s = s .z
-
 -- the sum of what pulses show on it
 abbrev pub total : Axis → List Stepped → ℤ
 total a [] = pos 0
-total a (s ∷ l) = signValue (signOn a (s .signs)) +ℤ total a l
+total a (s ∷ l) = signValue (shows a (s .signs)) +ℤ total a l
 
 -- a pulse's sign is its number added to the axis's
-pub value-pulsed : (a : Axis) (at : Counters) (s : Signs) → hasRoom at s → value (countOn a (movedAll at s)) ≡ value (countOn a at) +ℤ signValue (signOn a s)
-value-pulsed X at s r = value-moved (at .x) (s .x) (r .0)
-value-pulsed Y at s r = value-moved (at .y) (s .y) (r .1)
-value-pulsed Z at s r = value-moved (at .z) (s .z) (r .2)
+pub value-pulsed : (i : Axis) (at : Counters) (s : Signs) → hasRoom at s → value (on i (movedAll at s)) ≡ value (on i at) +ℤ signValue (shows i s)
+value-pulsed i at s r =
+    ap value (on-moved at s i) ∙ value-moved (on i at) (shows i s) (each-at (λ (j : Axis). room (on j at) (shows j s)) r i)
 
 -- ---- the first k pulses of what 103 lets pass
 
 -- they are k if so many are left, they add up on each axis to where they lead, and what remains passes there with as many fewer left
 pub record First (k : ℕ) (m : Travel) (at : Counters) : Type 0 where
   pub count : k ≤ leftOf m → length (pulsesOf k m at) ≡ k
-  pub sums : (a : Axis) → value (countOn a at) +ℤ total a (pulsesOf k m at) ≡ value (countOn a (reached at (pulsesOf k m at)))
+  pub sums : (a : Axis) → value (on a at) +ℤ total a (pulsesOf k m at) ≡ value (on a (reached at (pulsesOf k m at)))
   pub sound : underWay (remains m (pulsesOf k m at)) (reached at (pulsesOf k m at)) ≡ true
   pub left : leftOf m ≡ leftOf (remains m (pulsesOf k m at)) + length (pulsesOf k m at)
 
@@ -124,8 +111,8 @@ module _ (k : ℕ) (rec : (m : Travel) (at : Counters) → underWay m at ≡ tru
         count = λ h. rw e (ap suc (w .count (omega (arith, t .left))));
         sums = λ a.
             rw e
-            (sym (+ℤ-assoc (value (countOn a at)) (signValue (signOn a (s .signs))) (total a l))
-            ∙ ap (λ (v : ℤ). v +ℤ total a l) (sym (value-pulsed a at (s .signs) (t .rooms)) ∙ ap (λ (c : Counters). value (countOn a c)) (sym (t .there)))
+            (sym (+ℤ-assoc (value (on a at)) (signValue (shows a (s .signs))) (total a l))
+            ∙ ap (λ (v : ℤ). v +ℤ total a l) (sym (value-pulsed a at (s .signs) (t .rooms)) ∙ ap (λ (c : Counters). value (on a c)) (sym (t .there)))
             ∙ w .sums a);
         sound = rw e (w .sound);
         left = rw e (plus-one (leftOf m) (leftOf (s .rest)) (leftOf (remains (s .rest) l)) (length l) (t .left) (w .left));
@@ -133,14 +120,14 @@ module _ (k : ℕ) (rec : (m : Travel) (at : Counters) → underWay m at ≡ tru
   one-more Over e =
       record {
         count = λ h. absurd (omega (arith, over-left m at u e));
-        sums = λ a. rw e (+ℤ-idr (value (countOn a at)));
+        sums = λ a. rw e (+ℤ-idr (value (on a at)));
         sound = rw e u;
         left = rw e (omega arith);
       }
 
 pub first : (k : ℕ) (m : Travel) (at : Counters) → underWay m at ≡ true → First k m at
 unfolding pulsesOf
-first zero m at u = record { count = λ h. refl; sums = λ a. +ℤ-idr (value (countOn a at)); sound = u; left = omega arith }
+first zero m at u = record { count = λ h. refl; sums = λ a. +ℤ-idr (value (on a at)); sound = u; left = omega arith }
 first (suc k) m at u = one-more k (first k) m at u (pulseOf m at) refl
 
 -- THEIR NUMBER: as many as are left, and of fewer each is made
@@ -152,15 +139,15 @@ count m at u = count-of (leftOf m) m at u (omega arith)
 
 -- THEIR SUM, on each axis: from where it stands to where they lead
 pub sums : (a : Axis) (k : ℕ) (m : Travel) (at : Counters) → underWay m at ≡ true
-    → value (countOn a at) +ℤ total a (pulsesOf k m at) ≡ value (countOn a (reached at (pulsesOf k m at)))
+    → value (on a at) +ℤ total a (pulsesOf k m at) ≡ value (on a (reached at (pulsesOf k m at)))
 sums a k m at u = first k m at u .sums a
 
 -- each pulse by itself
 pub sum-one : (a : Axis) (m : Travel) (at : Counters) {s : Stepped} → underWay m at ≡ true → pulseOf m at ≡ Made s
-    → value (countOn a (s .at)) ≡ value (countOn a at) +ℤ signValue (signOn a (s .signs))
+    → value (on a (s .at)) ≡ value (on a at) +ℤ signValue (shows a (s .signs))
 sum-one a m at {s} u e =
     let t = taken m at u e in
-    ap (λ (c : Counters). value (countOn a c)) (t .there) ∙ value-pulsed a at (s .signs) (t .rooms)
+    ap (λ (c : Counters). value (on a c)) (t .there) ∙ value-pulsed a at (s .signs) (t .rooms)
 
 -- THERE ARE NO MORE: asked for any number beyond those left, those left are made
 module _ (j k : ℕ) (rec : (m : Travel) (at : Counters) → underWay m at ≡ true → leftOf m ≡ k → pulsesOf (k + j) m at ≡ pulsesOf k m at)

@@ -15,7 +15,7 @@ start-value-requires : tie.Need-start-value-requires
 start-value-requires c κs = search needs
 
 move-by-requires : tie.Need-move-by-requires
-move-by-requires c κs = let s = c .before .before .before .before in let h = plane-small (s .args .self .circling .plane) (s .args .at) (c .before .before .on-plane .ensures) (s .pre .0) (s .pre .1) (s .pre .2) in (s .pre .3, s .pre .4, h .0, h .1)
+move-by-requires c κs = let s = c .before .before .before .before in let h = plane-small (s .args .self .circling .plane) (s .args .at) (c .before .before .on-plane .ensures) (s .pre .0) in (s .pre .1, s .pre .2, h .0, h .1)
 
 on-axes-requires : tie.Need-on-axes-requires
 on-axes-requires c κs = search needs

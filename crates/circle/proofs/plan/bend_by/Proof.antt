@@ -6,17 +6,17 @@ use Rattle.circle.proofs.laws.Work.{plane-small, counted-parts, going-o
 use Rattle.circle.proofs.plan.bend_by.Statement.{statement}
 use Rattle.circle.proofs.plan.bend_by.Tie as tie
 
-is-counted-requires : tie.Need-is-counted-requires
-is-counted-requires c κs = search needs
+counted-at-requires : tie.Need-counted-at-requires
+counted-at-requires c κs = search needs
 
 returns : tie.Need-returns
-returns c = let a = c .before .before .args in going-out (a .circling) (a .at) (a .start) (a .words) (sym (c .before .is-counted .ensures) ∙ not-true _ (c .if1 .taken))
+returns c = let a = c .before .before .args in going-out (a .circling) (a .at) (a .start) (a .words) (sym (c .before .counted-at .ensures) ∙ not-true _ (c .if1 .taken))
 
 on-plane-requires : tie.Need-on-plane-requires
 on-plane-requires c κs = search needs
 
 centre-of-requires : tie.Need-centre-of-requires
-centre-of-requires c κs = let s = c .before .before .before in let t = counted-parts (s .args .at) (sym (c .before .before .is-counted .ensures) ∙ not-false _ (c .before .if1 .left)) in let h = plane-small (s .args .circling .plane) (s .args .at) (c .on-plane .ensures) (t .0) (t .1) (t .2) in (h .0, h .1, s .pre .0, s .pre .1)
+centre-of-requires c κs = let s = c .before .before .before in let t = counted-parts (s .args .at) (sym (c .before .before .counted-at .ensures) ∙ not-false _ (c .before .if1 .left)) in let h = plane-small (s .args .circling .plane) (s .args .at) (c .on-plane .ensures) t in (h .0, h .1, s .pre .0, s .pre .1)
 
 has-room-requires : tie.Need-has-room-requires
 has-room-requires c κs = search needs
@@ -25,16 +25,16 @@ arc-of-requires : tie.Need-arc-of-requires
 arc-of-requires c κs = search needs
 
 returns-2 : tie.Need-returns-2
-returns-2 c = let a = c .before .before .before .before .before .before .before .args in going-on (a .circling) (a .at) (a .start) (a .words) (sym (c .before .before .before .before .before .before .is-counted .ensures) ∙ not-false _ (c .before .before .before .before .before .if1 .left)) (c .before .before .before .before .on-plane .ensures) (c .before .before .before .centre-of .ensures) (sym (c .before .before .has-room .ensures) ∙ c .before .if2 .taken) (c .arc-of .ensures)
+returns-2 c = let a = c .before .before .before .before .before .before .before .args in going-on (a .circling) (a .at) (a .start) (a .words) (sym (c .before .before .before .before .before .before .counted-at .ensures) ∙ not-false _ (c .before .before .before .before .before .if1 .left)) (c .before .before .before .before .on-plane .ensures) (c .before .before .before .centre-of .ensures) (sym (c .before .before .has-room .ensures) ∙ c .before .if2 .taken) (c .arc-of .ensures)
 
 returns-3 : tie.Need-returns-3
-returns-3 c = let a = c .before .before .before .before .before .before .args in going-none (a .circling) (a .at) (a .start) (a .words) (sym (c .before .before .before .before .before .is-counted .ensures) ∙ not-false _ (c .before .before .before .before .if1 .left)) (c .before .before .before .on-plane .ensures) (c .before .before .centre-of .ensures) (sym (c .before .has-room .ensures) ∙ c .if2 .left)
+returns-3 c = let a = c .before .before .before .before .before .before .args in going-none (a .circling) (a .at) (a .start) (a .words) (sym (c .before .before .before .before .before .counted-at .ensures) ∙ not-false _ (c .before .before .before .before .if1 .left)) (c .before .before .before .on-plane .ensures) (c .before .before .centre-of .ensures) (sym (c .before .has-room .ensures) ∙ c .if2 .left)
 
 pub bend-by-spec : {M : Type 1} → statement M
 bend-by-spec =
     tie.close
     (tie.spec
-    is-counted-requires
+    counted-at-requires
     returns
     on-plane-requires
     centre-of-requires

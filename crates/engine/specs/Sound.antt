@@ -3,6 +3,7 @@ use Prim.Native.Nat.{ℕ}
 use mathlib.Core.Bool.{Bool, true, _&&_, _||_}
 use lib.Dec.{leb, eqb}
 use Rattle.count.specs.Sizes.{storeBytes, mostRecords}
+use Rattle.count.specs.Axes.{axesSet}
 use Rattle.motion.specs.declared.Counters.{Counters}
 use Rattle.motion.specs.Sound.{counted}
 use Rattle.travel.specs.Sound.{underWay}
@@ -10,9 +11,9 @@ use Rattle.engine.specs.declared.Job.{Job}
 use Rattle.engine.specs.declared.Job.the-variants as job
 use Rattle.engine.specs.declared.Engine.{Engine}
 
--- axes or store axes: 0, 1, 3 or 7
+-- axes or store axes: 0, or those that lines set: 1, 3, 7, 8 or 15
 abbrev pub axesKnown : ℕ → Bool
-axesKnown a = eqb a 0 || eqb a 1 || eqb a 3 || eqb a 7
+axesKnown a = eqb a 0 || axesSet a
 
 -- a movement or an arc under way, direct or of a program
 abbrev pub jobSound : Job → Counters → Bool

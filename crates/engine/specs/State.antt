@@ -1,6 +1,6 @@
 -- The engine's state and what lines and control codes do to it (01, "Lines", table of lines; "Running a program", last paragraph; 02, §3 for
--- circles).
-use Prim.Native.Nat.{ℕ}
+-- circles, §7 for the A axis).
+use Prim.Native.Nat.{ℕ, _+_}
 use mathlib.Core.Bool.{Bool, false}
 use mathlib.Core.List.{List, [], _∷_}
 use lib.Dec.{eqb}
@@ -9,9 +9,11 @@ use Rattle.count.specs.Chars.{ch}
 use Rattle.count.specs.Pick.{pick}
 use Rattle.count.specs.Paper.{Paper, says}
 use Rattle.count.specs.Numbers.{half}
-use Rattle.count.specs.Ranges.{names}
+use Rattle.count.specs.declared.Axis.the-variants.{A}
+use Rattle.count.specs.Axes.{part, has}
 use Rattle.motion.specs.declared.Counters.{Counters}
-use Rattle.motion.specs.Phase.{signValue}
+use Rattle.motion.specs.Axes.{on, point}
+use Rattle.motion.specs.Phase.{signsThen}
 use Rattle.motion.specs.Plan.{asked}
 use Rattle.circle.specs.declared.Plane.{Plane}
 use Rattle.circle.specs.declared.Direction.{Direction}
@@ -37,13 +39,16 @@ use Rattle.engine.specs.Kinds.{kind, rowOf}
 -- ---- the answer on paper: 1 a pulse with its signs and speed, 2 a pause, 3 a byte to send, 4 a record done, 5 nothing
 
 abbrev pub paper : Answer → Paper
-paper (answer.Pulse s v) = says 1 (signValue (s .x) ∷ signValue (s .y) ∷ signValue (s .z) ∷ pos v ∷ [])
+paper (answer.Pulse s v) = says 1 (signsThen s (pos v ∷ []))
 paper answer.Pause = says 2 []
 paper (answer.Send b) = says 3 (pos b ∷ [])
 paper answer.Done = says 4 []
 paper answer.Nothing = says 5 []
 
 -- ---- one field made anew, the others kept
+
+abbrev pub withAxes : Engine → ℕ → Engine
+withAxes e n = record { axes = n; at = e .at; origin = e .origin; three = e .three; circling = e .circling; output = e .output; held = e .held; run = e .run }
 
 abbrev pub withAt : Engine → Counters → Engine
 withAt e c = record { axes = e .axes; at = c; origin = e .origin; three = e .three; circling = e .circling; output = e .output; held = e .held; run = e .run }
@@ -74,17 +79,13 @@ withJob e j = withRun e (running j (e .run .place) (e .run .loops))
 
 -- ---- axes
 
--- the counters of three axes at 0
+-- the counters of all axes at 0
 abbrev pub zeroes : Counters
-zeroes = record { x = half; y = half; z = half }
+zeroes = point (λ i. half)
 
 -- the counters of the axes named taken from one, the others from another
 unfoldable pub mixed : ℕ → Counters → Counters → Counters
-mixed axes c d = record { x = pick (names axes 1) (c .x) (d .x); y = pick (names axes 2) (c .y) (d .y); z = pick (names axes 4) (c .z) (d .z) }
-
--- setting axes: positions and origins 0, 2.5D on; plane 0, clockwise
-abbrev pub axesOf : ℕ → Engine → Engine
-axesOf axes e = record { axes = axes; at = zeroes; origin = zeroes; three = false; circling = atFirst; output = e .output; held = e .held; run = e .run }
+mixed axes c d = point (λ i. pick (has axes i) (on i c) (on i d))
 
 -- n: origin := position; N: position and origin := 0
 abbrev pub originOf : ℕ → Engine → Engine
@@ -92,6 +93,20 @@ originOf axes e = withOrigin e (mixed axes (e .at) (e .origin))
 
 abbrev pub zeroOf : ℕ → Engine → Engine
 zeroOf axes e = withOrigin (withAt e (mixed axes zeroes (e .at))) (mixed axes zeroes (e .origin))
+
+-- setting axes 1, 3 or 7: positions and origins 0, 2.5D on; plane 0, clockwise
+abbrev pub anewOf : ℕ → Engine → Engine
+anewOf axes e = record { axes = axes; at = zeroes; origin = zeroes; three = false; circling = atFirst; output = e .output; held = e .held; run = e .run }
+
+-- setting 8 (02, §7): A beside the axes set, which stay as they are where A is one of them; position and origin of A 0, and nothing else changes
+abbrev pub besideA : ℕ → ℕ
+besideA axes = pick (has axes A) axes (axes + part A)
+
+abbrev pub turntableOf : Engine → Engine
+turntableOf e = withAxes (zeroOf (part A) e) (besideA (e .axes))
+
+abbrev pub axesOf : ℕ → Engine → Engine
+axesOf axes e = pick (eqb axes (part A)) (turntableOf e) (anewOf axes e)
 
 -- ---- circles: e sets their plane, f their direction
 

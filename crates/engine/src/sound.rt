@@ -7,12 +7,6 @@ use super::Engine;
 use super::Job;
 use motion::Counters;
 
-fn is_counted(c: Counters) -> bool
-    ensures { λ r. ⌜ r ≡ counted c ⌝ }
-{
-    count::in_range(c.x) & count::in_range(c.y) & count::in_range(c.z) & count::in_range(c.a)
-}
-
 // Axes or store axes: none, or those that lines set.
 fn is_known(axes: u8) -> bool
     ensures { λ r. ⌜ r ≡ axesKnown axes ⌝ }
@@ -44,7 +38,7 @@ impl Engine {
         let held = self.held;
         let run = self.run;
         let loops = run.loops;
-        let points = is_counted(at) & is_counted(self.origin);
+        let points = motion::counted_at(at) & motion::counted_at(self.origin);
         let axes = is_known(self.axes) & is_known(held.axes);
         let used = (held.used <= 16384) & (held.records <= 1000);
         points & axes & used & (loops.depth <= 7)

@@ -1,11 +1,9 @@
 // The engine's state: a fresh one, one part of it made anew, and what lines and control codes do to it.
 ghost use mathlib.Core.Path.{_≡_};
-ghost use Prim.Native.Nat.{_<_};
 ghost use Rattle.count.specs.Pick.{pick};
 ghost use Rattle.program.specs.Onward.{noLoops};
 ghost use Rattle.engine.specs.work.Glide.{glided};
-ghost use Rattle.count.specs.Ranges.{names};
-ghost use Rattle.engine.specs.State.{withAt, withOrigin, withThree, withOutput, withHeld, withRun, running, withJob, zeroes, mixed, axesOf, originOf, zeroOf, idle, ceased, started, nothingHeld, emptied, fresh, storingOf, keptBy, resetOf, heard, begun, begunBy, beginOf, circleBegun};
+ghost use Rattle.engine.specs.State.{withAt, withOrigin, withThree, withOutput, withHeld, withRun, running, withJob, zeroes, mixed, besideA, turntableOf, axesOf, originOf, zeroOf, idle, ceased, started, nothingHeld, emptied, fresh, storingOf, keptBy, resetOf, heard, begun, begunBy, beginOf, circleBegun};
 use super::Begun;
 use super::Engine;
 use super::Job;
@@ -50,10 +48,13 @@ fn held_none(axes: u8) -> Held
 }
 
 // The axes set and A.
-fn with_a(axes: u8) -> u8
-    ensures { λ r. ⌜ r ≡ withA axes ⌝ }
+fn beside_a(axes: u8) -> u8
+    ensures { λ r. ⌜ r ≡ besideA axes ⌝ }
 {
-    if axes < 8 { axes + 8 } else { axes }
+    if count::has(axes as u32, Axis::A) {
+        return axes;
+    }
+    axes + 8
 }
 
 fn chosen(b: bool, x: u32, y: u32) -> u32
@@ -143,7 +144,7 @@ impl Engine {
         ensures { λ r. ⌜ r ≡ turntableOf self ⌝ }
     {
         let mut e = self.set_zero(8);
-        e.axes = with_a(self.axes);
+        e.axes = beside_a(self.axes);
         e
     }
 

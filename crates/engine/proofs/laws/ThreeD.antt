@@ -1,8 +1,11 @@
--- z2 stays in 3D: a direct movement and a stored one do the same whatever their z2, if their numbers are right. Assumes nothing.
+-- z2 stays in 3D: a direct movement and a stored one do the same whatever their z2, if their numbers are right; with A set
+-- there is no z2. Assumes nothing.
 use mathlib.Core.Path.{_≡_, sym, ap, _∙_}
-use mathlib.Core.Bool.{Bool, true}
+use mathlib.Core.Bool.{Bool, true, false}
 use mathlib.Core.List.{List}
 use Prim.Native.Nat.{ℕ}
+use Rattle.count.specs.declared.Axis.the-variants.{A}
+use Rattle.count.specs.Axes.{has}
 use Rattle.motion.specs.Plan.{Asked, asked}
 use Rattle.motion.proofs.laws.ThreeD.{SameButZ2, withWords, rightAsked}
 use Rattle.travel.specs.declared.Planned.{Planned}
@@ -31,17 +34,17 @@ movement rule r e k = rw k
 
 module _ (e : Engine) (three : e .three ≡ true) where
   -- A DIRECT MOVEMENT in 3D: the reply and the engine after it, with the movement under way, do not depend on z2
-  pub three-begins : (absolute : Bool) (l m : List ℕ) → SameButZ2 l m → rightAsked (directAsked absolute l e) ≡ true → rightAsked (directAsked absolute m e) ≡ true
+  pub three-begins : (absolute : Bool) (l m : List ℕ) → SameButZ2 l m → has (e .axes) A ≡ false → rightAsked (directAsked absolute l e) ≡ true → rightAsked (directAsked absolute m e) ≡ true
       → beginOf absolute l e ≡ beginOf absolute m e
   unfolding beginOf
-  three-begins absolute l m s p q = ap (λ (g : Planned). begunBy g e) (three-plan (directAsked absolute l e) m s p q three)
+  three-begins absolute l m s n p q = ap (λ (g : Planned). begunBy g e) (three-plan (directAsked absolute l e) m s n p q three)
 
   -- A STORED MOVEMENT in 3D: two records of the same code that differ in z2 alone
   pub three-performs : (rule : Rule) (r u : Record) → r .code ≡ u .code → isMovement (r .code) ≡ true → SameButZ2 (r .words) (u .words)
-      → rightAsked (storedAsked r e) ≡ true → rightAsked (storedAsked u e) ≡ true → performed rule r e ≡ performed rule u e
-  three-performs rule r u c k s p q =
+      → has (e .held .axes) A ≡ false → rightAsked (storedAsked r e) ≡ true → rightAsked (storedAsked u e) ≡ true → performed rule r e ≡ performed rule u e
+  three-performs rule r u c k s n p q =
       let v : Asked = storedAsked r e in
       let o : rightAsked (withWords v (u .words)) ≡ true = ap (λ (x : ℕ). rightAsked (coded x u e)) c ∙ q in
       movement rule r e k
-      ∙ ap (λ (g : Planned). movingBy rule g e) (three-plan v (u .words) s p o three ∙ ap (λ (x : ℕ). planOf (coded x u e)) c)
+      ∙ ap (λ (g : Planned). movingBy rule g e) (three-plan v (u .words) s n p o three ∙ ap (λ (x : ℕ). planOf (coded x u e)) c)
       ∙ sym (movement rule u e (ap isMovement (sym c) ∙ k))

@@ -10,6 +10,9 @@ use lib.ListN.{length, getD}
 use Rattle.count.specs.Paper.{Paper, says}
 use Rattle.count.specs.Numbers.{count, word, signed, within, in24}
 use Rattle.count.specs.Ranges.{inArc, inStart, inZero, inWay, inSpeed, rightArc}
+use Rattle.count.specs.declared.Axis.{Axis}
+use Rattle.count.specs.declared.Axis.the-variants.{X, Y, Z, A}
+use Rattle.motion.specs.Axes.{point, shows}
 use Rattle.motion.specs.declared.Sign.the-variants.{Rest}
 use Rattle.motion.specs.declared.Counters.{Counters}
 use Rattle.motion.specs.declared.Beat.{Beat}
@@ -23,7 +26,7 @@ use Rattle.circle.specs.declared.Direction.the-variants.{Counter}
 use Rattle.circle.specs.declared.Circling.{Circling}
 use Rattle.circle.specs.declared.Ways.{Ways}
 use Rattle.circle.specs.declared.Arc.{Arc}
-use Rattle.circle.specs.Rule.{onAxes, side, measure, waysAt, rests, moveOf}
+use Rattle.circle.specs.Rule.{firstAxis, secondAxis, onAxes, side, measure, waysAt, rests, moveOf}
 use Rattle.circle.specs.Arc.{arcSigns, arcBeat, withMade, arcLeft}
 use Rattle.circle.specs.Plan.{circling, firstWays, waysFit, centreOf, rootUpTo, reachOf, hasRoom, goingBy, bendOf}
 use Rattle.circle.specs.Sound.{arcUnderWay}
@@ -39,50 +42,43 @@ use Rattle.travel.specs.Sound.{underWay}
 use Rattle.travel.proofs.laws.Beats.{same, never}
 use Rattle.travel.proofs.laws.Onward.{taken}
 use Rattle.travel.proofs.laws.Plans.{circle-sound, circle-left}
-use Rattle.travel.proofs.laws.Whole.{Axis, signOn, pulseThen, pulsesOf, remains, over-left, count as count-all, no-more}
-use Rattle.travel.proofs.laws.Whole.Axis.{X, Y, Z}
+use Rattle.travel.proofs.laws.Whole.{pulseThen, pulsesOf, remains, over-left, count as count-all, no-more}
 
--- ---- which axes a plane has
+-- ---- every pulse
 
-abbrev pub firstAxis : Plane → Axis
-firstAxis XY = X
-firstAxis XZ = X
-firstAxis YZ = Y
-
-abbrev pub secondAxis : Plane → Axis
-secondAxis XY = Y
-secondAxis XZ = Z
-secondAxis YZ = Z
-
--- and the one that it has not
+-- the axis of x, y and z that a plane has not
 abbrev pub thirdAxis : Plane → Axis
 thirdAxis XY = Z
 thirdAxis XZ = Y
 thirdAxis YZ = X
 
--- ---- every pulse
-
--- one axis of the plane moves and the other does not, the third rests, the speed is the arc's, and the arc has one pulse more made
+-- one axis of the plane moves and the other does not, the third and A rest, the speed is the arc's, and the arc has one pulse more made
 pub record Moves (a : Arc) (s : Stepped) : Type 0 where
-  pub one : rests (signOn (firstAxis (a .circling .plane)) (s .signs)) ≡ not (rests (signOn (secondAxis (a .circling .plane)) (s .signs)))
-  pub third : signOn (thirdAxis (a .circling .plane)) (s .signs) ≡ Rest
+  pub one : rests (shows (firstAxis (a .circling .plane)) (s .signs)) ≡ not (rests (shows (secondAxis (a .circling .plane)) (s .signs)))
+  pub third : shows (thirdAxis (a .circling .plane)) (s .signs) ≡ Rest
+  pub turntable : shows A (s .signs) ≡ Rest
   pub speed : s .speed ≡ a .speed
   pub rest : s .rest ≡ travel.Round (withMade a (a .made + 1))
 
-on-first : (q : Plane) (w : Ways) → signOn (firstAxis q) (onAxes q w) ≡ w .first
+on-first : (q : Plane) (w : Ways) → shows (firstAxis q) (onAxes q w) ≡ w .first
 on-first XY w = refl
 on-first XZ w = refl
 on-first YZ w = refl
 
-on-second : (q : Plane) (w : Ways) → signOn (secondAxis q) (onAxes q w) ≡ w .second
+on-second : (q : Plane) (w : Ways) → shows (secondAxis q) (onAxes q w) ≡ w .second
 on-second XY w = refl
 on-second XZ w = refl
 on-second YZ w = refl
 
-on-third : (q : Plane) (w : Ways) → signOn (thirdAxis q) (onAxes q w) ≡ Rest
+on-third : (q : Plane) (w : Ways) → shows (thirdAxis q) (onAxes q w) ≡ Rest
 on-third XY w = refl
 on-third XZ w = refl
 on-third YZ w = refl
+
+on-a : (q : Plane) (w : Ways) → shows A (onAxes q w) ≡ Rest
+on-a XY w = refl
+on-a XZ w = refl
+on-a YZ w = refl
 
 moves-by : (a : Arc) (at : Counters) {s : Stepped} → arcUnderWay a at ≡ true → (n : Beaten) → arcBeat a at ≡ n → arcNext a n ≡ Made s → Moves a s
 moves-by a at u (beat.Made b) e p =
@@ -94,6 +90,7 @@ moves-by a at u (beat.Made b) e p =
     (record {
       one = rw (i, on-first q w, on-second q w) (moves a at u .one);
       third = rw i (on-third q w);
+      turntable = rw i (on-a q w);
       speed = ap (λ (c : Beat). c .speed) (t .is);
       rest = ap (λ (c : Beat). travel.Round (withMade a (c .mark .made))) (t .is);
     })
@@ -163,19 +160,19 @@ arc-length axes c at l m e =
 -- ---- 02's example: from (2,0) counter-clockwise, four pulses are Y+, X-, Y+, X-
 
 abbrev zeroPoint : Counters
-zeroPoint = record { x = count (pos 0); y = count (pos 0); z = count (pos 0) }
+zeroPoint = point (λ i. count (pos 0))
 
 -- planned in plane 0 under axes 3 at the zero point, with arc length 4, speed 600, D 0, start 2,0 and directions -1,1
 abbrev planned : Planned
 planned = circleOf 3 (circling XY Counter) zeroPoint (4 ∷ 600 ∷ 0 ∷ word (pos 2) ∷ word (pos 0) ∷ word (negsuc 0) ∷ word (pos 1) ∷ 0 ∷ [])
 
--- its pulses as the paper has them: the signs of x, y, z and the speed
+-- its pulses as the paper has them: the signs of x, y, z, a and the speed
 abbrev shown : Planned → List Paper
 shown (Going m) = map (λ (s : Stepped). nextPaper (Made s)) (pulsesOf (leftOf m) m zeroPoint)
 shown (Refused b) = []
 
 abbrev pulse : ℤ → ℤ → Paper
-pulse x y = says 1 (x ∷ y ∷ pos 0 ∷ pos 600 ∷ [])
+pulse x y = says 1 (x ∷ y ∷ pos 0 ∷ pos 0 ∷ pos 600 ∷ [])
 
 pub record Example : Type 0 where
   pub pulses : shown planned ≡ pulse (pos 0) (pos 1) ∷ pulse (negsuc 0) (pos 0) ∷ pulse (pos 0) (pos 1) ∷ pulse (negsuc 0) (pos 0) ∷ []

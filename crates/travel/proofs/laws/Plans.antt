@@ -1,10 +1,12 @@
 -- What is planned passes the test of 103 where it is planned, and a circle has the arc length that was sent. Assumes nothing.
 use mathlib.Core.Path.{_≡_, refl, ap}
-use mathlib.Core.Bool.{true}
+use mathlib.Core.Bool.{true, false}
 use mathlib.Core.List.{List}
 use Prim.Native.Nat.{ℕ}
 use native.Mathlib.Omega.{arith}
 use lib.ListN.{getD}
+use Rattle.count.specs.declared.Axis.the-variants.{A}
+use Rattle.count.specs.Axes.{has}
 use Rattle.motion.specs.declared.Counters.{Counters}
 use Rattle.motion.specs.declared.Planned.{Planned as StraightPlan}
 use Rattle.motion.specs.declared.Planned.the-variants as straight
@@ -65,8 +67,8 @@ pub circle-left : (axes : ℕ) (c : Circling) (at : Counters) (l : List ℕ) (m 
 unfolding circleOf
 circle-left axes c at l m p = left-by axes c at l m (bendOf axes c at l) refl p
 
--- IN 3D the plan of a straight movement does not depend on z2
-pub three-plan : (q : Asked) (m : List ℕ) → SameButZ2 (q .words) m → rightAsked q ≡ true → rightAsked (withWords q m) ≡ true → q .three ≡ true
+-- IN 3D the plan of a straight movement does not depend on z2; with A set there is no z2
+pub three-plan : (q : Asked) (m : List ℕ) → SameButZ2 (q .words) m → has (q .axes) A ≡ false → rightAsked q ≡ true → rightAsked (withWords q m) ≡ true → q .three ≡ true
     → planOf q ≡ planOf (withWords q m)
 unfolding planOf
-three-plan q m s p r e = ap straightly (straight-three q m s p r e)
+three-plan q m s n p r e = ap straightly (straight-three q m s n p r e)

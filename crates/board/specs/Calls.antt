@@ -92,4 +92,4 @@ abbrev pub numberOf : ℕ → ℤ
 numberOf c = pick (ltb c full) (value c) (pos 0)
 
 abbrev pub point : Counters → Point
-point c = record { x = numberOf (c .x); y = numberOf (c .y); z = numberOf (c .z) }
+point c = record { x = numberOf (c .x); y = numberOf (c .y); z = numberOf (c .z); a = numberOf (c .a) }

@@ -7,6 +7,8 @@ use lib.ListN.{getD}
 use Rattle.count.specs.Pick.{pick}
 use Rattle.count.specs.Ranges.{inPort, inByte, inZero, nth}
 use Rattle.count.specs.Text.{report, twoHex}
+use Rattle.count.specs.Axes.{shownAxes, endToEnd}
+use Rattle.motion.specs.Axes.{on}
 use Rattle.motion.specs.Plan.{asked}
 use Rattle.circle.specs.Plan.{planeOf, directionOf}
 use Rattle.travel.specs.Plan.{planOf, circleOf, refusal}
@@ -37,8 +39,12 @@ pub record Wants : Type 0 where
 abbrev pub none : Asks
 none = asking (just 0) any any any
 
+-- 1, 3 and 7 are allowed whatever was set; 8 adds A to none, to x, y and z, or where it is set already, and not after 1 or 3 (02, §7)
+abbrev pub axesAllowed : ℕ → ℕ → Bool
+axesAllowed axes w = eqb w 1 || eqb w 3 || eqb w 7 || (eqb w 8 && not (eqb axes 1 || eqb axes 3))
+
 abbrev pub axesValue : ℕ → List ℕ → Bool
-axesValue axes l = eqb (getD l 0 0) 1 || eqb (getD l 0 0) 3 || eqb (getD l 0 0) 7
+axesValue axes l = axesAllowed axes (getD l 0 0)
 
 abbrev pub port : ℕ → List ℕ → Bool
 port axes l = inPort (nth l 0)
@@ -152,7 +158,11 @@ effect e s reply = record { engine = e; standing = s; reply = reply }
 abbrev pub started-with : Begun → Bool → Effect
 started-with b s = effect (b .engine) s (pick (eqb (b .reply) 0) [] (b .reply ∷ []))
 
--- P: 0 and the three positions; b: 0 and the port's byte. S goes on with what stands, else starts the program, and sends no 0 itself.
+-- the positions as P sends them: x, y and z, and with four axes a too (02, §7)
+abbrev pub positions : Engine → List ℕ
+positions e = endToEnd (λ i. report (on i (e .at))) (shownAxes (eqb (e .axes) 15))
+
+-- P: 0 and the positions; b: 0 and the port's byte. S goes on with what stands, else starts the program, and sends no 0 itself.
 abbrev pub effectOf : Letter → List ℕ → List ℕ → Engine → Bool → Effect
 effectOf letter.Axes l ports e s = effect (axesOf (getD l 0 0) e) s (ch "0" ∷ [])
 effectOf letter.Relative l ports e s = started-with (beginOf false l e) s
@@ -160,7 +170,7 @@ effectOf letter.Absolute l ports e s = started-with (beginOf true l e) s
 effectOf letter.Origin l ports e s = effect (originOf (getD l 0 0) e) s (ch "0" ∷ [])
 effectOf letter.Zero l ports e s = effect (zeroOf (getD l 0 0) e) s (ch "0" ∷ [])
 effectOf letter.Three l ports e s = effect (withThree e (eqb (getD l 0 0) 1)) s (ch "0" ∷ [])
-effectOf letter.Position l ports e s = effect e s (ch "0" ∷ report (e .at .x) ++ report (e .at .y) ++ report (e .at .z))
+effectOf letter.Position l ports e s = effect e s (ch "0" ∷ positions e)
 effectOf letter.Input l ports e s = effect e s (ch "0" ∷ twoHex (getD ports (getD l 0 0) 0))
 effectOf letter.Output l ports e s = effect (withOutput e (getD l 1 0)) s (ch "0" ∷ [])
 effectOf letter.Store l ports e s = effect (storingOf e) s (ch "0" ∷ [])

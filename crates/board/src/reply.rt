@@ -3,6 +3,9 @@ ghost use mathlib.Core.Path.{_≡_};
 ghost use mathlib.Core.List.{[], _∷_, _++_};
 ghost use Prim.Native.Nat.{_+_, _≤_};
 ghost use lib.ListN.{length, take, drop};
+ghost use lib.Dec.{eqb};
+ghost use Rattle.count.specs.Axes.{shownAxes, endToEnd};
+ghost use Rattle.motion.specs.Axes.{on};
 ghost use Rattle.count.specs.Text.{written, report, twoHex, fourDigits};
 ghost use Rattle.board.specs.work.Work.{bytesOf, putOf, textOf, receivedOf};
 use crate::Received;
@@ -29,7 +32,7 @@ fn put_at(reply: &mut [u8], at: usize, c: u32)
 // 0 and the positions of x, y and z, and of A where four axes are set.
 fn put_positions(reply: &mut [u8], axes: u8, at: Counters) -> usize
     requires { ⌜ 32 ≤ length (now reply) ⌝ }
-    ensures { λ r. ⌜ written r (now (reply .exit)) ≡ putOf (48 ∷ report (at .x) ++ report (at .y) ++ report (at .z)) (now (reply .entry)) ⌝ }
+    ensures { λ r. ⌜ written r (now (reply .exit)) ≡ putOf (48 ∷ endToEnd (λ i. report (on i at)) (shownAxes (eqb axes 15))) (now (reply .entry)) ⌝ }
 {
     reply[0] = b'0';
     put_at(&mut *reply, 1, at.x);
@@ -65,7 +68,7 @@ fn put_fault(reply: &mut [u8], letter: u8, place: u16) -> usize
 
 fn put(say: Saying, axes: u8, at: Counters, reply: &mut [u8]) -> usize
     requires { ⌜ 32 ≤ length (now reply) ⌝ }
-    ensures { λ r. ⌜ written r (now (reply .exit)) ≡ putOf (bytesOf say at) (now (reply .entry)) ⌝ }
+    ensures { λ r. ⌜ written r (now (reply .exit)) ≡ putOf (bytesOf say axes at) (now (reply .entry)) ⌝ }
 {
     match say {
         Saying::Silent => 0,

@@ -3,7 +3,7 @@
 -- axis.
 use Prim.Native.Nat.{ℕ, _/_, _%_, max}
 use mathlib.Core.Bool.{Bool, true, false, _&&_, _||_}
-use mathlib.Core.List.{List, [], _∷_}
+use mathlib.Core.List.{List, [], _∷_, _++_}
 use lib.Dec.{eqb}
 use Rattle.count.specs.declared.Axis.{Axis}
 use Rattle.count.specs.declared.Axis.the-variants.{X, Y, Z, A}
@@ -45,3 +45,8 @@ eachThen f l = f X ∷ f Y ∷ f Z ∷ f A ∷ l
 abbrev pub shownAxes : Bool → List Axis
 shownAxes true = X ∷ Y ∷ Z ∷ A ∷ []
 shownAxes false = X ∷ Y ∷ Z ∷ []
+
+-- a text for each of some axes, end to end
+abbrev pub endToEnd : (Axis → List ℕ) → List Axis → List ℕ
+endToEnd f [] = []
+endToEnd f (i ∷ l) = f i ++ endToEnd f l

@@ -10,7 +10,7 @@ use Rattle.board.specs.declared.Board.{Board}
 use Rattle.board.specs.State.{sound}
 use Rattle.board.specs.Calls.{clocking}
 use Rattle.course.specs.declared.Ran.{Ran}
-use Rattle.course.specs.Text.{answerText}
+use Rattle.course.specs.Text.{turning, answerText}
 
 -- something runs and does not stand stopped
 unfoldable pub runsNow : Board → Bool
@@ -34,15 +34,15 @@ unfoldable pub course : ℕ → Memory → Board → Course
 course zero m b = noCalls b
 course (suc k) m b =
     (elim (runsNow b) [
-      | true ↦ then (answerText (clocking b m .answer)) (course k m (clocking b m .board))
+      | true ↦ then (answerText (turning (b .engine)) (clocking b m .answer)) (course k m (clocking b m .board))
       | false ↦ noCalls b
     ])
 
--- ---- the call `run`: the definition's steps up to the limit and to a twelfth of the buffer, since no line is longer than 12 bytes.
+-- ---- the call `run`: the definition's steps up to the limit and to a thirteenth of the buffer, since no line is longer than 13 bytes.
 -- Where it stops never depends on the text.
 
 unfoldable pub allowed : ℕ → List ℕ → ℕ
-allowed limit out = min limit (length out / 12)
+allowed limit out = min limit (length out / 13)
 
 -- the result and the buffer afterwards
 pub record RunOutcome : Type 0 where

@@ -10,6 +10,8 @@ use Rattle.count.specs.Pick.{pick}
 use Rattle.count.specs.Numbers.{signed}
 use Rattle.count.specs.Ranges.{inPort, inByte, inZero}
 use Rattle.count.specs.Text.{Written, written, report, twoHex, fourDigits}
+use Rattle.count.specs.Axes.{shownAxes, endToEnd}
+use Rattle.motion.specs.Axes.{on}
 use Rattle.motion.specs.declared.Counters.{Counters}
 use Rattle.record.specs.declared.Record.{Record}
 use Rattle.record.specs.Fault.{numbersReply, faultOf}
@@ -30,28 +32,28 @@ use Rattle.board.specs.declared.Saying.{Saying}
 use Rattle.board.specs.declared.Saying.the-variants as saying
 use Rattle.board.specs.declared.Spoke.{Spoke}
 use Rattle.board.specs.State.{board, noLine, lineDone, Said, said}
-use Rattle.board.specs.Direct.{isWrong, heardStanding, needsAxes}
+use Rattle.board.specs.Direct.{axesAllowed, isWrong, heardStanding, needsAxes}
 use Rattle.board.specs.Storing.{endSaid}
 use Rattle.board.specs.Receive.{holdsBy, endsBy}
 
 -- ---- a reply that is still to be written
 
-abbrev pub bytesOf : Saying → Counters → List ℕ
-bytesOf saying.Silent at = []
-bytesOf (saying.One b) at = b ∷ []
-bytesOf saying.Positions at = 48 ∷ report (at .x) ++ report (at .y) ++ report (at .z)
-bytesOf (saying.Port v) at = 48 ∷ twoHex v
-bytesOf (saying.Fault l p) at = 71 ∷ l ∷ fourDigits p
+abbrev pub bytesOf : Saying → ℕ → Counters → List ℕ
+bytesOf saying.Silent axes at = []
+bytesOf (saying.One b) axes at = b ∷ []
+bytesOf saying.Positions axes at = 48 ∷ endToEnd (λ i. report (on i at)) (shownAxes (eqb axes 15))
+bytesOf (saying.Port v) axes at = 48 ∷ twoHex v
+bytesOf (saying.Fault l p) axes at = 71 ∷ l ∷ fourDigits p
 
 abbrev pub spokeOf : Board → Saying → Spoke
 spokeOf b s = record { board = b; say = s }
 
 -- with the memory, it is what a byte comes to
 abbrev pub spoke : Spoke → Memory → Said
-spoke s m = said (s .board) (bytesOf (s .say) (s .board .engine .at)) m
+spoke s m = said (s .board) (bytesOf (s .say) (s .board .engine .axes) (s .board .engine .at)) m
 
 abbrev pub textOf : Spoke → List ℕ
-textOf s = bytesOf (s .say) (s .board .engine .at)
+textOf s = bytesOf (s .say) (s .board .engine .axes) (s .board .engine .at)
 
 abbrev pub receivedOf : Spoke → Received
 receivedOf s = record { board = s .board; len = length (textOf s); refusal = 0 }
@@ -68,8 +70,8 @@ countFault n = numbersReply (eqb n 0) true true true 48
 abbrev pub sevenFault : ℕ → ℕ
 sevenFault n = numbersReply (eqb n 7) true true true 48
 
-unfoldable pub axesFault : ℕ → ℕ → ℕ
-axesFault n w = numbersReply (eqb n 1) (eqb w 1 || eqb w 3 || eqb w 7) true true 48
+unfoldable pub axesFault : ℕ → ℕ → ℕ → ℕ
+axesFault axes n w = numbersReply (eqb n 1) (axesAllowed axes w) true true 48
 
 unfoldable pub inputFault : ℕ → ℕ → ℕ
 inputFault n w = numbersReply (eqb n 1) true (inPort (signed w)) true 48
@@ -79,7 +81,7 @@ outputFault n w v = numbersReply (eqb n 2) true (inZero (signed w) && inByte (si
 
 abbrev pub numbersFault : Letter → ℕ → ℕ → List ℕ → ℕ
 numbersFault letter.Wrong axes n l = 55
-numbersFault letter.Axes axes n l = axesFault n (getD l 0 0)
+numbersFault letter.Axes axes n l = axesFault axes n (getD l 0 0)
 numbersFault letter.Relative axes n l = faultOf axes 48 n l
 numbersFault letter.Absolute axes n l = faultOf axes 109 n l
 numbersFault letter.Origin axes n l = faultOf axes 110 n l

@@ -22,9 +22,9 @@ abbrev pub goneBy : Next → Gone → Gone
 goneBy (Made s) g = here (s .rest) (s .at)
 goneBy Over g = g
 
-abbrev pub saidBy : Next → List ℕ
-saidBy (Made s) = pulseText (s .signs) (s .speed)
-saidBy Over = []
+abbrev pub saidBy : Bool → Next → List ℕ
+saidBy turns (Made s) = pulseText turns (s .signs) (s .speed)
+saidBy turns Over = []
 
 unfoldable pub glides : Gone → Bool
 glides g = made (withinOf (g .rest) (g .at))
@@ -32,11 +32,11 @@ glides g = made (withinOf (g .rest) (g .at))
 abbrev pub glideOn : Gone → Gone
 glideOn g = goneBy (withinOf (g .rest) (g .at)) g
 
-abbrev pub glideSaid : Gone → List ℕ
-glideSaid g = saidBy (withinOf (g .rest) (g .at))
+abbrev pub glideSaid : Bool → Gone → List ℕ
+glideSaid turns g = saidBy turns (withinOf (g .rest) (g .at))
 
 abbrev pub glided : Glided → List ℕ → Left Gone
 glided r out = record { state = here (r .rest) (r .at); calls = r .calls; len = r .len; out = out }
 
-abbrev pub gliding : ℕ → Travel → Counters → List ℕ → Left Gone
-gliding limit m at out = leftBy (way glides glideOn glideSaid limit (here m at)) out
+abbrev pub gliding : Bool → ℕ → Travel → Counters → List ℕ → Left Gone
+gliding turns limit m at out = leftBy (way glides glideOn (glideSaid turns) limit (here m at)) out

@@ -10,7 +10,7 @@ use Rattle.engine.specs.declared.Job.the-variants as job
 use Rattle.engine.specs.State.{withAt, withJob}
 use Rattle.engine.specs.Tick.{ticked, runsOf}
 use Rattle.course.specs.declared.Went.{Went}
-use Rattle.course.specs.Text.{answerText}
+use Rattle.course.specs.Text.{turning, answerText}
 use Rattle.course.specs.work.Machine.{Way, stays, way, Left}
 use Rattle.course.specs.work.Glide.{Gone, here, glides, glideOn, glideSaid}
 
@@ -18,7 +18,7 @@ abbrev pub tickNext : Memory → Engine → Engine
 tickNext m e = ticked nextOf (fetchOf (e .held) m) e .engine
 
 abbrev pub tickSaid : Memory → Engine → List ℕ
-tickSaid m e = answerText (ticked nextOf (fetchOf (e .held) m) e .answer)
+tickSaid m e = answerText (turning e) (ticked nextOf (fetchOf (e .held) m) e .answer)
 
 -- clock calls while something runs
 abbrev pub goWay : Memory → ℕ → Engine → Way Engine
@@ -37,9 +37,9 @@ mapWay f w = record { state = f (w .state); calls = w .calls; text = w .text }
 unfoldable pub glideJob : Job → ℕ → Engine → Way Engine
 glideJob job.Idle k e = stays e
 glideJob job.Storing k e = stays e
-glideJob (job.Direct m) k e = mapWay (inDirect e) (way glides glideOn glideSaid k (here m (e .at)))
+glideJob (job.Direct m) k e = mapWay (inDirect e) (way glides glideOn (glideSaid (turning e)) k (here m (e .at)))
 glideJob job.Ready k e = stays e
-glideJob (job.Moving m) k e = mapWay (inMoving e) (way glides glideOn glideSaid k (here m (e .at)))
+glideJob (job.Moving m) k e = mapWay (inMoving e) (way glides glideOn (glideSaid (turning e)) k (here m (e .at)))
 glideJob (job.Delay q) k e = stays e
 glideJob (job.Wait c t) k e = stays e
 

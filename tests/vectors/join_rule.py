@@ -1,4 +1,5 @@
-"""The rule of joins (02, §4 and §6) and what of 01 and of 02, §3 it rests on, worked out apart from the code, for tests/vectors/joins.py.
+"""The rule of joins (02, §4 and §6) and what of 01 and of 02, §3 and §7 it rests on, worked out apart from the code, for
+tests/vectors/joins.py.
 
 A program is a list of records, each a list of its code and its numbers. What a loop repeats is a set of places, and by these sets a
 program is accepted or not. Each clause of the request is a method of `Join`.
@@ -8,7 +9,7 @@ import struct
 from collections import namedtuple
 
 ROOM, MANY = 16384, 1000  # bytes and records of a store
-NUMBERS = {1: 2, 3: 4, 7: 8}  # of a movement, by the axes
+NUMBERS = {1: 2, 3: 4, 7: 8, 8: 2, 15: 8}  # of a movement, by the axes; 8 is A alone, 15 is A beside x, y and z
 
 # what stands in a line: `store` are the bytes that it gives, and those behind them are 0
 Part = namedtuple("Part", "used records axes store")
@@ -33,8 +34,8 @@ def is_right(axes, code, numbers):
     """Code, count of numbers, ranges and speeds, for the axes of the store."""
     if code in ("0", "m"):
         ways, speeds = numbers[::2], numbers[1::2]
-        return (len(numbers) == NUMBERS[axes] and all(in_range(-(2**23), way, 2**23 - 1) for way in ways)
-                and all(in_range(30, speed, 10000) for speed in speeds) and not (code == "m" and any(ways[3:])))
+        return (len(numbers) == NUMBERS.get(axes) and all(in_range(-(2**23), way, 2**23 - 1) for way in ways)
+                and all(in_range(30, speed, 10000) for speed in speeds) and not (code == "m" and axes == 7 and any(ways[3:])))
     if code == "3" and len(numbers) == 2:
         return in_range(0, numbers[0], 32767) and in_range(-32768, numbers[1], -1 if numbers[0] else 32767)
     if code == "2" and len(numbers) == 2:
@@ -44,7 +45,7 @@ def is_right(axes, code, numbers):
     if code not in ("n", "z", "5", "1", "e", "f") or len(numbers) != 1:
         return False
     (number,) = numbers
-    low, high = {"n": (1, 7), "z": (0, 1), "5": (0, 65535), "1": (33, 126), "e": (0, 2), "f": (-1, 0)}[code]
+    low, high = {"n": (1, 8), "z": (0, 1), "5": (0, 65535), "1": (33, 126), "e": (0, 2), "f": (-1, 0)}[code]
     return in_range(low, number, high) and (code != "n" or number | axes == axes)
 
 

@@ -1,7 +1,7 @@
-"""Wrong readings of the requests (02, §4 and §6), each with one clause of the rule changed, and whether joins tell them from it: for
+"""Wrong readings of the requests (02, §4, §6 and §7), each with one clause of the rule changed, and whether joins tell them from it: for
 tests/vectors/joins.py.
 """
-from join_rule import MANY, NUMBERS, ROOM, WHOLE, Join, is_accepted, repeated, starts, targets
+from join_rule import MANY, NUMBERS, ROOM, WHOLE, Join, is_accepted, read, repeated, starts, targets
 
 OF_EACH = 2
 
@@ -32,6 +32,51 @@ class AnyAxes(Join):
 
     def programs_wrong(self, first, second):
         return super().programs_wrong(first, second) if self.axes(first, second) in NUMBERS else ""
+
+
+class WithoutA(Join):
+    def allowed(self, axes):
+        return axes in (1, 3, 7)
+
+
+class NeverAlone(Join):
+    def allowed(self, axes):
+        return axes in NUMBERS and axes != 8
+
+
+class MixedWithA(Join):
+    def allowed(self, axes):
+        return axes in (*NUMBERS, *range(9, 15))
+
+
+class AForNothing(Join):
+    def same_axes(self, first, second):
+        """Three axes and four count as the same."""
+        return self.axes(first, second) % 8 == self.axes(second, first) % 8
+
+
+class OfBoth(Join):
+    """Refuses programs with some record that the rule allows."""
+
+    def wrong(self, code, numbers):
+        return False
+
+    def programs_wrong(self, first, second):
+        told = super().programs_wrong(first, second)
+        records = [] if told else read(first, self.axes(first, second)) + read(second, self.axes(second, first))
+        return "G" if any(self.wrong(code, numbers) for code, *numbers in records) else told
+
+    order = (Join.axes_wrong, programs_wrong, Join.room_wrong)
+
+
+class NoTargetOfA(OfBoth):
+    def wrong(self, code, numbers):
+        return code == "m" and any(numbers[6:7])
+
+
+class NoOriginOfA(OfBoth):
+    def wrong(self, code, numbers):
+        return code == "n" and numbers == [8]
 
 
 class AxesMayDiffer(Join):
@@ -201,7 +246,7 @@ class EndPlaceToo(Join):
 
 def tell_apart(rows):
     """Stops if fewer lines than OF_EACH tell a slip from the rule."""
-    for slip in Join.__subclasses__():
+    for slip in [slip for slip in (*Join.__subclasses__(), *OfBoth.__subclasses__()) if slip is not OfBoth]:
         found = sum(slip().answer(*parts) != answer for parts, answer in rows)
         if found < OF_EACH:
             raise SystemExit(f"only {found} joins tell {slip.__name__} from the rule")

@@ -1,4 +1,4 @@
-"""Vectors of joins (02, §4 and §6), worked out apart from the code: a part of tests/vectors/ask.py, which writes them.
+"""Vectors of joins (02, §4 and §6, with the axes of §7), worked out apart from the code: a part of tests/vectors/ask.py, which writes them.
 
 A line is `join` and two programs, each its bytes in use, its records, its axes and the bytes of its store as hexadecimal digits,
 `-` for none. Its answer is 0 and the joined program in the same form, with the entries of its table behind it, parted by commas, `-`
@@ -311,6 +311,74 @@ def lendings():
     yield OTHER, SHORT._replace(store=SHORT.store.ljust(ROOM + 1, b"\0")), WHOLE._replace(second=ROOM + 1)
 
 
+# ---- turntables: 02, §7
+
+NOT_ALLOWED = (2, 4, 5, 6, 9, 14, 16)
+
+
+def turned(axes):
+    """Programs under A alone, or under four axes: movements, targets of A, its origin, circles, loops."""
+    here, there = move(axes, 3, 0, 0, -7), ["m", *move(axes, 5, -5, 5, 4)[1:]]
+    yield here, ["n", 8]
+    yield ["z", 1], there, ["n", 8], loop(2, -2)
+    yield there, ["m", *move(axes, -(2**23), 2**23 - 1, 0, -(2**23))[1:]], here
+    yield *SLOT, here
+    yield SEND, SOON, jump(-1)
+    yield there, AGAIN, here, here, loop(2, -1)
+
+
+def turntables():
+    """A alone and A beside three axes, joined as any other; and what is not, because A is set on one side only."""
+    for axes in (8, 15):
+        rows = [part_of(*records, axes=axes) for records in turned(axes)]
+        for one, other in zip(rows, rows[1:] + rows[:1]):
+            yield one, other
+        yield part_of(*CLAMP, axes=axes), rows[0]
+        yield part_of(*CLAMP, axes=axes), rows[5]  # into its loop
+        yield part_of(*CLAMP, SOON, axes=axes), rows[5]
+        for other in (0, 1, 3, 7, 8, 15, *NOT_ALLOWED, 255):
+            yield rows[4], OTHER._replace(axes=other)
+            yield SHORT._replace(axes=other), rows[4]
+            yield NONE._replace(axes=other), rows[0]
+            yield rows[1], NONE._replace(axes=other)
+            yield NONE._replace(axes=axes), NONE._replace(axes=other)
+        for first, second, entries in ((ROOM - 1, ROOM, MANY), (ROOM, ROOM + 1, MANY), (ROOM, ROOM, MANY - 1)):
+            yield rows[0], rows[1], WHOLE._replace(first=first, second=second, table=entries)
+    # what four axes have and three have not, each under the other's number
+    seven, fifteen = part_of(WAY, ["n", 7]), part_of(["m", *move(15, 1, 1, 1, 1)[1:]], axes=15)
+    yield seven, fifteen
+    yield fifteen, seven
+    yield seven._replace(axes=15), fifteen
+    yield fifteen, seven._replace(axes=15)
+    yield seven, fifteen._replace(axes=7)
+    yield part_of(["n", 8], axes=15), seven._replace(axes=15)
+    yield part_of(["n", 8]), seven
+    for axes in NOT_ALLOWED:
+        for parts in ((SHORT, OTHER), (SHORT, NONE), (NONE, SHORT), (NONE, NONE), (part_of(WAY), part_of(move(8, 1)))):
+            yield [part._replace(axes=axes) for part in parts]
+    # records that are not right under them
+    for axes, record in spoilt_turntables():
+        part, good = part_of(SEND, record, axes=axes), part_of(move(axes, 1), axes=axes)
+        yield part, good
+        yield good, part
+    # just full, and full by one; where the axes differ that is told first
+    for axes, record, count in ((8, move(8, 9), 1000), (15, move(15, 1, 2, 3, 4), 455)):
+        half, rest = part_of(*[record] * (count // 2), axes=axes), part_of(*[record] * (count - count // 2), axes=axes)
+        yield half, rest
+        yield rest, part_of(*[record] * (count // 2 + 1), axes=axes)
+        yield rest, part_of(*[FLAT] * 801, axes=7 if axes == 15 else 1)
+
+
+def spoilt_turntables():
+    for axes, others in ((8, (0, 1, 4, 7, 9, 15)), (15, (0, 9, 12, 15, 16))):
+        for n in others:
+            yield axes, ["n", n]
+        for record in (move(3, 1, 1), ["m", *move(3, 1, 1)[1:]], move(15 if axes == 8 else 8, 1), ["y", 40, 600, 0, 0, 0, 1, 1]):
+            yield axes, record
+        for a, speed in ((2**23, 600), (-(2**23) - 1, 600), (1, 29), (1, 10001)):
+            yield axes, ["m", *move(axes)[1:-2], a, speed]
+
+
 # ---- at random
 
 def thrown(draw):
@@ -349,6 +417,7 @@ def vectors():
         yield from kind()
     yield from drawn(Draw(20140504))
     yield from lendings()
+    yield from turntables()
 
 
 # ---- other ways to write a number, and lines that cannot be read

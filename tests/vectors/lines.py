@@ -1,5 +1,5 @@
 #!/usr/bin/env python3
-"""Lines and what each of them says, worked out from the sentences of 01, "Lines", and of 02 §3 and §8, and not from the code.
+"""Lines and what each of them says, worked out from the sentences of 01, "Lines", and of 02 §3, §7 and §8, and not from the code.
 
 Writes crates/line_shapes/stdin and crates/line_shapes/stdout. Each line of stdin is `D ` (a line outside storing) or `S ` (a line
 while storing) and the line's bytes as hexadecimal pairs; each line of stdout is the letter's or code's number (53, the reply 5,
@@ -120,6 +120,21 @@ NO_STORED = [
     b"E0", b"F0", b"F-1", b"Y4,600,0,2,0,-1,1", b"Y", b"e ", b"f-", b"e0 ", b"f  0", b"y ", b"y,4,600", b"y4,600,0,2,0,-1,1,", b"y4,600,0,2,0,-1 ,1",
     b"y4,600,0,2,0,+1,1", b"ef", b"@0e0", b"@0y4,600,0,2,0,-1,1", b"9e", b"0y",
 ]
+# By hand: the lines of turntables (02 §7), of shapes that 01 has. Whether a number is allowed is no matter of shape.
+TURNTABLES = [
+    ("D", b"@08", "0", [8]), ("D", b"@09", "0", [9]), ("D", b"@015", "0", [15]), ("D", b"@016", "0", [16]), ("D", b"@008", "0", [8]), ("D", b"@000000008", "0", [8]),
+    ("D", b"@0-8", "0", [-8]), ("D", b"@08,8", "0", [8, 8]), ("D", b"@07, 8", "0", [7, 8]), ("D", b"@0n8", "n", [8]), ("D", b"@0n 8", "n", [8]),
+    ("D", b"@0N8", "N", [8]), ("D", b"@0N 15", "N", [15]), ("D", b"@0n9", "n", [9]), ("D", b"@0n08", "n", [8]), ("D", b"@0N7,8", "N", [7, 8]),
+    ("D", b"@0A-90,500", "A", [-90, 500]), ("D", b"@0a 8388607, 30", "A", [8388607, 30]), ("D", b"@0M-8388608,10000", "M", [-8388608, 10000]),
+    ("D", b"@0M1,600,-2,700,3,800,-4,900", "M", [1, 600, -2, 700, 3, 800, -4, 900]),
+    ("D", b"@0A-8388608,10000,-8388608,10000,-8388608,10000,-8388608,10000", "A", [-8388608, 10000] * 4),
+    ("D", b"@0m -8388608, 10000, -8388608, 10000, -8388608, 10000, -8388608, 10000", "M", [-8388608, 10000] * 4),
+    ("S", b"n8", "n", [8]), ("S", b"n 8", "n", [8]), ("S", b"n15", "n", [15]), ("S", b"n08", "n", [8]), ("S", b"n7, 8", "n", [7, 8]),
+    ("S", b"0-90,500", "0", [-90, 500]), ("S", b"0 90, 500", "0", [90, 500]), ("S", b"m8,600", "m", [8, 600]), ("S", b"m -8388608,10000", "m", [-8388608, 10000]),
+    ("S", b"m1,600,-2,700,3,800,-4,900", "m", [1, 600, -2, 700, 3, 800, -4, 900]), ("S", b"0 1, 600, -2, 700, 3, 800, -4, 900", "0", [1, 600, -2, 700, 3, 800, -4, 900]),
+    *(("D", line, None, []) for line in (b"@0 8", b"@08 ", b"@0,8", b"@08,", b"@0+8", b"@0--8", b"@0a8 ", b"@0n 8 ", b"@0n  8", b"@0N8,", b"@0 15", b"@0000000008")),
+    *(("S", line, None, []) for line in (b"8", b"@08", b"08,", b"n8 ", b"n  8", b"n+8", b"N8", b"a8", b"@0n8", b"m8 ,600", b"9 8")),
+]
 
 
 def next_number(seed):
@@ -187,6 +202,11 @@ def lists():
     placed = with_spaces(b"3 25,-1") + with_spaces(b"m1,-2,30") + alike(b"0 5,30,-7,10")
     for line in theirs + NO_STORED + damaged(theirs, 150, 2) + long_lines(b"0") + [bytes([b]) for b in range(256)] + placed:
         yield "S", line, stored(line)
+    # behind all others, since the damaged ones are drawn from the lists by their length
+    for grammar, line, kind, values in TURNTABLES:
+        says = {"D": direct, "S": stored}[grammar](line)
+        assert says == ((53, []) if kind is None else (ord(kind), values)), line
+        yield grammar, line, says
 
 
 def main():

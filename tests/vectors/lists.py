@@ -1,6 +1,6 @@
 #!/usr/bin/env python3
-"""Writes crates/record_lists/stdin and stdout: stores, and their listings by 01, "Store", with the records of 02 §3, worked out apart from the
-code.
+"""Writes crates/record_lists/stdin and stdout: stores, and their listings by 01, "Store", with the records of 02 §3 and the axes of 02 §7, worked out
+apart from the code.
 
     python3 tests/vectors/lists.py            writes both files
     python3 tests/vectors/lists.py --check    compares them with what it would write
@@ -32,6 +32,59 @@ def times(often, code, *numbers, spare=()):
 
 def one(code, *numbers, spare=()):
     return times(1, code, *numbers, spare=spare)
+
+
+def four(code, *ways, speeds=(600, 700, 800, 900)):
+    return one(code, *(number for pair in zip(ways, speeds) for number in pair))
+
+
+def any_axes():
+    """Records that are right under any axes."""
+    return [one("z", 1), one("3", 0, -32768), one("3", 32767, -1), one("5", 65535), one("1", 126), one("2", 33, 32767), one("e", 2), one("f", -1),
+            one("y", 3, 400, 0, -5, 5, 1, -1)]
+
+
+def turntables():
+    """02 §7: A alone, and A beside three axes; then what is not readable there."""
+    # every code; a target of a that is not 0 and one that is; n of x, y and z, and of a by itself
+    yield 8, [one("0", LOW, 30), one("0", HIGH, 10000), one("m", LOW, 10000), one("m", HIGH, 30), one("m", 0, 600), one("n", 8), *any_axes()]
+    yield 15, [four("0", LOW, LOW, LOW, LOW), four("0", HIGH, HIGH, HIGH, HIGH), four("m", 1, -1, 0, LOW), four("m", 0, 0, 0, HIGH), four("m", 3, 4, 5, 0),
+               four("m", 0, 0, 0, 1, speeds=(30, 10000, 30, 10000)), *(one("n", n) for n in range(1, 9)), *any_axes()]
+    yield 8, []
+    yield 15, []
+    yield 8, [one("0", MARK_AND_FIVE, 43), one("m", MARK_BELOW_ZERO, 215), one("n", 8, spare=(7, 6)), one("m", MARK, 30, spare=(1, 2, 3))]
+    yield 15, [four("m", MARK, MARK_INSIDE, MARK_AND_FIVE, MARK_BELOW_ZERO, speeds=(215, 43, 215, 43)), one("n", 8)]
+    # the store just full
+    yield 8, [times(999, "m", HIGH, 10000), one("n", 8), one("z", 1)]
+    yield 15, [times(455, "m", LOW, 10000, HIGH, 10000, LOW, 10000, HIGH, 10000), one("n", 8)]
+    # other counts of numbers, on each of the five axes that are allowed
+    for axes in (1, 3, 7, 8, 15):
+        for code in "0m":
+            for count in (0, 1, 2, 3, 4, 6, 7, 8):
+                yield axes, [one(code, *((0, 600) * 4)[:count])]
+    # n: mixed, of axes that are not set, none, below 0
+    for axes in (1, 3, 7, 8, 15):
+        for n in (1, 2, 3, 4, 7, 8, 9, 10, 12, 14, 15, 16, 0, -8):
+            yield axes, [one("z", 0), one("n", n)]
+    for code, *numbers in (("n",), ("n", 8, 8), ("N", 8)):
+        yield 15, [one(code, *numbers)]
+    # a fourth number of an absolute movement is a's under 15, and must be 0 under 7
+    for a in (1, -1, LOW, HIGH):
+        yield 15, [four("m", 5, 6, 7, a)]
+        yield 7, [four("m", 5, 6, 7, a)]
+    for axes in (8, 15):
+        for a, speed in ((HIGH + 1, 600), (LOW - 1, 600), (0, 29), (0, 10001), (0, -600)):
+            for code in "0m":
+                yield axes, [one(code, *(0, 600) * (3 if axes == 15 else 0), a, speed)]
+        for code, *numbers in (("5", 65536), ("1", 32), ("2", 127, 0), ("3", 1, 0), ("z", 2), ("e", 3), ("f", 1), ("y", 3, 29, 0, -5, 5, 1, -1)):
+            yield axes, [one("z", 0), one(code, *numbers)]
+    # axes that are not allowed have no movement
+    for axes in (2, 4, 5, 6, 9, 14, 16):
+        yield axes, any_axes()
+        for count in (2, 4, 6, 8):
+            yield axes, [one("0", *((0, 600) * 4)[:count])]
+        yield axes, [one("m", 0, 600)]
+        yield axes, [four("m", 0, 0, 0, 0)]
 
 
 STORES = [
@@ -143,13 +196,14 @@ STORES = [
     (7, [one("y", 4, 600, 0, 2, 0, -1, 1, 0)]),
     *((7, [one(code, 0)]) for code in "EF"),
     (7, [one("Y", 4, 600, 0, 2, 0, -1, 1)]),
+    *turntables(),
 ]
 
 
 def right(axes, code, numbers):
     """Whether a record is right in code and, for the store's axes, count, ranges and speeds."""
     if code in ("0", "m"):
-        if len(numbers) != {1: 2, 3: 4, 7: 8}.get(axes):
+        if len(numbers) != {1: 2, 3: 4, 7: 8, 8: 2, 15: 8}.get(axes):
             return False
         distances, speeds = numbers[0::2], numbers[1::2]
         return (
@@ -165,7 +219,7 @@ def right(axes, code, numbers):
         return False
     first, last = numbers[0], numbers[-1]
     return {
-        "n": 1 <= first <= 7 and first & ~axes == 0,
+        "n": first in ((8,) if axes & 8 else ()) or 1 <= first <= 7 and first & ~axes == 0,  # a only by itself
         "z": first in (0, 1),
         "5": 0 <= first <= 65535,
         "1": 33 <= first <= 126,

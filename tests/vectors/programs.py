@@ -1,6 +1,6 @@
 #!/usr/bin/env python3
-"""Programs for the check at `9` and for runs (01, "Running a program", paragraph 2; 02 §3 for the records of circles), worked out apart from
-the code.
+"""Programs for the check at `9` and for runs (01, "Running a program", paragraph 2; 02 §3 for the records of circles and §7 for those of turntables),
+worked out apart from the code.
 
     python3 tests/vectors/programs.py            writes crates/program_checks/stdin and crates/program_checks/stdout
     python3 tests/vectors/programs.py --check    compares them with what it would write
@@ -20,7 +20,7 @@ FOLDER = os.path.join(ROOT, "crates", "program_checks")
 
 # ---- records: (code, numbers)
 
-NEEDS = {1: 2, 3: 4, 7: 8}
+NEEDS = {1: 2, 3: 4, 7: 8, 8: 2, 15: 8}
 
 
 def within(low, number, high):
@@ -39,7 +39,7 @@ def right(axes, code, numbers):
             return False
         return all(within(30, v, 10000) for v in speeds)
     if code == "n":
-        return len(numbers) == 1 and within(1, numbers[0], 7) and numbers[0] & ~axes == 0
+        return len(numbers) == 1 and (numbers[0] == 8 or within(1, numbers[0], 7)) and numbers[0] & ~axes == 0
     if code == "z":
         return len(numbers) == 1 and within(0, numbers[0], 1)
     if code == "5":
@@ -184,6 +184,7 @@ def case(records, axes=7, used=None, count=None, spoil=None, pad=b""):
     data = bytearray(encoded(records))
     for at, byte in (spoil or {}).items():
         data[at] = byte
+    assert len(data) + len(pad) <= 16384, "more than the program reads"
     used = len(data) if used is None else used
     count = len(records) if count is None else count
     data += pad
@@ -379,6 +380,57 @@ def circles_out_of_range():
         case([PLANE, CIRCLE, SEND], spoil={at: byte})
 
 
+def turntables():
+    """02 §7: programs under A alone and under four axes, checked and run as any other."""
+    alone = ("0", [5, 600]), ("m", [-5, 900]), ("n", [8])
+    beside = MOVE7, ("m", [1, 600, 2, 600, 3, 600, -4, 600]), ("n", [8])
+    for axes, row in ((8, alone), (15, beside)):
+        case([*row, CIRCLE, X, SEND, DELAY, PLANE, TURN], axes=axes)
+        case([*row, loop(2, -3), wait(-4), jump(1)], axes=axes)
+        case([*row, loop(2, -4)], axes=axes)
+        case([row[0], row[1], loop(1, -1), row[2], loop(1, -2)], axes=axes)
+        for make in (jump, wait):
+            case([make(4), *row], axes=axes)
+            case([make(5), *row], axes=axes)
+            case([*row, make(-4)], axes=axes)
+            case([row[0], make(2), row[1], row[2], loop(1, -4)], axes=axes)
+            case([make(1), row[0], row[1], loop(1, -2)], axes=axes)
+        for depth in (7, 8):
+            case([row[1]] + from_one_place(depth), axes=axes)
+        # under the axes of the others, and under none that are allowed
+        for other in (0, 1, 2, 3, 4, 5, 6, 7, 8, 9, 14, 15, 16, 255):
+            for record in row[:2]:
+                case([X, record], axes=other)
+        case([row[1]] * (1000 if axes == 8 else 455), axes=axes)
+    for axes in (2, 4, 5, 6, 9, 14, 16):
+        case([X, SEND, loop(1, -2), CIRCLE], axes=axes)
+        case([X, jump(2)], axes=axes)
+
+
+def turntables_out_of_range():
+    """Which axes an n names, counts of numbers, and the ranges of A's number and speed."""
+    for axes in (1, 3, 7, 8, 15):
+        for n in (*range(-1, 17), 24, 128, -8):
+            case([X, ("n", [n])], axes=axes)
+        for count in range(9):
+            for code in "0m":
+                case([(code, ([0, 600] * 4)[:count])], axes=axes)
+    case([("n", [])], axes=8)
+    case([("n", [8, 8])], axes=15)
+    for axes in (8, 15):
+        rest = [0, 600] * (NEEDS[axes] // 2 - 1)
+        for a, speed in ((-8388609, 600), (-8388608, 600), (8388607, 600), (8388608, 600), (1, 29), (1, 30), (1, 10000), (1, 10001), (0, 29)):
+            for code in "0m":
+                case([X, (code, rest + [a, speed])], axes=axes)
+    for a in (-1, 0, 1, 8388607):
+        for axes in (7, 15):
+            case([("m", [0, 600] * 3 + [a, 600])], axes=axes)
+            case([("0", [0, 600] * 3 + [a, 600])], axes=axes)
+    # a byte of a code, a count, a speed and an n
+    for at, byte in ((2, 0x4D), (3, 4), (9, 40), (14, 0x4E), (15, 0), (16, 9), (16, 0), (17, 1)):
+        case([("m", [7, 600]), ("n", [8]), SEND], axes=8, spoil={at: byte})
+
+
 def full():
     # 1,000 records: 124 times seven nested loops with a record in front, then jumps to the end
     block = [X] + [loop(1, -k) for k in range(1, 8)]
@@ -546,6 +598,8 @@ def main():
     far_ends()
     circles()
     circles_out_of_range()
+    turntables()
+    turntables_out_of_range()
     made = {
         "stdin": "".join("%s\n%s\n" % (head, data) for head, data, _ in CASES),
         "stdout": "".join("%s\n" % line for _, _, line in CASES),

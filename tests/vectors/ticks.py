@@ -1,8 +1,8 @@
 #!/usr/bin/env python3
 """Writes crates/engine_ticks/stdin and stdout: steps on an engine, and every answer of its clock calls by 01's sentences
-and those of 02, §3 and §6.
+and those of 02, §3, §6 and §7.
 
-An independent model: signed numbers, quotients, lists of pulses made beforehand, circles around a centre, a stack of open loops; it knows
+An independent model: signed numbers, quotients, phases cut off pulse by pulse, circles around a centre, a stack of open loops; it knows
 neither counts nor words nor the code's jobs. Run in the root of the repository: `python3 tests/vectors/ticks.py` writes both files,
 `--check` compares.
 """
@@ -12,13 +12,19 @@ import sys
 from circle_rule import PLANES, centre, circle_of, reach, refusal, right_arc, turned
 
 LOW, HIGH = -8388608, 8388607
+MOST = 131072  # bytes that the program reads
 CODES = {ord(c): c for c in "0mnz3512efy"}
 
 
 # ---- records
 
 def pairs(axes):
-    return {1: 1, 3: 2, 7: 4}.get(axes, 0)
+    return {1: 1, 3: 2, 7: 4, 8: 1, 15: 4}.get(axes, 0)
+
+
+def named(axes):
+    """What an n may say under the axes: any of x, y and z that are set, or a by itself."""
+    return {1: (1,), 3: (1, 2, 3), 7: (1, 2, 3, 4, 5, 6, 7), 8: (8,), 15: (1, 2, 3, 4, 5, 6, 7, 8)}.get(axes, ())
 
 
 def right(axes, code, numbers):
@@ -31,7 +37,7 @@ def right(axes, code, numbers):
         if n == 0 or len(numbers) != 2 * n:
             return False
         ways, speeds = numbers[0::2], numbers[1::2]
-        if c == "m" and n == 4 and ways[3] != 0:
+        if c == "m" and axes == 7 and ways[3] != 0:
             return False
         return all(LOW <= d <= HIGH for d in ways) and all(30 <= v <= 10000 for v in speeds)
     if c == "y":
@@ -44,7 +50,7 @@ def right(axes, code, numbers):
     if c == "f":
         return a in (0, -1)
     if c == "n":
-        return 1 <= a <= min(7, axes)
+        return a in named(axes)
     if c == "z":
         return a in (0, 1)
     if c == "5":
@@ -68,30 +74,41 @@ def encoded(code, numbers):
 
 # ---- movement
 
+class Straight:
+    """A straight movement under way: the phases to come, each with its distances and speed, and the pulses made of the first one."""
+
+    def __init__(self, phases):
+        self.phases, self.made = [p for p in phases if any(p[0])], 0
+
+    def __len__(self):
+        return sum(max(abs(d) for d in ds) for ds, _ in self.phases) - self.made
+
+    def pop(self, _):
+        ds, speed = self.phases[0]
+        n, self.made = max(abs(d) for d in ds), self.made + 1
+        steps = [[(2 * k * abs(d) + n) // (2 * n) for k in (self.made - 1, self.made)] for d in ds]
+        if self.made == n:
+            self.phases, self.made = self.phases[1:], 0
+        return [(b - a) * (1 if d > 0 else -1) for (a, b), d in zip(steps, ds)], speed
+
+
 def pulses(axes, three, absolute, at, origin, numbers):
-    """Every pulse of a movement as (signs, speed), or None where a resting point lies outside 24 bits."""
+    """The pulses of a movement, or None where a resting point lies outside 24 bits."""
     numbers = list(numbers) + [0] * (8 - len(numbers))
     ways, speeds = numbers[0::2], numbers[1::2]
-    used = {1: 1, 3: 2, 7: 3}[axes]
     goal = list(at)
-    for i in range(used):
-        goal[i] = (origin[i] if absolute else at[i]) + ways[i]
-    distance = [g - p for g, p in zip(goal, at)]
+    for way, i in zip(ways, {1: (0,), 3: (0, 1), 7: (0, 1, 2), 8: (3,), 15: (0, 1, 2, 3)}[axes]):
+        goal[i] = (origin[i] if absolute else at[i]) + way
+    distance = x, y, z, a = [g - p for g, p in zip(goal, at)]
     z2 = ways[3] if axes == 7 and not three and not absolute else 0
     if any(not LOW <= p <= HIGH for p in goal + [goal[2] + z2]):
         return None
     if three:
         phases = [(distance, speeds[0])]
     else:
-        first = speeds[1] if abs(distance[1]) > abs(distance[0]) else speeds[0]
-        phases = [([distance[0], distance[1], 0], first), ([0, 0, distance[2]], speeds[2]), ([0, 0, z2], speeds[3])]
-    out = []
-    for ds, v in phases:
-        n = max(abs(d) for d in ds)
-        for k in range(1, n + 1):
-            made = [[(2 * j * abs(d) + n) // (2 * n) for j in (k - 1, k)] for d in ds]
-            out.append(([(b - a) * (1 if d > 0 else -1) for (a, b), d in zip(made, ds)], v))
-    return out
+        first, last = speeds[1] if abs(y) > abs(x) else speeds[0], speeds[0] if axes == 8 else speeds[3]
+        phases = [([x, y, 0, 0], first), ([0, 0, z, 0], speeds[2]), ([0, 0, z2, a], last)]
+    return Straight(phases)
 
 
 # ---- circles
@@ -113,7 +130,7 @@ class Arc:
 
     def pop(self, _):
         self.left -= 1
-        signs = [0, 0, 0]
+        signs = [0, 0, 0, 0]
         for i, s in zip(self.axes, turned(self.counter, self.value, *self.point())):
             signs[i] = s
         return signs, self.speed
@@ -138,11 +155,17 @@ class Engine:
         self.stop()
 
     def set_axes(self, axes):
-        self.axes, self.at, self.origin, self.three = axes, [0, 0, 0], [0, 0, 0], False
+        self.axes, self.at, self.origin, self.three = axes, [0, 0, 0, 0], [0, 0, 0, 0], False
         self.plane, self.counter = 0, False
+
+    def add_a(self):
+        """02, §7: A alone on an unset board, beside three axes where these are set; A is at 0, and all else stays."""
+        self.axes = {0: 8, 7: 15, 8: 8, 15: 15}[self.axes]
+        self.at[3] = self.origin[3] = 0
 
     def stop(self):
         self.mode, self.left, self.pauses, self.place, self.loops, self.wait = "idle", [], 0, 0, [], None
+        self.due = None
 
     def runs(self):
         return self.mode in ("direct", "program") and self.wait is None
@@ -150,7 +173,10 @@ class Engine:
     def sound(self):
         if isinstance(self.left, Arc) and not self.left.sound():
             return False
-        return self.used <= 16384 and self.records <= 1000 and len(self.loops) <= 7 and self.axes in (0, 1, 3, 7) and self.held in (0, 1, 3, 7)
+        if self.due is not None and self.due != self.at:
+            return False
+        allowed = (0, 1, 3, 7, 8, 15)
+        return self.used <= 16384 and self.records <= 1000 and len(self.loops) <= 7 and self.axes in allowed and self.held in allowed
 
     def fetch(self):
         """The record at the byte that the table has for the place; None where none can be read, or not the whole of it is in use."""
@@ -171,8 +197,10 @@ class Engine:
         return f"S {byte}"
 
     def pulse(self):
+        """Of a straight movement it is kept where the axes are due, those that rest included: a host may set them elsewhere."""
         signs, speed = self.left.pop(0)
         self.at = [p + s for p, s in zip(self.at, signs)]
+        self.due = None if isinstance(self.left, Arc) else list(self.at)
         return "P " + "".join("-.+"[s + 1] for s in signs) + f" {speed}"
 
     def call(self):
@@ -195,7 +223,7 @@ class Engine:
     def record(self, code, numbers):
         own = self.place
         a = numbers[0]
-        self.left = []
+        self.left, self.due = [], None
         if code in "32":
             return self.turn(code, own, a, own + numbers[1])
         if code in "0my":
@@ -255,6 +283,7 @@ class Engine:
         if not left:
             return 48
         self.mode, self.left = "direct", left
+        self.due = None if isinstance(left, Arc) else list(self.at)
         return 0
 
     def shown(self):
@@ -276,6 +305,11 @@ class Script:
     def fresh(self, axes):
         self.e = Engine(axes, self.store, self.table)
         self.step(0, axes)
+
+    def fresh_with_a(self, axes):
+        """A alone (8), or beside three axes (15)."""
+        self.fresh({8: 0, 15: 7}[axes])
+        self.axes(8)
 
     def keep(self, code, *numbers):
         """A record stored as it stands, right or not."""
@@ -337,7 +371,10 @@ class Script:
 
     def axes(self, number):
         self.step(22, number)
-        self.e.set_axes(number)
+        if number == 8:
+            self.e.add_a()
+        else:
+            self.e.set_axes(number)
 
     def poke(self, at, byte):
         self.step(8, at, byte)
@@ -792,7 +829,7 @@ class Dice:
 def some_record(d, axes, i, n):
     kind = d.roll(9)
     if kind < 2:
-        ways = [0 if kind == 1 and j == 3 else d.roll(9) - 4 for j in range(pairs(axes))]
+        ways = [0 if kind == 1 and j == 3 and axes == 7 else d.roll(9) - 4 for j in range(pairs(axes))]
         return ("0m"[kind], *(x for w in ways for x in (w, 30 + d.roll(900))))
     if kind == 2:
         return ("5", d.roll(4))
@@ -801,7 +838,7 @@ def some_record(d, axes, i, n):
     if kind == 4:
         return ("z", d.roll(2))
     if kind == 5:
-        return ("n", 1 + d.roll(axes))
+        return ("n", named(axes)[d.roll(len(named(axes)))])
     if kind == 6:
         return ("3", 1 + d.roll(3), -1 - d.roll(max(1, i + (d.roll(6) == 0))))
     if kind == 7:
@@ -853,13 +890,404 @@ def mixed_circles(s):
         s.show()
 
 
+# ---- turntables: 02, §7
+
+def moved(s, absolute, *numbers):
+    """A direct movement to its end and one call more, with the pulses that it has and the 0."""
+    s.begin(absolute, *numbers)
+    s.calls(len(s.e.left) + 2)
+
+
+def four(x, y, z, a):
+    """The numbers of a movement of four axes; its speeds tell which axis gave them."""
+    return x, 600, y, 700, z, 800, a, 900
+
+
+def turntables(s):
+    setting_a(s)
+    # A alone: its own speed, the same pulses with 3D on and off; n and N
+    s.fresh_with_a(8)
+    for on in (0, 1, 0):
+        s.three(on)
+        for absolute, a in ((0, 3), (0, -5), (1, 2), (0, 0), (1, 2)):
+            moved(s, absolute, a, 650)
+        s.mark(8)
+        moved(s, 1, -1, 30)
+        s.show()
+    s.zero(8)
+    s.show()
+    moved(s, 1, 2, 10000)
+    # four axes: x with y, then z, then a; phases without pulses; then all four together at the x speed
+    s.fresh_with_a(15)
+    ways = (2, 3, -2, 4), (3, -3, 1, -1), (2, 0, 0, -3), (0, -1, 0, 2), (0, 0, 2, -3), (0, 0, 0, 3), (1, -2, 2, 0), (0, 0, 0, 0)
+    for on in (0, 1):
+        s.three(on)
+        for row in ways + ((0, 2, 0, -5), (4, -2, 3, 7), (5, 5, -5, 5)):
+            moved(s, 0, *four(*row))
+        s.show()
+    # origins: x, y and z by 1 to 7, a by 8
+    s.three(0)
+    for axes in (8, 2, 7):
+        s.mark(axes)
+        s.show()
+        moved(s, 1, *four(1, -1, 2, -2))
+        moved(s, 1, *four(0, 0, 0, 3))
+    for axes in (4, 8, 3):
+        s.zero(axes)
+        s.show()
+        moved(s, 1, *four(1, 1, 1, 1))
+    s.show()
+    far_a(s)
+    altered_under_way(s)
+    circles_beside_a(s)
+
+
+def setting_a(s):
+    """`@08` and the other axes lines one after the other. Which axes are set is told by an empty program, which takes them over."""
+    for row in ((8, 8), (8, 7), (7, 8), (7, 8, 8), (7, 8, 7), (7, 8, 7, 8), (7, 8, 3), (7, 8, 1), (8, 1), (8, 3), (8, 7, 8, 8), (8, 3, 7, 8)):
+        s.fresh(0)
+        for axes in row:
+            s.axes(axes)
+        s.program()
+        s.show()
+    s.fresh(8)
+    s.program()
+    moved(s, 0, 2, 600)
+    s.show()
+    # a reset leaves no axis set, and so A alone after it
+    for first in (7, 8):
+        s.reset()
+        s.axes(first)
+        s.axes(8)
+        s.program()
+        s.reset()
+        s.axes(8)
+        s.show()
+        moved(s, 0, -2, 600)
+        s.show()
+    # it keeps 3D, plane and direction, the other axes and their origins, and puts A alone at 0
+    s.fresh(7)
+    moved(s, 0, 1, 600, -2, 700, 3, 800, 1, 900)
+    s.mark(5)
+    moved(s, 0, 2, 600, 0, 700, 0, 800, 0, 900)
+    s.three(1)
+    s.plane(2)
+    s.direction(-1)
+    s.show()
+    s.axes(8)
+    s.show()
+    moved(s, 0, *four(1, 2, -1, 4))
+    s.mark(8)
+    moved(s, 1, *four(0, 0, 0, -1))
+    s.show()
+    s.axes(8)
+    s.show()
+    moved(s, 1, *four(0, 0, 0, -1))
+    s.circle(*circle_of(3, 600, -1, 2, 1))
+    s.calls(4)
+    s.show()
+    # 7, 3 and 1 put all four at 0; the fourth number is the second z again
+    s.axes(7)
+    s.show()
+    moved(s, 0, *four(1, 0, 2, -1))
+    for axes, numbers in ((3, (1, 600, 2, 700)), (1, (2, 600))):
+        s.axes(7)
+        s.axes(8)
+        moved(s, 0, *four(1, 1, 1, 1))
+        s.mark(7)
+        s.mark(8)
+        s.three(1)
+        s.plane(1)
+        s.direction(-1)
+        s.show()
+        s.axes(axes)
+        s.show()
+        moved(s, 0, *numbers)
+    # the same of A alone
+    s.fresh_with_a(8)
+    moved(s, 0, 4, 600)
+    s.mark(8)
+    s.three(1)
+    s.plane(1)
+    s.direction(-1)
+    moved(s, 0, -1, 600)
+    s.show()
+    s.axes(8)
+    s.show()
+    moved(s, 1, 2, 600)
+    s.axes(3)
+    s.show()
+
+
+def far_a(s):
+    """9 on A: from either side, relative and counted from its origin; nothing moves then."""
+    s.fresh_with_a(8)
+    for on in (0, 1):
+        s.three(on)
+        for step, end in ((1, HIGH), (-1, LOW)):
+            s.axes(8)
+            moved(s, 0, step, 600)
+            s.begin(0, end, 600)
+            s.begin(0, end - step, 600)
+            s.calls(1)
+            s.cease()
+            s.axes(8)
+            moved(s, 0, step, 600)
+            s.mark(8)
+            s.begin(1, end, 600)
+            s.begin(1, end - step, 600)
+            s.calls(1)
+            s.cease()
+            s.show()
+    s.fresh_with_a(15)
+    for on in (0, 1):
+        s.three(on)
+        for step, end in ((1, HIGH), (-1, LOW)):
+            s.axes(8)
+            moved(s, 0, *four(0, 0, 0, step))
+            s.begin(0, *four(2, 0, 1, end))
+            s.begin(0, *four(0, 0, 0, end - step))
+            s.calls(1)
+            s.cease()
+            s.axes(8)
+            moved(s, 0, *four(0, 0, 0, 2 * step))
+            s.mark(8)
+            s.begin(1, *four(0, 0, 0, end - step))
+            s.begin(1, *four(0, 0, 0, end - 2 * step))
+            s.calls(1)
+            s.cease()
+            s.zero(8)
+            s.begin(1, *four(0, 0, 0, end))
+            s.calls(1)
+            s.cease()
+            s.show()
+    # another axis, and A in its range
+    moved(s, 0, *four(1, 0, 0, 0))
+    s.begin(0, *four(HIGH, 0, 0, 1))
+    s.show()
+
+
+def altered_under_way(s):
+    """A as a host sets it while something moves: 103 of a movement, also where A rests; a circle does not look at it."""
+    for row in ((3, 0, 0, 0), (0, 0, 0, 3), (1, 0, 0, 2)):
+        for calls in (0, 1, 3):
+            s.fresh_with_a(15)
+            moved(s, 0, *four(0, 0, 0, 2))
+            s.begin(0, *four(*row))
+            s.calls(calls)
+            s.mark(8)
+            s.show()
+            s.zero(8)
+            s.show()
+            s.cease()
+            s.show()
+    s.fresh_with_a(8)
+    s.program(("0", 2, 600), ("1", 33))
+    for calls in (1, 2):
+        s.start()
+        s.calls(calls)
+        s.mark(8)
+        s.show()
+        s.zero(8)
+        s.show()
+        s.cease()
+    s.fresh_with_a(15)
+    moved(s, 0, *four(0, 0, 0, 2))
+    s.circle(*circle_of(4, 600, 0, 2, 1))
+    s.calls(2)
+    s.zero(8)
+    s.show()
+    s.calls(3)
+    s.show()
+
+
+def circles_beside_a(s):
+    """A circle of four axes moves two, and A rests where it stands; under A alone no plane is set."""
+    for plane in (0, 1, 2):
+        for direction in (0, -1):
+            s.fresh_with_a(15)
+            moved(s, 0, *four(1, -2, 3, -4))
+            s.mark(8)
+            s.three(plane % 2)
+            s.plane(plane)
+            s.direction(direction)
+            for x, y in ((2, 0), (-1, 2)):
+                s.circle(*circle_of(7, 10000, direction, x, y))
+                s.calls(8)
+            s.show()
+    s.fresh_with_a(8)
+    moved(s, 0, 2, 600)
+    for plane in (0, 1, 2):
+        s.plane(plane)
+        s.circle(2, 600, 0, 1, 0, -1, -1)
+        s.circle(0, 600, 0, 1, 0, -1, -1)
+        s.circle(2, 29, 0, 0, 0, 1, 1)
+        s.calls(1)
+    s.show()
+
+
+def turntable_programs(s):
+    # A alone: loops, n 8, targets from its origin, z without an effect on A
+    s.fresh_with_a(8)
+    s.program(("0", 2, 600), ("3", 2, -1), ("z", 1), ("n", 8), ("0", -3, 700), ("m", 1, 800), ("m", 1, 900), ("1", 65), ("z", 0), ("m", -2, 30), ("5", 1))
+    for _ in (0, 1):
+        s.start()
+        s.calls(26)
+        s.show()
+    # a loop around a target, whose origin moves on
+    s.program(("m", 2, 600), ("n", 8), ("3", 2, -2), ("0", 0, 600))
+    s.start()
+    s.calls(18)
+    s.show()
+    # four axes: n 8 leaves the other origins, n 7 that of a; 3D inside and after
+    s.fresh_with_a(15)
+    s.program(("0", *four(1, 2, -1, 2)), ("n", 8), ("m", *four(0, 0, 0, -1)), ("n", 7), ("z", 1), ("m", *four(1, 0, -1, 3)), ("3", 1, -4), ("0", *four(0, 0, 0, 2)))
+    s.start()
+    s.calls(40)
+    s.show()
+    s.start()
+    s.calls(3)
+    s.cease()
+    s.show()
+    s.three(0)
+    s.program(("0", *four(1, 0, 0, 1)), ("0", *four(0, 0, 1, -2)), ("3", 2, -2), ("2", 65, 2), ("1", 66), ("m", *four(0, 0, 0, 0)), ("n", 1), ("n", 4))
+    s.start()
+    s.calls(20)
+    s.hear(65)
+    s.calls(12)
+    s.show()
+    # e and f under A alone; a circle that is stored there ends the program with 3, also one of no pulse, and the store stays
+    s.fresh_with_a(8)
+    for length in (4, 0):
+        s.program(("0", 2, 600), ("e", 1), ("f", -1), ("y", *circle_of(length, 600, -1, 2, 1)), ("1", 33))
+        s.start()
+        s.calls(7)
+        s.show()
+    s.axes(8)
+    s.show()
+    # a circle among movements of four axes, in each plane
+    for plane in (0, 1, 2):
+        s.fresh_with_a(15)
+        s.program(("0", *four(0, 0, 0, 2)), ("e", plane), ("y", *circle_of(5, 600, 0, 0, 2)), ("f", -1), ("0", *four(0, 0, 0, -1)), ("y", *circle_of(3, 700, -1, 1, 1)), ("3", 1, -2))
+        s.start()
+        s.calls(20)
+        s.show()
+    # 9 on A ends the program, and it starts again
+    for axes, records in ((8, (("0", 1, 600), ("0", HIGH, 600))), (8, (("0", -1, 600), ("n", 8), ("m", LOW, 600))),
+                          (15, (("0", *four(0, 0, 0, 1)), ("0", *four(1, 0, 0, HIGH)))), (15, (("0", *four(1, 0, 0, -1)), ("n", 8), ("m", *four(0, 0, 0, LOW))))):
+        s.fresh_with_a(axes)
+        s.program(*records, ("1", 33))
+        s.start()
+        s.calls(5)
+        s.show()
+        s.start()
+        s.calls(2)
+        s.cease()
+        s.show()
+    # the last target that A reaches
+    s.fresh_with_a(15)
+    s.program(("0", *four(0, 0, 0, -1)), ("n", 8), ("m", *four(0, 0, 0, HIGH)))
+    s.start()
+    s.calls(4)
+    s.cease()
+    s.show()
+
+
+def turntables_altered(s):
+    """Stores under 8 and 15 with what is not right there, and the axes of a store or its bytes as a host sets them."""
+    # stored as it stands: wrong counts, numbers and speeds, an n of axes that are not set or mixed
+    wrong = [(8, r) for r in (("0", 1, 600, 1, 600), ("0", *four(0, 0, 0, 1)), ("m", *four(0, 0, 0, 0)), ("0", 1), ("0",), ("m", 1, 29), ("0", HIGH + 1, 600))]
+    wrong += [(15, r) for r in (("0", 1, 600), ("m", 1, 600, 1, 600), ("0", *four(0, 0, 0, 0)[:-1], 29), ("m", *four(0, 0, 0, HIGH + 1)))]
+    wrong += [(axes, ("n", n)) for axes in (8, 15) for n in (0, 1, 4, 7, 8, 9, 12, 15, 16, -8)]
+    for axes, record in wrong:
+        s.fresh_with_a(axes)
+        s.program(("1", 33), record)
+        s.start()
+        s.calls(3)
+        s.show()
+    for axes, n in ((1, 8), (3, 8), (7, 8), (7, 9), (7, 15)):
+        s.fresh(axes)
+        s.program(("1", 33), ("n", n))
+        s.start()
+        s.calls(3)
+    # the store's axes, whatever the board's: three and four take eight numbers, one and A alone two
+    s.fresh_with_a(15)
+    s.program(("0", *four(1, 0, 2, -1)), ("m", *four(0, 0, 0, 0)), ("n", 7))
+    for axes in (7, 15, 8, 3, 0, 9, 14, 16, 2):
+        s.hold(80, 3, axes)
+        s.zero(7)
+        s.zero(8)
+        s.start()
+        s.show()
+        s.calls(9)
+        s.show()
+    s.fresh(1)
+    s.program(("0", 2, 600), ("m", -1, 600))
+    for axes in (8, 1, 9, 15):
+        s.hold(24, 2, axes)
+        s.start()
+        s.calls(6)
+        s.show()
+    for board in (0, 3, 7):
+        s.fresh(board)
+        s.hold(24, 2, 8)
+        s.start()
+        s.calls(6)
+        s.show()
+    # a fourth target that only four axes have
+    s.fresh_with_a(15)
+    s.program(("m", *four(0, 0, 0, 2)))
+    for axes in (15, 7):
+        s.hold(36, 1, axes)
+        s.start()
+        s.calls(3)
+        s.show()
+    # bytes: the n, a count, the speed of a, and its number
+    s.fresh_with_a(15)
+    good = (("n", 8), ("0", *four(0, 0, 0, 2)))
+    s.program(*good)
+    for at, byte in ((4, 9), (4, 7), (4, 0), (5, 1), (11, 2), (11, 7), (40, 29), (41, 0), (41, 40), (38, 128), (36, 0), (36, 1)):
+        before = s.store[at]
+        s.poke(at, byte)
+        s.start()
+        s.calls(3)
+        s.cease()
+        s.show()
+        s.poke(at, before)
+        s.hold(44, 2, 15)
+
+
+def mixed_turntables(s):
+    d = Dice(20140507)
+    for axes in (8, 15) * 12:
+        s.fresh_with_a(axes)
+        n = 2 + d.roll(6)
+        s.program(*(some_record(d, axes, i, n) for i in range(n)))
+        s.start()
+        for _ in range(3):
+            s.calls(12 + d.roll(16))
+            s.hear(65 + d.roll(2))
+        s.show()
+    for _ in range(6):
+        s.fresh_with_a(15)
+        n = 2 + d.roll(7)
+        s.program(*some_circles(d, 15, n))
+        s.start()
+        for _ in range(2):
+            s.calls(12 + d.roll(16))
+            s.hear(65 + d.roll(2))
+        s.show()
+
+
+
 def files():
     s = Script()
-    for part in (directs, programs, altered, mixed, circles, circle_programs, mixed_circles):
+    base = (directs, programs, altered, mixed, circles, circle_programs, mixed_circles)
+    for part in (*base, turntables, turntable_programs, turntables_altered, mixed_turntables):
         part(s)
     folder = "crates/engine_ticks/"
     text = f"{len(s.lines)}\n" + "\n".join(s.lines) + "\n"
-    if len(text) > 65536:
+    if len(text) > MOST:
         sys.exit("more than the program reads")
     return {folder + "stdin": text, folder + "stdout": "\n".join(s.out) + "\n"}
 

@@ -44,19 +44,19 @@ fn count_right(axes: u8, code: u8, n: usize) -> bool
     n == 1
 }
 
-// Whether a number is from 1 to `most`.
-fn from_one(most: u8, w: u32) -> bool
-    ensures { λ r. ⌜ r ≡ within (pos 1) (pos most) (signed w) ⌝ }
+// Whether a number is from `least` to `most`.
+fn from_to(least: u8, most: u8, w: u32) -> bool
+    ensures { λ r. ⌜ r ≡ within (pos least) (pos most) (signed w) ⌝ }
 {
-    (1 <= w) & (w <= (most as u32))
+    ((least as u32) <= w) & (w <= (most as u32))
 }
 
 // Whether these are axes of x, y and z that are set, or A alone where it is.
 fn axes_named(axes: u8, w: u32) -> bool
     ensures { λ r. ⌜ r ≡ namedBy axes (signed w) ⌝ }
 {
-    let few = count::has(axes as u32, Axis::X) & from_one(7, w) & from_one(axes, w);
-    few | (count::has(axes as u32, Axis::A) & (w == 8))
+    let few = count::has(axes as u32, Axis::X) & from_to(1, 7, w) & from_to(1, axes, w);
+    few | (count::has(axes as u32, Axis::A) & from_to(8, 8, w))
 }
 
 // 3: whether the axes of `n` are some of the axes set.

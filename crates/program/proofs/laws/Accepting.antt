@@ -36,7 +36,7 @@ pub sized-parts : (h : Held) → sized h ≡ true → (h .used ≤ 16384) × (h 
 unfolding sized
 sized-parts h e = let d = and-parts (leb (h .used) 16384) (leb (h .records) 1000) e in (leb-true _ _ (d .0), leb-true _ _ (d .1))
 
--- under axes 1, 3 or 7
+-- under axes that lines set
 pub computed : (h : Held) (s : List ℕ) → axesSet (h .axes) ≡ true → h .used ≤ 16384 → h .records ≤ 1000 → accepted h s ≡ isSound (verdictOf h s)
 unfolding accepted verdictOf
 computed h s a u l = rw (sized-so h u l, a, le-ltb 1000 (h .records) l) (on-same (recordsOf h s))

@@ -12,9 +12,11 @@ use lib.IntN.{ℤ, pos, negsuc}
 use lib.Signed.{mag}
 use Rattle.count.specs.Pick.{pick}
 use Rattle.count.specs.Numbers.{within, in24}
-use Rattle.count.specs.Ranges.{inSpeed, inOffset, inBack, inLoop, inDelay, inCharacter, inSwitch, inZero, inPlane, inDirection, inArc, inStart, inWay, nth, rightCount, rightZ2, rightDistances, rightSpeeds, rightArc}
-use Rattle.count.proofs.laws.Truth.{never, and-parts}
-use Rattle.record.specs.Fault.{countRight, axesRight, loopRight, rangesRight, speedsRight}
+use Rattle.count.specs.declared.Axis.the-variants.{X, A}
+use Rattle.count.specs.Axes.{has}
+use Rattle.count.specs.Ranges.{inSpeed, inOffset, inBack, inLoop, inDelay, inCharacter, inSwitch, inZero, inPlane, inDirection, inArc, inStart, inWay, nth, onePair, twoPairs, fourPairs, rightCount, rightZ2, rightDistances, rightSpeeds, rightArc}
+use Rattle.count.proofs.laws.Truth.{never, and-left, and-right, and-parts}
+use Rattle.record.specs.Fault.{namedBy, countRight, axesRight, loopRight, rangesRight, speedsRight}
 use Rattle.record.proofs.laws.Faultless.{Faultless, either, by-code, within-mag}
 
 -- a number of at most seven digits, a speed, and which way an axis goes
@@ -30,7 +32,7 @@ Way z = inWay z ≡ true
 pub data Shape (n : ℕ) (w : List ℕ) : Type 0 where
   one : n ≡ 1 → Seven (nth w 0) → Shape n w
   two : n ≡ 2 → Seven (nth w 0) → Seven (nth w 1) → Shape n w
-  -- distances and speeds of two axes and of three
+  -- distances and speeds of two axes, and of three or four
   four : n ≡ 4 → Seven (nth w 0) → Fast (nth w 1) → Seven (nth w 2) → Fast (nth w 3) → Shape n w
   eight : n ≡ 8 → Seven (nth w 0) → Fast (nth w 1) → Seven (nth w 2) → Fast (nth w 3) → Seven (nth w 4) → Fast (nth w 5) → Seven (nth w 6)
       → Fast (nth w 7) → Shape n w
@@ -70,6 +72,16 @@ loop-seven x y e = by (either _ _ e)
     by (inr p) =
         let q = and-parts (inZero x) (inOffset y) p in
         (in-seven (pos 0) (pos 0) x (omega arith) (omega arith) (q .0), offset-seven y (q .1))
+
+named-seven : (axes : ℕ) (z : ℤ) → namedBy axes z ≡ true → Seven z
+unfolding namedBy
+named-seven axes z e = by (either _ _ e)
+  where
+    by : (has axes X && within (pos 1) (pos 7) z && within (pos 1) (pos axes) z ≡ true) ⊎ (has axes A && within (pos 8) (pos 8) z ≡ true) → Seven z
+    by (inl p) =
+        let q = and-left (has axes X && within (pos 1) (pos 7) z) (within (pos 1) (pos axes) z) p in
+        in-seven (pos 1) (pos 7) z (omega arith) (omega arith) (and-right (has axes X) (within (pos 1) (pos 7) z) q)
+    by (inr p) = in-seven (pos 8) (pos 8) z (omega arith) (omega arith) (and-right (has axes A) (within (pos 8) (pos 8) z) p)
 
 -- one digit
 pub way-short : (z : ℤ) → Way z → mag z < 9
@@ -112,7 +124,7 @@ module _ (w : List ℕ) where
 
   movement : (axes n : ℕ) (absolute : Bool) → rightCount axes n ≡ true → rightDistances axes absolute w ≡ true → rightSpeeds axes w ≡ true → Shape n w
   unfolding rightCount rightDistances rightSpeeds
-  movement axes n absolute p q r = movement-by (eqb axes 1) (eqb axes 3) (eqb axes 7) n absolute p q r
+  movement axes n absolute p q r = movement-by (onePair axes) (twoPairs axes) (fourPairs axes) n (absolute && eqb axes 7) p q r
 
   circle : (n : ℕ) → n ≡ 7 → rightArc w ≡ true → inSpeed (nth w 1) ≡ true → Shape n w
   unfolding rightArc inArc
@@ -142,9 +154,7 @@ module _ (w : List ℕ) where
       target p q r s = movement axes n true p r s
 
       origin : ShapeAs axes n 110
-      origin p q r s =
-          let h = and-parts (within (pos 1) (pos 7) (nth w 0)) (within (pos 1) (pos axes) (nth w 0)) q in
-          one (eqb-true n 1 p) (in-seven (pos 1) (pos 7) (nth w 0) (omega arith) (omega arith) (h .0))
+      origin p q r s = one (eqb-true n 1 p) (named-seven axes (nth w 0) q)
 
       switch : ShapeAs axes n 122
       switch p q r s = one (eqb-true n 1 p) (in-seven (pos 0) (pos 1) (nth w 0) (omega arith) (omega arith) r)

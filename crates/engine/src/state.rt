@@ -54,7 +54,8 @@ fn beside_a(axes: u8) -> u8
     if count::has(axes as u32, Axis::A) {
         return axes;
     }
-    axes + 8
+    let both = axes + 8;
+    both
 }
 
 fn chosen(b: bool, x: u32, y: u32) -> u32

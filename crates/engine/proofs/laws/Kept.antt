@@ -31,7 +31,10 @@ use Rattle.engine.specs.declared.Job.{Job}
 use Rattle.engine.specs.declared.Job.the-variants as job
 use Rattle.engine.specs.declared.Engine.{Engine}
 use Rattle.engine.specs.declared.Told.{Told}
-use Rattle.count.specs.Ranges.{names}
+use Rattle.count.specs.declared.Axis.{Axis}
+use Rattle.count.specs.Axes.{has}
+use Rattle.motion.specs.Axes.{on}
+use Rattle.motion.proofs.laws.Points.{on-point}
 use Rattle.engine.specs.State.{withAt, withThree, withCircling, withHeld, withRun, running, zeroes, mixed, originOf, ceased, emptied}
 use Rattle.engine.specs.Tick.{Fetching, afterPause, ticked}
 use Rattle.engine.specs.Sound.{axesKnown, jobSound, soundOf}
@@ -97,12 +100,9 @@ mixed-one false a b p q = q
 pub mixed-counted : (axes : ℕ) (c d : Counters) → counted c ≡ true → counted d ≡ true → counted (mixed axes c d) ≡ true
 unfolding mixed
 mixed-counted axes c d p q =
-    let i = in24-of c p in
-    let j = in24-of d q in
     counted-of (mixed axes c d) (record {
-      x = mixed-one (names axes 1) (c .x) (d .x) (i .x) (j .x);
-      y = mixed-one (names axes 2) (c .y) (d .y) (i .y) (j .y);
-      z = mixed-one (names axes 4) (c .z) (d .z) (i .z) (j .z);
+      each = λ i. rw (on-point (λ (j : Axis). pick (has axes j) (on j c) (on j d)) i)
+          (mixed-one (has axes i) (on i c) (on i d) (in24-of c p .each i) (in24-of d q .each i));
     })
 
 pub zeroes-counted : counted zeroes ≡ true

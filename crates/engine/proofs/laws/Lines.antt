@@ -26,7 +26,7 @@ use Rattle.engine.specs.declared.Job.{Job}
 use Rattle.engine.specs.declared.Job.the-variants as job
 use Rattle.engine.specs.declared.Engine.{Engine}
 use Rattle.engine.specs.work.Glide.{glidedBy, glided}
-use Rattle.engine.specs.State.{withAt, withThree, withPlane, withDirection, withOutput, withHeld, withRun, running, withJob, zeroes, mixed, axesOf, originOf, zeroOf, ceased, started, emptied, fresh, storingOf, keptBy, resetOf, heardBy, heard, begunBy, beginOf, circleBegun}
+use Rattle.engine.specs.State.{withAt, withThree, withPlane, withDirection, withOutput, withHeld, withRun, running, withJob, withAxes, zeroes, mixed, besideA, turntableOf, anewOf, axesOf, originOf, zeroOf, ceased, started, emptied, fresh, storingOf, keptBy, resetOf, heardBy, heard, begunBy, beginOf, circleBegun}
 use Rattle.engine.specs.Sound.{axesKnown, jobSound, soundOf}
 use Rattle.engine.proofs.laws.Facts.{Sane, facts, sane}
 use Rattle.engine.proofs.laws.Kept.{mixed-counted, zeroes-counted, run-sane, ceased-sane, held-sane, emptied-sane, three-sane, circling-sane, origin-sane}
@@ -90,10 +90,10 @@ module _ (e : Engine) (h : soundOf e ≡ true) where
       sane (storingOf e) (run-sane (withHeld e d) (held-sane e s d (s .axes) (omega arith) (omega arith)) job.Storing 0 noLoops (λ c. refl) (omega arith))
 
   -- setting axes and zeroing them: while no movement is under way, as with every line
-  pub axes-keeps : (axes : ℕ) → axesKnown axes ≡ true → Still (e .run .job) → soundOf (axesOf axes e) ≡ true
-  axes-keeps axes a t =
+  anew-keeps : (axes : ℕ) → axesKnown axes ≡ true → Still (e .run .job) → soundOf (anewOf axes e) ≡ true
+  anew-keeps axes a t =
       let s = facts e h in
-      sane (axesOf axes e) (record {
+      sane (anewOf axes e) (record {
         at = zeroes-counted;
         origin = zeroes-counted;
         axes = a;
@@ -104,19 +104,31 @@ module _ (e : Engine) (h : soundOf e ≡ true) where
         job = t zeroes;
       })
 
-  pub zero-keeps : (axes : ℕ) → Still (e .run .job) → soundOf (zeroOf axes e) ≡ true
-  zero-keeps axes t =
+  -- the engine with some axes zeroed, under any axes that are known
+  zeroed-keeps : (axes n : ℕ) → axesKnown n ≡ true → Still (e .run .job) → soundOf (withAxes (zeroOf axes e) n) ≡ true
+  zeroed-keeps axes n a t =
       let s = facts e h in
-      sane (zeroOf axes e) (record {
+      sane (withAxes (zeroOf axes e) n) (record {
         at = mixed-counted axes zeroes (e .at) zeroes-counted (s .at);
         origin = mixed-counted axes zeroes (e .origin) zeroes-counted (s .origin);
-        axes = s .axes;
+        axes = a;
         stored = s .stored;
         used = s .used;
         records = s .records;
         loops = s .loops;
         job = t (mixed axes zeroes (e .at));
       })
+
+  pub zero-keeps : (axes : ℕ) → Still (e .run .job) → soundOf (zeroOf axes e) ≡ true
+  zero-keeps axes t = zeroed-keeps axes (e .axes) (facts e h .axes) t
+
+  -- where the axes afterwards are known
+  pub axes-keeps : (axes : ℕ) → axesKnown (axesOf axes e .axes) ≡ true → Still (e .run .job) → soundOf (axesOf axes e) ≡ true
+  axes-keeps axes a t = by (eqb axes 8) a
+    where
+      by : (b : Bool) → axesKnown (pick b (turntableOf e) (anewOf axes e) .axes) ≡ true → soundOf (pick b (turntableOf e) (anewOf axes e)) ≡ true
+      by true k = zeroed-keeps 8 (besideA (e .axes)) k t
+      by false k = anew-keeps axes k t
 
   -- reset
   kept-sane : (j : Job) → (axesKnown (keptBy j (e .held) .axes) ≡ true) × (keptBy j (e .held) .used ≤ 16384) × (keptBy j (e .held) .records ≤ 1000)

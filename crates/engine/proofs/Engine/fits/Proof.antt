@@ -4,11 +4,11 @@ use borrow.Author.Needs.{needs}
 use Rattle.engine.proofs.Engine.fits.Statement.{statement}
 use Rattle.engine.proofs.Engine.fits.Tie as tie
 
-is-counted-requires : tie.Need-is-counted-requires
-is-counted-requires c κs = search needs
+counted-at-requires : tie.Need-counted-at-requires
+counted-at-requires c κs = search needs
 
-is-counted-requires-2 : tie.Need-is-counted-requires-2
-is-counted-requires-2 c κs = search needs
+counted-at-requires-2 : tie.Need-counted-at-requires-2
+counted-at-requires-2 c κs = search needs
 
 is-known-requires : tie.Need-is-known-requires
 is-known-requires c κs = search needs
@@ -24,8 +24,8 @@ pub fits-spec : {M : Type 1} → statement M
 fits-spec =
     tie.close
     (tie.spec
-    is-counted-requires
-    is-counted-requires-2
+    counted-at-requires
+    counted-at-requires-2
     is-known-requires
     is-known-requires-2
     returns)

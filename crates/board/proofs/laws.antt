@@ -1,5 +1,6 @@
 pub mod Puts
 pub mod Stores
+pub mod Axes
 pub mod Obeys
 pub mod Hears
 pub mod Ears

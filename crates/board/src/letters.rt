@@ -98,7 +98,7 @@ fn axes_fault(axes: u8, count: usize, w: u32) -> u8
         return b'7';
     }
     let few = (w == 1) | (w == 3) | (w == 7);
-    if few | ((w == 8) & (axes != 1) & (axes != 3)) {
+    if few | ((w == 8) & !((axes == 1) | (axes == 3))) {
         return b'0';
     }
     b'3'

@@ -29,17 +29,26 @@ fn put_at(reply: &mut [u8], at: usize, c: u32)
     count::put_report(&mut reply[at..], c);
 }
 
-// 0 and the positions of x, y and z, and of A where four axes are set.
-fn put_positions(reply: &mut [u8], axes: u8, at: Counters) -> usize
+// 0 and the positions of x, y and z.
+fn put_three(reply: &mut [u8], at: Counters) -> usize
     requires { ⌜ 32 ≤ length (now reply) ⌝ }
-    ensures { λ r. ⌜ written r (now (reply .exit)) ≡ putOf (48 ∷ endToEnd (λ i. report (on i at)) (shownAxes (eqb axes 15))) (now (reply .entry)) ⌝ }
+    ensures { λ r. ⌜ written r (now (reply .exit)) ≡ putOf (48 ∷ report (at .x) ++ report (at .y) ++ report (at .z)) (now (reply .entry)) ⌝ }
 {
     reply[0] = b'0';
     put_at(&mut *reply, 1, at.x);
     put_at(&mut *reply, 7, at.y);
     put_at(&mut *reply, 13, at.z);
+    19
+}
+
+// 0 and the positions: of x, y and z, and with four axes of A.
+fn put_positions(reply: &mut [u8], axes: u8, at: Counters) -> usize
+    requires { ⌜ 32 ≤ length (now reply) ⌝ }
+    ensures { λ r. ⌜ written r (now (reply .exit)) ≡ putOf (48 ∷ endToEnd (λ i. report (on i at)) (shownAxes (eqb axes 15))) (now (reply .entry)) ⌝ }
+{
+    let three = put_three(&mut *reply, at);
     if axes != 15 {
-        return 19;
+        return three;
     }
     put_at(reply, 19, at.a);
     25

@@ -1,4 +1,4 @@
--- What every byte leaves, whatever it is and whatever the memory holds: a state that passes 103 again, at most 19 bytes of reply, and
+-- What every byte leaves, whatever it is and whatever the memory holds: a state that passes 103 again, at most 25 bytes of reply, and
 -- a memory that changed, if at all, by an accepted record line alone. Assumes nothing.
 use Prim.Native.Nat.{ℕ, _+_, _%_, _≤_}
 use mathlib.Core.Path.{_≡_, refl}
@@ -10,6 +10,9 @@ use lib.Dec.{ltb, eqb}
 use lib.ListN.{length, getD, length-append}
 use Rattle.count.specs.Pick.{pick}
 use Rattle.count.proofs.laws.Truth.{never}
+use Rattle.count.specs.Text.{report}
+use Rattle.count.specs.Axes.{shownAxes, endToEnd}
+use Rattle.motion.specs.Axes.{on}
 use Rattle.motion.specs.declared.Counters.{Counters}
 use Rattle.record.specs.declared.Held.{Held}
 use Rattle.record.specs.declared.Record.{Record}
@@ -59,7 +62,7 @@ pub data Change (byte : ℕ) (b : Board) (m : Memory) (s : Said) : Type 0 where
 
 pub record Fair (byte : ℕ) (b : Board) (m : Memory) (s : Said) : Type 0 where
   pub kept : sound (s .board) ≡ true
-  pub short : length (s .reply) ≤ 19
+  pub short : length (s .reply) ≤ 25
   pub change : Change byte b m s
 
 -- ---- soundness of a board from its engine's
@@ -80,12 +83,16 @@ pub gathered-sound : (byte : ℕ) (b : Board) → sound b ≡ true → sound (wi
 gathered-sound byte b h =
     line-sound (b .engine) (b .standing) (gathered byte (b .line)) (sound-engine b h) (gathered-by byte (b .line) _ refl (sound-line b h))
 
-say-short : (s : Saying) (at : Counters) → length (bytesOf s at) ≤ 19
-say-short saying.Silent at = omega arith
-say-short (saying.One b) at = omega arith
-say-short saying.Positions at = simp (length-append, length-report) (omega arith)
-say-short (saying.Port v) at = simp length-two (omega arith)
-say-short (saying.Fault l p) at = simp length-four (omega arith)
+positions-short : (at : Counters) (b : Bool) → length (48 ∷ endToEnd (λ i. report (on i at)) (shownAxes b)) ≤ 25
+positions-short at true = simp (length-append, length-report) (omega arith)
+positions-short at false = simp (length-append, length-report) (omega arith)
+
+say-short : (s : Saying) (axes : ℕ) (at : Counters) → length (bytesOf s axes at) ≤ 25
+say-short saying.Silent axes at = omega arith
+say-short (saying.One b) axes at = omega arith
+say-short saying.Positions axes at = positions-short at (eqb axes 15)
+say-short (saying.Port v) axes at = simp length-two (omega arith)
+say-short (saying.Fault l p) axes at = simp length-four (omega arith)
 
 -- ---- an accepted line outside storing
 
@@ -118,7 +125,7 @@ module _ (b : Board) (h : sound b ≡ true) (still : b .standing ≡ false → S
   affected-okay letter.Wrong n l ports w p = done-sound (b .engine) (b .standing) (sound-engine b h)
   affected-okay letter.Axes n l ports w p =
       done-sound (axesOf (getD l 0 0 % 256) (b .engine)) (b .standing)
-      (axes-keeps (b .engine) (sound-engine b h) (getD l 0 0 % 256) (axes-fit n (getD l 0 0) p) (moves w))
+      (axes-keeps (b .engine) (sound-engine b h) (getD l 0 0 % 256) (axes-fit (b .engine) n (getD l 0 0) (facts (b .engine) (sound-engine b h) .axes) p) (moves w))
   affected-okay letter.Relative n l ports w p =
       let g = beginOf false l (b .engine) in begun-okay (eqb (g .reply) 0) g (begin-keeps (b .engine) (sound-engine b h) false l)
   affected-okay letter.Absolute n l ports w p =
@@ -183,7 +190,7 @@ module _ (byte : ℕ) (b : Board) (m : Memory) (h : sound b ≡ true) where
   fair-pick false x y p q = q refl
 
   quiet : (s : Spoke) → sound (s .board) ≡ true → fair (spoke s m)
-  quiet s p = record { kept = p; short = say-short (s .say) (s .board .engine .at); change = same refl }
+  quiet s p = record { kept = p; short = say-short (s .say) (s .board .engine .axes) (s .board .engine .at); change = same refl }
 
   as-was : fair (said b [] m)
   as-was = quiet (spokeOf b saying.Silent) h

@@ -127,8 +127,8 @@ module _ (byte : ℕ) (ports : List ℕ) (b : Board) (m : Memory) (h : sound b �
   pub store-changes : Change byte b m (hearing byte ports b m)
   store-changes = hearing-fair byte b m h ports .change
 
-  -- a reply has at most 19 bytes
-  pub reply-short : length (hearing byte ports b m .reply) ≤ 19
+  -- a reply has at most 25 bytes
+  pub reply-short : length (hearing byte ports b m .reply) ≤ 25
   reply-short = hearing-fair byte b m h ports .short
 
   -- with buffers of the right lengths a byte is not refused

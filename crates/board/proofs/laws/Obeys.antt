@@ -7,12 +7,11 @@ use native.Mathlib.Nat.{mod-eq-of-lt}
 use native.Mathlib.Omega.{arith}
 use borrow.Author.Tests.{eqb-true, leb-true, ne-eqb}
 use lib.Dec.{eqb, leb}
-use lib.IntN.{pos}
 use lib.ListN.{getD}
 use Rattle.count.specs.Pick.{pick}
-use Rattle.count.specs.Numbers.{within, signed}
+use Rattle.count.specs.Numbers.{signed}
 use Rattle.count.specs.Ranges.{inByte, inZero}
-use Rattle.count.proofs.laws.Laws.{within-up, within-zero}
+use Rattle.count.proofs.laws.Laws.{within-zero}
 use Rattle.count.proofs.laws.Truth.{never, and-left, and-right}
 use Rattle.motion.specs.declared.Counters.{Counters}
 use Rattle.motion.specs.declared.Planned.{Planned as StraightPlan}
@@ -38,9 +37,10 @@ use Rattle.engine.specs.State.{axesOf, originOf, zeroOf, withOutput, started, b
 use Rattle.engine.specs.Sound.{axesKnown}
 use Rattle.board.specs.declared.Board.{Board}
 use Rattle.board.specs.State.{board, noLine, lineDone, Said, said}
-use Rattle.board.specs.Direct.{isWrong, heardStanding, needsAxes, countFits, axesFit, rangesFit, speedsFit, planReply, isStart, first, replyOf, effect, effectOf, started-with, acceptedSaid, directSaid}
+use Rattle.board.specs.Direct.{axesAllowed, isWrong, heardStanding, needsAxes, countFits, axesFit, rangesFit, speedsFit, planReply, isStart, first, replyOf, effect, effectOf, started-with, acceptedSaid, directSaid}
 use Rattle.board.specs.declared.Saying.the-variants as saying
 use Rattle.board.specs.work.Work.{spoke, spokeOf, repliedWith, silentWith, begunWith, startedBy, affected, obeyed, axesFault, inputFault, outputFault, numbersFault, lineFault}
+use Rattle.board.proofs.laws.Axes.{allowed-small, allowed-known, named-below}
 use Rattle.board.proofs.laws.Stores.{four}
 
 -- ---- the rows of the table
@@ -125,25 +125,16 @@ pick-two true true x h p = refl
 pick-two true false x h p = absurd (h p)
 pick-two false b x h p = absurd (omega arith)
 
-one-of : (w : ℕ) (a b c : Bool) → eqb w 1 ≡ a → eqb w 3 ≡ b → eqb w 7 ≡ c → a || b || c ≡ true → w < 256
-one-of w true b c p q r e = omega (arith, eqb-true w 1 p)
-one-of w false true c p q r e = omega (arith, eqb-true w 3 q)
-one-of w false false true p q r e = omega (arith, eqb-true w 7 r)
-one-of w false false false p q r e = let z : _≡_ {A = ℕ} 0 1 = cc in absurd (omega arith)
-
-axes-small : (n w : ℕ) → axesFault n w ≡ 48 → w < 256
+axes-small : (axes n w : ℕ) → axesFault axes n w ≡ 48 → w < 256
 unfolding axesFault
-axes-small n w p = one-of w _ _ _ refl refl refl (pick-two (eqb n 1) (eqb w 1 || eqb w 3 || eqb w 7) 51 (λ q. omega arith) p)
+axes-small axes n w p = allowed-small axes w (pick-two (eqb n 1) (axesAllowed axes w) 51 (λ q. omega arith) p)
 
-known-by : (z a b c : Bool) → a || b || c ≡ true → z || a || b || c ≡ true
-known-by true a b c p = refl
-known-by false a b c p = p
-
-pub axes-fit : (n w : ℕ) → axesFault n w ≡ 48 → axesKnown (w % 256) ≡ true
+-- the axes after such a line are known where those before it are
+pub axes-fit : (e : Engine) (n w : ℕ) → axesKnown (e .axes) ≡ true → axesFault (e .axes) n w ≡ 48 → axesKnown (axesOf (w % 256) e .axes) ≡ true
 unfolding axesFault
-axes-fit n w p =
-    let q : w % 256 ≡ w = mod-eq-of-lt (axes-small n w p) in
-    rw q (known-by (eqb w 0) (eqb w 1) (eqb w 3) (eqb w 7) (pick-two (eqb n 1) (eqb w 1 || eqb w 3 || eqb w 7) 51 (λ q. omega arith) p))
+axes-fit e n w k p =
+    let q : w % 256 ≡ w = mod-eq-of-lt (axes-small (e .axes) n w p) in
+    rw q (allowed-known e w k (pick-two (eqb n 1) (axesAllowed (e .axes) w) 51 (λ q. omega arith) p))
 
 byte-small : (n w v : ℕ) → outputFault n w v ≡ 48 → v < 256
 unfolding outputFault inByte
@@ -153,10 +144,7 @@ byte-small n w v p =
 
 named-small : (axes n : ℕ) (l : List ℕ) → faultOf axes 110 n l ≡ 48 → getD l 0 0 < 256
 unfolding axesRight
-named-small axes n l p =
-    let w = getD l 0 0 in
-    let g = and-left (within (pos 1) (pos 7) (signed w)) (within (pos 1) (pos axes) (signed w)) (fault-none axes 110 n l p .axes-so) in
-    omega (arith, leb-true w 7 (and-right (leb 1 w) (leb w 7) (sym (within-up 1 7 w (omega arith)) ∙ g)))
+named-small axes n l p = named-below axes (getD l 0 0) (fault-none axes 110 n l p .axes-so)
 
 -- ---- the effect of each letter
 
@@ -217,7 +205,7 @@ module _ (axes n : ℕ) (l ports : List ℕ) (b : Board) (m : Memory) where
   unfolding startedBy beginOf circleBegun
   effect-so letter.Wrong p = refl
   effect-so letter.Axes p =
-      let q : getD l 0 0 % 256 ≡ getD l 0 0 = mod-eq-of-lt (axes-small n (getD l 0 0) p) in
+      let q : getD l 0 0 % 256 ≡ getD l 0 0 = mod-eq-of-lt (axes-small axes n (getD l 0 0) p) in
       ap (λ (w : ℕ). said (board (axesOf w (b .engine)) (b .standing) noLine) (48 ∷ []) m) (sym q)
   effect-so letter.Relative p = let q = asked (b .engine .axes) (b .engine .three) (b .engine .at) (b .engine .origin) false l in begin-so (planOf q) b m (plan-replies q)
   effect-so letter.Absolute p = let q = asked (b .engine .axes) (b .engine .three) (b .engine .at) (b .engine .origin) true l in begin-so (planOf q) b m (plan-replies q)

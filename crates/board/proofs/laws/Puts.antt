@@ -1,14 +1,19 @@
 -- The replies of P, b and the end line as the code writes them, part after part, are the texts at the front of the buffer. Assumes nothing.
 use Prim.Native.Nat.{ℕ, suc, _+_, _-_, _≤_}
 use mathlib.Core.Path.{_≡_, refl, sym, ap, _∙_}
-use mathlib.Core.List.{List, [], _∷_, _++_, append-assoc}
+use mathlib.Core.Bool.{Bool}
+use mathlib.Core.List.{List, [], _∷_, _++_, append-assoc, append-nil}
 use native.Mathlib.Omega.{arith}
-use borrow.Author.Tests.{le-ltb}
+use borrow.Author.Tests.{le-ltb, eq-eqb, ne-eqb}
+use lib.Dec.{eqb}
 use borrow.Rule.Slice.PartMut.{putMid}
 use lib.ListN.{length, take, drop, set, length-set, length-append, length-drop}
 use lib.Seq.{take-at, drop-at, drop-drop, set-split, length-take-le}
 use Rattle.count.proofs.laws.Lists.{rest, to-end, set-front, drop-one}
 use Rattle.count.specs.Text.{Written, written, wrote, report, twoHex, hexes, fourDigits, decimals}
+use Rattle.count.specs.Axes.{shownAxes, endToEnd}
+use Rattle.motion.specs.declared.Counters.{Counters}
+use Rattle.motion.specs.Axes.{on}
 use Rattle.board.specs.work.Work.{putOf}
 
 -- ---- a text where there is room for it
@@ -72,7 +77,7 @@ fault-put s ys l p n h e =
     let q : set (set (putMid 2 (length s - 2) s ys) 0 71) 1 l ≡ (71 ∷ l ∷ fourDigits p) ++ drop 6 s = set-two s ys 71 l (omega arith) ∙ rw (t, drop-drop 4 2 s) in
     put-as (71 ∷ l ∷ fourDigits p) s 6 (ap (λ (k : ℕ). suc (suc k)) f) q
 
--- ---- 0 and the three positions
+-- ---- 0 and the positions
 
 pub report-put : (s ys : List ℕ) (at c n : ℕ) → at + 6 ≤ length s → written n ys ≡ wrote 6 (report c) (take (length s - at) (drop at s))
     → putMid at (length s - at) s ys ≡ take at s ++ report c ++ drop (at + 6) s
@@ -130,3 +135,37 @@ module _ (s t u v : List ℕ) (x y z : ℕ) (h : 32 ≤ length s) (e : t ≡ tak
     kept-three g =
         let l : length u ≡ length s = kept-two in
         kept-long u v (report z) 13 (omega arith) (length-report z) g ∙ l
+
+-- ---- the positions by the axis
+
+positions-three : (x y z : List ℕ) → x ++ y ++ z ≡ x ++ (y ++ (z ++ []))
+positions-three x y z = append-assoc x y z ∙ ap (λ (l : List ℕ). x ++ (y ++ l)) (sym (append-nil z))
+
+positions-four : (x y z a : List ℕ) → x ++ y ++ z ++ a ≡ x ++ (y ++ (z ++ (a ++ [])))
+positions-four x y z a =
+    append-assoc (x ++ y) z a ∙ append-assoc x y (z ++ a) ∙ ap (λ (l : List ℕ). x ++ (y ++ (z ++ l))) (sym (append-nil a))
+
+-- three, where not four axes are set
+pub shown-three : (s t : List ℕ) (at : Counters) (axes n : ℕ) → (axes ≡ 15 → ⊥) → written n t ≡ putOf (48 ∷ report (at .x) ++ report (at .y) ++ report (at .z)) s
+    → written n t ≡ putOf (48 ∷ endToEnd (λ i. report (on i at)) (shownAxes (eqb axes 15))) s
+shown-three s t at axes n h e =
+    e ∙ ap (λ (l : List ℕ). putOf (48 ∷ l) s) (positions-three (report (at .x)) (report (at .y)) (report (at .z)))
+    ∙ ap (λ (b : Bool). putOf (48 ∷ endToEnd (λ i. report (on i at)) (shownAxes b)) s) (sym (ne-eqb axes 15 h))
+
+-- four, behind the three
+pub shown-four : (s t u : List ℕ) (at : Counters) (axes n : ℕ) → axes ≡ 15 → written n t ≡ putOf (48 ∷ report (at .x) ++ report (at .y) ++ report (at .z)) s
+    → u ≡ take 19 t ++ report (at .a) ++ drop 25 t → written 25 u ≡ putOf (48 ∷ endToEnd (λ i. report (on i at)) (shownAxes (eqb axes 15))) s
+shown-four s t u at axes n h e f =
+    let x = report (at .x) in
+    let y = report (at .y) in
+    let z = report (at .z) in
+    let lx = length-report (at .x) in
+    let ly = length-report (at .y) in
+    let lz = length-report (at .z) in
+    let la = length-report (at .a) in
+    let l : length (48 ∷ x ++ y ++ z) ≡ 19 = simp length-append (omega arith) in
+    let p : t ≡ (48 ∷ x ++ y ++ z) ++ drop 19 s = ap (λ (w : Written). w .text) e ∙ ap (λ (k : ℕ). (48 ∷ x ++ y ++ z) ++ drop k s) l in
+    let q : u ≡ ((48 ∷ x ++ y ++ z) ++ report (at .a)) ++ drop 25 s = more-put (48 ∷ x ++ y ++ z) s t u (report (at .a)) 19 l p f in
+    let m : length (48 ∷ x ++ y ++ z ++ report (at .a)) ≡ 25 = simp length-append (omega arith) in
+    put-as (48 ∷ x ++ y ++ z ++ report (at .a)) s 25 m q ∙ ap (λ (k : List ℕ). putOf (48 ∷ k) s) (positions-four x y z (report (at .a)))
+    ∙ ap (λ (b : Bool). putOf (48 ∷ endToEnd (λ i. report (on i at)) (shownAxes b)) s) (sym (eq-eqb axes 15 h))

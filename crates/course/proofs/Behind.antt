@@ -1,12 +1,17 @@
 -- One text behind another in a part, and a byte before a text. Assumes nothing.
 use Prim.Native.Nat.{ℕ, suc, _+_, _-_, _≤_}
-use mathlib.Core.Path.{_≡_, refl, ap, sym, _∙_}
-use mathlib.Core.List.{List, [], _∷_, _++_, append-assoc}
+use mathlib.Core.Path.{_≡_, refl, ap, sym, subst, _∙_}
+use mathlib.Core.Bool.{Bool, true, false}
+use mathlib.Core.List.{List, [], _∷_, _++_, append-assoc, append-nil}
 use native.Mathlib.Numerals.{add-one}
 use native.Mathlib.Omega.{arith}
 use borrow.Rule.Slice.PartMut.{putMid}
 use lib.ListN.{length, take, drop, set, length-append}
 use lib.Seq.{take-at, drop-at, drop-drop}
+use Rattle.count.specs.Pick.{pick}
+use Rattle.count.specs.declared.Axis.{Axis}
+use Rattle.count.specs.declared.Axis.the-variants.{X, Y, Z, A}
+use Rattle.count.specs.Axes.{shownAxes, endToEnd}
 use Rattle.count.specs.Text.{Written, written, wrote}
 use Rattle.count.proofs.laws.Digits.{wrote-long}
 use Rattle.count.proofs.laws.Lists.{rest, to-end, set-front, drop-one}
@@ -39,3 +44,15 @@ byte-before s b {t} {l} {k} h q =
     dropped : (s : List ℕ) → length (drop 1 s) ≡ length s - 1
     dropped [] = refl
     dropped (x ∷ s) = omega arith
+
+-- ---- the end line: a byte, a field for each axis, and the last where A is set
+
+fields : (f : Axis → List ℕ) (turns : Bool) → (69 ∷ []) ++ f X ++ f Y ++ f Z ++ pick turns (f A) [] ≡ 69 ∷ endToEnd f (shownAxes turns)
+fields f true =
+    ap (λ (l : List ℕ). 69 ∷ l)
+    (append-assoc (f X ++ f Y) (f Z) (f A) ∙ append-assoc (f X) (f Y) (f Z ++ f A) ∙ ap (λ (l : List ℕ). f X ++ (f Y ++ (f Z ++ l))) (sym (append-nil (f A))))
+fields f false = ap (λ (l : List ℕ). 69 ∷ l) (append-assoc (f X ++ f Y) (f Z) [] ∙ append-assoc (f X) (f Y) (f Z ++ []))
+
+pub end-wrote : (f : Axis → List ℕ) (turns : Bool) {s o : List ℕ} {k : ℕ} → Wrote ((69 ∷ []) ++ f X ++ f Y ++ f Z ++ pick turns (f A) [] ++ (10 ∷ [])) s k o
+    → Wrote ((69 ∷ endToEnd f (shownAxes turns)) ++ (10 ∷ [])) s k o
+end-wrote f turns {s} {o} {k} w = subst (λ (t : List ℕ). Wrote (t ++ (10 ∷ [])) s k o) (fields f turns) w

@@ -200,10 +200,10 @@ module _ (byte : ℕ) (w : Walk) (mem : Memory) (out : List ℕ) where
         → Wrote t out n out2
     framed-here f = framed out (s .reply) two its-out its-length f
 
-    pub reply-fits : r .len ≤ 19
+    pub reply-fits : r .len ≤ 25
     reply-fits = let p = ready-parts w mem out e in omega (arith, its-length, reply-short byte noPorts (w .board) mem (p .2))
 
-    pub line-fits : {n : ℕ} {out2 : List ℕ} → Wrote t out n out2 → n ≤ 22
+    pub line-fits : {n : ℕ} {out2 : List ℕ} → Wrote t out n out2 → n ≤ 28
     line-fits v = let p = ready-parts w mem out e in omega (arith, v .long, reply-long (s .reply), reply-short byte noPorts (w .board) mem (p .2))
 
     pub run-fits : {n : ℕ} {out2 last : List ℕ} {m : Ran} → Wrote t out n out2

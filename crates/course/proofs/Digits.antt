@@ -41,7 +41,7 @@ digits5 v l g =
     let k : v / 10 / 1000 ≡ v / 10000 = omega arith in
     digits-large v (omega arith) (omega arith) ∙ rw (digits4 (v / 10) (omega arith) (omega arith) (omega arith), e, f, k)
 
--- ---- a text behind six bytes
+-- ---- a text behind six bytes, and behind seven
 
 drop-six : (n : ℕ) (s : List ℕ) → drop n (drop 6 s) ≡ drop (suc (suc (suc (suc (suc (suc n)))))) s
 drop-six n s =
@@ -54,3 +54,15 @@ behind-six s a b x y z e t {o} {l} {k} p w =
     let q : l ≡ t ++ drop (length t) (drop 6 s) = w .text ∙ rw (rest, p) in
     let n : 6 + k ≡ suc (suc (suc (suc (suc (suc (length t)))))) = omega (arith, w .long) in
     record { long = n; text = to-end 6 o l ∙ rw (p, q, drop-six) }
+
+drop-seven : (n : ℕ) (s : List ℕ) → drop n (drop 7 s) ≡ drop (suc (suc (suc (suc (suc (suc (suc n))))))) s
+drop-seven n s =
+    let e : 7 + n ≡ suc (suc (suc (suc (suc (suc (suc n)))))) = omega arith in
+    drop-drop n 7 s ∙ ap (λ (j : ℕ). drop j s) e
+
+pub behind-seven : (s : List ℕ) (a b x y z f e : ℕ) (t : List ℕ) {o l : List ℕ} {k : ℕ} → o ≡ a ∷ b ∷ x ∷ y ∷ z ∷ f ∷ e ∷ drop 7 s
+    → Wrote t (take (length o - 7) (drop 7 o)) k l → Wrote (a ∷ b ∷ x ∷ y ∷ z ∷ f ∷ e ∷ t) s (7 + k) (putMid 7 (length o - 7) o l)
+behind-seven s a b x y z f e t {o} {l} {k} p w =
+    let q : l ≡ t ++ drop (length t) (drop 7 s) = w .text ∙ rw (rest, p) in
+    let n : 7 + k ≡ suc (suc (suc (suc (suc (suc (suc (length t))))))) = omega (arith, w .long) in
+    record { long = n; text = to-end 7 o l ∙ rw (p, q, drop-seven) }

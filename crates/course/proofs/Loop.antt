@@ -23,7 +23,7 @@ module _ {S : Type 0} (on : S → Bool) (next : S → S) (said : S → List ℕ)
   -- after n steps: the text stands in front, at most twelve bytes for each, and the rest of the way is still to go
   pub record Kept (limit : ℕ) (s₀ : S) (out₀ : List ℕ) (n : ℕ) (s : S) (out : List ℕ) (at : ℕ) : Type 0 where
     pub few : n ≤ limit
-    pub short : at ≤ 12 * n
+    pub short : at ≤ 13 * n
     pub room : at ≤ length out
     pub long : length out ≡ length out₀
     pub behind : drop at out ≡ drop at out₀
@@ -49,7 +49,7 @@ module _ {S : Type 0} (on : S → Bool) (next : S → S) (said : S → List ℕ)
       -- a part of the way, its text written behind what stands
       pub kept-part : (g : Way S) → Part (limit - n) s g → g .calls ≤ limit - n → (ys : List ℕ) (m : ℕ)
           → Wrote (g .text) (take (length out - at) (drop at out)) m ys
-          → length (g .text) ≤ 12 * g .calls → length (g .text) ≤ length out - at
+          → length (g .text) ≤ 13 * g .calls → length (g .text) ≤ length out - at
           → Kept limit s₀ out₀ (n + g .calls) (g .state) (putMid at (length out - at) out ys) (at + m)
       kept-part g j c ys m w few₁ fits =
           let t : List ℕ = g .text in

@@ -52,7 +52,7 @@ unfolding allowed
 few-by false y z limit b m out = omega arith
 few-by true false z limit b m out = omega arith
 few-by true true false limit b m out = omega arith
-few-by true true true limit b m out = omega (arith, course-few m (min limit (length out / 12)) b, min-le-left limit (length out / 12))
+few-by true true true limit b m out = omega (arith, course-few m (min limit (length out / 13)) b, min-le-left limit (length out / 13))
 
 pub run-few : (limit : ℕ) (b : Board) (m : Memory) (out : List ℕ) {r : Ran} {last : List ℕ} → didRun r last ≡ runOutcome limit b m out → r .calls ≤ limit
 unfolding runOutcome

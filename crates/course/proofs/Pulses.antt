@@ -1,7 +1,7 @@
 -- The loop over the pulses of a phase. Assumes nothing.
 use Prim.Native.Nat.{ℕ, _+_, _-_, _*_, _<_, _≤_}
 use mathlib.Core.Path.{_≡_, refl, ap, sym, subst, _∙_}
-use mathlib.Core.Bool.{true, false}
+use mathlib.Core.Bool.{Bool, true, false}
 use mathlib.Core.List.{List, [], _∷_}
 use native.Mathlib.Omega.{arith}
 use borrow.Rule.Slice.PartMut.{putMid}
@@ -40,16 +40,17 @@ digits-five v h =
     rw (sym (decimal-more 8 v (omega arith)), sym (decimal-more 7 v (omega arith)), sym (decimal-more 6 v (omega arith)), sym (decimal-more 5 v (omega arith)), sym (decimal-more 4 v (omega arith)))
     (decimal-long 5 v)
 
-pub pulse-short : (s : Signs) (v : ℕ) → v ≤ 65535 → length (pulseText s v) ≤ 12
+pub pulse-short : (turns : Bool) (s : Signs) (v : ℕ) → v ≤ 65535 → length (pulseText turns s v) ≤ 13
 unfolding pulseText
-pulse-short s v h = let l = length-append (digits v) (10 ∷ []) in omega (arith, digits-five v h)
+pulse-short true s v h = let l = length-append (digits v) (10 ∷ []) in omega (arith, digits-five v h)
+pulse-short false s v h = let l = length-append (digits v) (10 ∷ []) in omega (arith, digits-five v h)
 
 -- the rest of the buffer from a place has its length
 pub behind-long : (at : ℕ) (out : List ℕ) → length (take (length out - at) (drop at out)) ≡ length out - at
 behind-long at out = rw (rest, length-drop)
 
-abbrev pub GKept : ℕ → Travel → Counters → List ℕ → ℕ → Travel → Counters → List ℕ → ℕ → Type 0
-GKept limit m₀ at₀ out₀ n m at out k = Kept glides glideOn glideSaid limit (here m₀ at₀) out₀ n (here m at) out k
+abbrev pub GKept : Bool → ℕ → Travel → Counters → List ℕ → ℕ → Travel → Counters → List ℕ → ℕ → Type 0
+GKept turns limit m₀ at₀ out₀ n m at out k = Kept glides glideOn (glideSaid turns) limit (here m₀ at₀) out₀ n (here m at) out k
 
 -- ---- a pulse of either kind is one of what moves
 
@@ -74,40 +75,40 @@ module _ (m : Travel) (at : Counters) where
   unfolding glides
   made e = rw e
 
-  part : (k : ℕ) (s : Stepped) → withinOf m at ≡ Made s → 0 < k
-      → Part glides glideOn glideSaid k (here m at) (record { state = here (s .rest) (s .at); calls = 1; text = pulseText (s .signs) (s .speed) })
-  part k s e h = rw e at (one-part glides glideOn glideSaid k (here m at) h (made e))
+  part : (turns : Bool) (k : ℕ) (s : Stepped) → withinOf m at ≡ Made s → 0 < k
+      → Part glides glideOn (glideSaid turns) k (here m at) (record { state = here (s .rest) (s .at); calls = 1; text = pulseText turns (s .signs) (s .speed) })
+  part turns k s e h = rw e at (one-part glides glideOn (glideSaid turns) k (here m at) h (made e))
 
-same-kept : {limit n k : ℕ} {m₀ r t : Travel} {at₀ at : Counters} {out₀ out : List ℕ} → r ≡ t → GKept limit m₀ at₀ out₀ n r at out k → GKept limit m₀ at₀ out₀ n t at out k
-same-kept e g = rw e at g
+same-kept : (turns : Bool) {limit n k : ℕ} {m₀ r t : Travel} {at₀ at : Counters} {out₀ out : List ℕ} → r ≡ t → GKept turns limit m₀ at₀ out₀ n r at out k → GKept turns limit m₀ at₀ out₀ n t at out k
+same-kept turns e g = rw e at g
 
-module _ (limit : ℕ) (m₀ : Travel) (at₀ : Counters) (out₀ : List ℕ) (n : ℕ) (m : Travel) (at : Counters) (out : List ℕ) (k : ℕ) (i : GKept limit m₀ at₀ out₀ n m at out k) where
-  pub last : way glides glideOn glideSaid (limit - n) (here m at) ≡ stays (here m at)
-      → _≡_ {A = Left Gone} (record { state = here m at; calls = n; len = k; out = out }) (gliding limit m₀ at₀ out₀)
-  last p = kept-last glides glideOn glideSaid limit (here m₀ at₀) out₀ n (here m at) out k i p
+module _ (turns : Bool) (limit : ℕ) (m₀ : Travel) (at₀ : Counters) (out₀ : List ℕ) (n : ℕ) (m : Travel) (at : Counters) (out : List ℕ) (k : ℕ) (i : GKept turns limit m₀ at₀ out₀ n m at out k) where
+  pub last : way glides glideOn (glideSaid turns) (limit - n) (here m at) ≡ stays (here m at)
+      → _≡_ {A = Left Gone} (record { state = here m at; calls = n; len = k; out = out }) (gliding turns limit m₀ at₀ out₀)
+  last p = kept-last glides glideOn (glideSaid turns) limit (here m₀ at₀) out₀ n (here m at) out k i p
 
   -- there is room for another line
-  pub room : n < limit → 12 * limit ≤ length out₀ → 12 ≤ length out - k
+  pub room : n < limit → 13 * limit ≤ length out₀ → 13 ≤ length out - k
   room h l = omega (arith, i .short, i .long)
 
-  turned : (s : Stepped) (ys : List ℕ) (j : ℕ) → withinOf m at ≡ Made s → n < limit → 12 * limit ≤ length out₀ → s .speed ≤ 65535
-      → Wrote (pulseText (s .signs) (s .speed)) (take (length out - k) (drop k out)) j ys
-      → GKept limit m₀ at₀ out₀ (n + 1) (s .rest) (s .at) (putMid k (length out - k) out ys) (k + j)
+  turned : (s : Stepped) (ys : List ℕ) (j : ℕ) → withinOf m at ≡ Made s → n < limit → 13 * limit ≤ length out₀ → s .speed ≤ 65535
+      → Wrote (pulseText turns (s .signs) (s .speed)) (take (length out - k) (drop k out)) j ys
+      → GKept turns limit m₀ at₀ out₀ (n + 1) (s .rest) (s .at) (putMid k (length out - k) out ys) (k + j)
   turned s ys j e h l v w =
       let r = room h l in
-      let t = pulse-short (s .signs) (s .speed) v in
-      kept-part glides glideOn glideSaid limit (here m₀ at₀) out₀ n (here m at) out k i
-      (record { state = here (s .rest) (s .at); calls = 1; text = pulseText (s .signs) (s .speed) })
-      (part m at (limit - n) s e (omega arith)) (omega arith) ys j w (omega arith) (omega arith)
+      let t = pulse-short turns (s .signs) (s .speed) v in
+      kept-part glides glideOn (glideSaid turns) limit (here m₀ at₀) out₀ n (here m at) out k i
+      (record { state = here (s .rest) (s .at); calls = 1; text = pulseText turns (s .signs) (s .speed) })
+      (part m at turns (limit - n) s e (omega arith)) (omega arith) ys j w (omega arith) (omega arith)
 
-  pub turn : {x : Beaten} (b : Beat) (ys : List ℕ) (j : ℕ) → x ≡ beaten (withinOf m at) → x ≡ beat.Made b → n < limit → 12 * limit ≤ length out₀ → b .speed ≤ 65535
-      → Wrote (pulseText (b .signs) (b .speed)) (take (length out - k) (drop k out)) j ys
-      → GKept limit m₀ at₀ out₀ (n + 1) (withMade m (b .mark .made)) (b .at) (putMid k (length out - k) out ys) (k + j)
+  pub turn : {x : Beaten} (b : Beat) (ys : List ℕ) (j : ℕ) → x ≡ beaten (withinOf m at) → x ≡ beat.Made b → n < limit → 13 * limit ≤ length out₀ → b .speed ≤ 65535
+      → Wrote (pulseText turns (b .signs) (b .speed)) (take (length out - k) (drop k out)) j ys
+      → GKept turns limit m₀ at₀ out₀ (n + 1) (withMade m (b .mark .made)) (b .at) (putMid k (length out - k) out ys) (k + j)
   turn b ys j e p h l =
       let g = hit (withinOf m at) b e p in
       let s = g .step in
-      let t : s .speed ≤ 65535 → Wrote (pulseText (s .signs) (s .speed)) (take (length out - k) (drop k out)) j ys
-      → GKept limit m₀ at₀ out₀ (n + 1) (withMade m (markOf (s .rest) .made)) (s .at) (putMid k (length out - k) out ys) (k + j)
-      = λ v w. same-kept (within-rest m at (g .is) ∙ ap (withMade m) (sym (made-marked (s .rest)))) (turned s ys j (g .is) h l v w) in
-      subst (λ (c : Beat). c .speed ≤ 65535 → Wrote (pulseText (c .signs) (c .speed)) (take (length out - k) (drop k out)) j ys
-      → GKept limit m₀ at₀ out₀ (n + 1) (withMade m (c .mark .made)) (c .at) (putMid k (length out - k) out ys) (k + j)) (sym (g .same)) t
+      let t : s .speed ≤ 65535 → Wrote (pulseText turns (s .signs) (s .speed)) (take (length out - k) (drop k out)) j ys
+      → GKept turns limit m₀ at₀ out₀ (n + 1) (withMade m (markOf (s .rest) .made)) (s .at) (putMid k (length out - k) out ys) (k + j)
+      = λ v w. same-kept turns (within-rest m at (g .is) ∙ ap (withMade m) (sym (made-marked (s .rest)))) (turned s ys j (g .is) h l v w) in
+      subst (λ (c : Beat). c .speed ≤ 65535 → Wrote (pulseText turns (c .signs) (c .speed)) (take (length out - k) (drop k out)) j ys
+      → GKept turns limit m₀ at₀ out₀ (n + 1) (withMade m (c .mark .made)) (c .at) (putMid k (length out - k) out ys) (k + j)) (sym (g .same)) t

@@ -21,7 +21,7 @@ use Rattle.engine.specs.work.Glide.{glidedBy, glided}
 use Rattle.engine.specs.Tick.{ticked, runsOf}
 use Rattle.course.specs.declared.Went.{Went}
 use Rattle.course.specs.declared.Glided.{Glided}
-use Rattle.course.specs.Text.{answerText}
+use Rattle.course.specs.Text.{turning, answerText}
 use Rattle.course.specs.work.Work.{Wrote}
 use Rattle.course.specs.work.Machine.{Way, stays, Left, leftBy}
 use Rattle.course.specs.work.Glide as G
@@ -36,22 +36,22 @@ RKept mem limit e₀ out₀ n e out at = Kept runsOf (tickNext mem) (tickSaid me
 abbrev pub from : ℕ → List ℕ → List ℕ
 from at out = take (length out - at) (drop at out)
 
-module _ (mem : Memory) (limit : ℕ) (e₀ : Engine) (out₀ : List ℕ) (l : 12 * limit ≤ length out₀) where
+module _ (mem : Memory) (limit : ℕ) (e₀ : Engine) (out₀ : List ℕ) (l : 13 * limit ≤ length out₀) where
   -- a clock call
   pub turned : (n : ℕ) (e : Engine) (out : List ℕ) (at : ℕ) → RKept mem limit e₀ out₀ n e out at
       → (t : Told) (ys : List ℕ) (m : ℕ) → t ≡ ticked nextOf (fetchOf (e .held) mem) e → n < limit → runsOf e ≡ true
-      → Wrote (answerText (t .answer)) (from at out) m ys → m ≤ 12
+      → Wrote (answerText (turning e) (t .answer)) (from at out) m ys → m ≤ 13
       → RKept mem limit e₀ out₀ (n + 1) (t .engine) (putMid at (length out - at) out ys) (at + m)
   turned n e out at k t ys m p h g w f =
-      let j : Part runsOf (tickNext mem) (tickSaid mem) (limit - n) e (record { state = t .engine; calls = 1; text = answerText (t .answer) }) =
+      let j : Part runsOf (tickNext mem) (tickSaid mem) (limit - n) e (record { state = t .engine; calls = 1; text = answerText (turning e) (t .answer) }) =
       rw p (one-part runsOf (tickNext mem) (tickSaid mem) (limit - n) e (omega arith) g) in
       kept-part runsOf (tickNext mem) (tickSaid mem) limit e₀ out₀ n e out at k
-      (record { state = t .engine; calls = 1; text = answerText (t .answer) }) j (omega arith) ys m w
+      (record { state = t .engine; calls = 1; text = answerText (turning e) (t .answer) }) j (omega arith) ys m w
       (omega (arith, w .long)) (omega (arith, w .long, k .short, k .long))
 
   -- the pulses behind it
   pub gone : (n : ℕ) (e : Engine) (out : List ℕ) (at : ℕ) → RKept mem limit e₀ out₀ n e out at
-      → (w : Went) (ys : List ℕ) → wentOf w ys ≡ leftBy (glideJob (e .run .job) (limit - n) e) (from at out) → w .len ≤ 12 * w .calls
+      → (w : Went) (ys : List ℕ) → wentOf w ys ≡ leftBy (glideJob (e .run .job) (limit - n) e) (from at out) → w .len ≤ 13 * w .calls
       → RKept mem limit e₀ out₀ (n + w .calls) (w .engine) (putMid at (length out - at) out ys) (at + w .len)
   gone n e out at k w ys q f =
       let g : Way Engine = glideJob (e .run .job) (limit - n) e in
@@ -60,7 +60,7 @@ module _ (mem : Memory) (limit : ℕ) (e₀ : Engine) (out₀ : List ℕ) (l : 1
       let el : w .len ≡ length (g .text) = ap (λ (x : Left Engine). x .len) q in
       let eo : ys ≡ g .text ++ drop (length (g .text)) (from at out) = ap (λ (x : Left Engine). x .out) q in
       let c : g .calls ≤ limit - n = glide-few (e .run .job) (limit - n) e in
-      let s : length (g .text) ≤ 12 * g .calls = omega (arith, f, ec, el) in
+      let s : length (g .text) ≤ 13 * g .calls = omega (arith, f, ec, el) in
       rw (es, ec)
       (kept-part runsOf (tickNext mem) (tickSaid mem) limit e₀ out₀ n e out at k g (glide-joins mem (limit - n) e (e .run .job) refl) c ys (w .len)
       (record { long = el; text = eo }) s (omega (arith, s, c, k .short, k .long, k .few)))
@@ -79,14 +79,14 @@ module _ (e : Engine) (limit : ℕ) (out : List ℕ) where
   none-by (job.Wait c t) h = refl
 
   pub stays-left : {u : Under} {w : Went} → u ≡ underOf (e .run .job) → u ≡ under.Nothing → w ≡ record { engine = e; calls = 0; len = 0 }
-      → (wentOf w out ≡ leftBy (glideJob (e .run .job) limit e) out) × (w .len ≤ 12 * w .calls)
+      → (wentOf w out ≡ leftBy (glideJob (e .run .job) limit e) out) × (w .len ≤ 13 * w .calls)
   stays-left p h q =
       (ap (λ (x : Went). wentOf x out) q ∙ sym (ap (λ (x : Way Engine). leftBy x out) (none-by (e .run .job) (sym p ∙ h))), rw q (omega arith))
 
   abbrev mapLeft : (Gone → Engine) → Left Gone → Left Engine
   mapLeft f x = record { state = f (x .state); calls = x .calls; len = x .len; out = x .out }
 
-  module _ {m : Travel} {g : Glided} {d : Engine} {last : List ℕ} (q : G.glided g last ≡ G.gliding limit m (e .at) out) where
+  module _ {m : Travel} {g : Glided} {d : Engine} {last : List ℕ} (q : G.glided g last ≡ G.gliding (turning e) limit m (e .at) out) where
     direct-left : e .run .job ≡ job.Direct m → d ≡ glided (g .at) (g .rest) e
         → _≡_ {A = Left Engine} (record { state = d; calls = g .calls; len = g .len; out = last }) (leftBy (glideJob (e .run .job) limit e) out)
     unfolding glideJob glided

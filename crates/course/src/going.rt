@@ -4,6 +4,7 @@ ghost use Prim.Native.Nat.{_≤_, _*_};
 ghost use lib.ListN.{length};
 ghost use Rattle.record.specs.Memory.{memory};
 ghost use Rattle.course.specs.work.Machine.{leftBy};
+ghost use Rattle.course.specs.Text.{turning};
 ghost use Rattle.course.specs.work.Going.{wentOf, glideJob, goWay};
 use super::Went;
 use super::glide::glide;
@@ -22,6 +23,13 @@ fn stay(engine: Engine) -> Went
     }
 }
 
+// Whether A is set, so that its sign and its position are printed.
+pub(crate) fn is_turning(e: Engine) -> bool
+    ensures { λ r. ⌜ r ≡ turning e ⌝ }
+{
+    count::has(e.axes as u32, Axis::A)
+}
+
 // The pulses of what is under way, if it is a movement.
 fn glide_on(e: Engine, limit: u32, out: &mut [u8]) -> Went
     requires { ⌜ 13 * limit ≤ length (now out) ⌝ }
@@ -31,7 +39,7 @@ fn glide_on(e: Engine, limit: u32, out: &mut [u8]) -> Went
     let Under::Going(m) = under else {
         return stay(e);
     };
-    let turns = count::has(e.axes as u32, Axis::A);
+    let turns = is_turning(e);
     let g = glide(m, e.at, turns, limit, out);
     let rest = g.rest;
     let there = g.at;
@@ -58,7 +66,7 @@ pub(crate) fn go(start: Engine, store: &[u8], table: &[u16], limit: u32, out: &m
                 len: at,
             };
         }
-        let turns = count::has(e.axes as u32, Axis::A);
+        let turns = is_turning(e);
         let t = e.tick(store, table);
         let answer = t.answer;
         let next = t.engine;

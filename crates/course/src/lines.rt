@@ -6,7 +6,7 @@ ghost use lib.ListN.{length, take, drop};
 ghost use Rattle.count.specs.Numbers.{value};
 ghost use Rattle.count.specs.Text.{shown};
 ghost use Rattle.course.specs.Text.{headText, limitText, positionsText, replyText};
-ghost use Rattle.course.specs.work.Work.{Wrote};
+ghost use Rattle.course.specs.work.Work.{Wrote, lastField};
 use motion::Counters;
 
 // One byte.

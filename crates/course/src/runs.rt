@@ -16,7 +16,7 @@ pub(crate) fn runs_now(board: Board) -> bool
     engine.runs() & !board.standing
 }
 
-// The clock calls that a limit and a buffer of this length allow: twelve bytes for each.
+// The clock calls that a limit and a buffer of this length allow: thirteen bytes for each.
 fn allowed_by(limit: u32, len: usize) -> u32
     ensures { λ r. ⌜ r ≡ min limit (len / 13) ⌝ }
 {

@@ -67,7 +67,7 @@ fn put_speed(out: &mut [u8], v: u16) -> usize
     2
 }
 
-// `P`, the signs and a space: six bytes.
+// `P`, the signs of x, y and z and a space: six bytes.
 fn put_signs(out: &mut [u8], x: u8, y: u8, z: u8)
     requires { ⌜ 13 ≤ length (now out) ⌝ }
     ensures { λ r. ⌜ now (out .exit) ≡ 80 ∷ 32 ∷ x ∷ y ∷ z ∷ 32 ∷ drop 6 (now (out .entry)) ⌝ }
@@ -78,6 +78,20 @@ fn put_signs(out: &mut [u8], x: u8, y: u8, z: u8)
     out[3] = y;
     out[4] = z;
     out[5] = b' ';
+}
+
+// The same with that of A: seven bytes.
+fn put_all_signs(out: &mut [u8], x: u8, y: u8, z: u8, a: u8)
+    requires { ⌜ 13 ≤ length (now out) ⌝ }
+    ensures { λ r. ⌜ now (out .exit) ≡ 80 ∷ 32 ∷ x ∷ y ∷ z ∷ a ∷ 32 ∷ drop 7 (now (out .entry)) ⌝ }
+{
+    out[0] = b'P';
+    out[1] = b' ';
+    out[2] = x;
+    out[3] = y;
+    out[4] = z;
+    out[5] = a;
+    out[6] = b' ';
 }
 
 // `P`, the signs, of A too where it is set, and the speed: at most thirteen bytes.
@@ -91,14 +105,14 @@ pub(crate) fn put_pulse(out: &mut [u8], turns: bool, signs: Signs, speed: u16) -
     let x = sign_byte(sx);
     let y = sign_byte(sy);
     let z = sign_byte(sz);
-    put_signs(&mut *out, x, y, z);
     if turns {
         let sa = signs.a;
-        out[5] = sign_byte(sa);
-        out[6] = b' ';
-        let k = put_speed(&mut out[7..], speed);
-        return 7 + k;
+        let a = sign_byte(sa);
+        put_all_signs(&mut *out, x, y, z, a);
+        let j = put_speed(&mut out[7..], speed);
+        return 7 + j;
     }
+    put_signs(&mut *out, x, y, z);
     let k = put_speed(&mut out[6..], speed);
     6 + k
 }

@@ -13,6 +13,7 @@ ghost use Rattle.course.specs.work.Feed.{fedOf};
 use super::Fed;
 use super::Portion;
 use super::Walk;
+use super::going::is_turning;
 use super::lines::put_end;
 use super::lines::put_head;
 use super::lines::put_limit;
@@ -20,7 +21,6 @@ use super::lines::put_reply;
 use super::runs::run;
 use super::runs::runs_now;
 use board::Board;
-use count::Axis;
 
 // The clock calls for each byte.
 const MOST: u32 = 100000;
@@ -181,7 +181,7 @@ impl Walk {
         let board = self.board;
         let engine = board.engine;
         let at = engine.at;
-        let turns = count::has(engine.axes as u32, Axis::A);
+        let turns = is_turning(engine);
         if self.over {
             return put_end(out, turns, at);
         }

@@ -23,7 +23,7 @@ use Rattle.board.specs.declared.Ticked.{Ticked}
 use Rattle.board.specs.State.{board, sound}
 use Rattle.board.specs.Calls.{clocked, wentOn, clocking}
 use Rattle.board.proofs.laws.Hears.{sound-engine}
-use Rattle.course.specs.Text.{answerText}
+use Rattle.course.specs.Text.{turning, answerText}
 use Rattle.course.specs.Run.{runsNow, Course, noCalls, then, course}
 use Rattle.course.proofs.laws.Portions.{course-on, course-off, course-none}
 use Rattle.course.proofs.laws.Machine.{way-on, way-off, way-none}
@@ -69,7 +69,7 @@ module _ (m : Memory) (l : RightMemory m) where
   go-by k b true r s n h =
       let c = clock-is b s n in
       course-on m k b (runs-same b n ∙ r)
-      ∙ ap (λ (t : Ticked). then (answerText (t .answer)) (course k m (t .board))) c
+      ∙ ap (λ (t : Ticked). then (answerText (turning (b .engine)) (t .answer)) (course k m (t .board))) c
       ∙ ap (λ (d : Course). then (tickSaid m (b .engine)) d) h
       ∙ sym (ap (λ (w : Way Engine). onBoard b w) (way-on runsOf (tickNext m) (tickSaid m) k (b .engine) r))
   go-by k b false r s n h =

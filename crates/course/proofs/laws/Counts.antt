@@ -164,31 +164,31 @@ module _ (byte : ℕ) (w : Walk) (m : Memory) (out : List ℕ) (outs : List (Lis
       counted (course most (s .memory) (s .board)) (afterByte byte w m out outs)
       (q ∙ whole-by (s .memory) (s .board) v (along (s .memory) (s .board) outs u a) (v .over) refl f)
 
--- ---- and the portions come to an end: five lines fit into 64 bytes
+-- ---- and the portions come to an end: four lines fit into 64 bytes
 
-fifth : (n q r : ℕ) → q * 12 + r ≡ n → r < 12 → 64 ≤ n → 5 ≤ q
-fifth n q r p l h = omega arith
+fourth : (n q r : ℕ) → q * 13 + r ≡ n → r < 13 → 64 ≤ n → 4 ≤ q
+fourth n q r p l h = omega arith
 
-least : (limit room : ℕ) → 5 ≤ room → min 5 limit ≤ min limit room
+least : (limit room : ℕ) → 4 ≤ room → min 4 limit ≤ min limit room
 least limit room h = omega arith
 
-enough : (limit : ℕ) (out : List ℕ) → 64 ≤ length out → min 5 limit ≤ allowed limit out
+enough : (limit : ℕ) (out : List ℕ) → 64 ≤ length out → min 4 limit ≤ allowed limit out
 unfolding allowed
 enough limit out h =
-    let l : 0 < 12 = omega arith in
+    let l : 0 < 13 = omega arith in
     let n : ℕ = length out in
-    least limit (n / 12) (fifth n (n / 12) (n % 12) (div-add-mod' n 12) (mod-lt n l) h)
+    least limit (n / 13) (fourth n (n / 13) (n % 13) (div-add-mod' n 13) (mod-lt n l) h)
 
 grown : (a c j m n : ℕ) → n ≡ a + c → c ≡ j → m ≤ j → a + m ≤ n
 grown a c j m n p q r = omega arith
 
--- A PORTION of a run that is not over, with a buffer of 64 bytes or more, makes five calls or as many as are left, if it does not end the run
+-- A PORTION of a run that is not over, with a buffer of 64 bytes or more, makes four calls or as many as are left, if it does not end the run
 pub on-grows : (w : Walk) (m : Memory) (out : List ℕ) → ready w m out ≡ true → w .over ≡ false → onDone w m out .portion .walk .over ≡ false
-    → w .calls + min 5 (most - w .calls) ≤ onDone w m out .portion .walk .calls
+    → w .calls + min 4 (most - w .calls) ≤ onDone w m out .portion .walk .calls
 on-grows w m out h o v =
     let j : ℕ = allowed (most - w .calls) out in
     let c : Course = course j m (w .board) in
     let p = went-on w m out o h in
     let r : runsNow (c .board) ≡ true = not-not (runsNow (c .board)) (sym (ap (λ (d : Done). d .portion .walk .over) p) ∙ v) in
-    grown (w .calls) (c .calls) j (min 5 (most - w .calls)) (onDone w m out .portion .walk .calls)
+    grown (w .calls) (c .calls) j (min 4 (most - w .calls)) (onDone w m out .portion .walk .calls)
     (ap (λ (d : Done). d .portion .walk .calls) p) (course-full m j (w .board) r) (enough (most - w .calls) out (ready-parts w m out h .0))

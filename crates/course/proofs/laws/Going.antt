@@ -2,7 +2,7 @@
 -- clock calls that 01 speaks of. Assumes nothing.
 use Prim.Native.Nat.{ℕ, _-_, _≤_}
 use mathlib.Core.Path.{_≡_, refl, ap, sym, _∙_}
-use mathlib.Core.Bool.{true}
+use mathlib.Core.Bool.{Bool, true}
 use native.Mathlib.Omega.{arith}
 use Rattle.motion.specs.declared.Counters.{Counters}
 use Rattle.travel.specs.Next.{Next}
@@ -17,7 +17,7 @@ use Rattle.engine.specs.declared.Job.the-variants as job
 use Rattle.engine.specs.State.{withAt, withJob}
 use Rattle.engine.specs.Tick.{ticked, runsOf, directly, movingOn}
 use Rattle.engine.proofs.laws.Work.{next-moved}
-use Rattle.course.specs.Text.{answerText}
+use Rattle.course.specs.Text.{turning, answerText}
 use Rattle.course.proofs.laws.Machine.{few, inner, then-none}
 use Rattle.course.specs.work.Machine.{Way, stays, then}
 use Rattle.course.specs.work.Glide.{Gone, here, glides, glideOn, glideSaid, goneBy, saidBy}
@@ -25,34 +25,34 @@ use Rattle.course.specs.work.Going.{glideJob, goWay, inDirect, inMoving,
 
 -- ---- a pulse of what moves is a clock call of the engine that holds it
 
-abbrev Same : Memory → (Gone → Engine) → Gone → Type 0
-Same mem put t = (runsOf (put t) ≡ true) × (tickNext mem (put t) ≡ put (glideOn t)) × (tickSaid mem (put t) ≡ glideSaid t)
+abbrev Same : Memory → (Gone → Engine) → Bool → Gone → Type 0
+Same mem put turns t = (runsOf (put t) ≡ true) × (tickNext mem (put t) ≡ put (glideOn t)) × (tickSaid mem (put t) ≡ glideSaid turns t)
 
 module _ (mem : Memory) (e : Engine) (t : Gone) where
   direct-by : (x : Next) → nextOf (t .rest) (t .at) ≡ x → made x ≡ true
-      → (directly x (inDirect e t) .engine ≡ inDirect e (goneBy x t)) × (answerText (directly x (inDirect e t) .answer) ≡ saidBy x)
+      → (directly x (inDirect e t) .engine ≡ inDirect e (goneBy x t)) × (answerText (turning e) (directly x (inDirect e t) .answer) ≡ saidBy (turning e) x)
   direct-by (Made s) p q = (ap (λ (c : Counters). inDirect e (here (s .rest) c)) (sym (next-moved (t .rest) (t .at) s refl p)), refl)
   direct-by Over p q = let z : _≡_ {A = ℕ} 0 1 = cc in absurd (omega arith)
 
   moving-by : (x : Next) → nextOf (t .rest) (t .at) ≡ x → made x ≡ true
-      → (movingOn nextOf (fetchOf (e .held) mem) x (inMoving e t) .engine ≡ inMoving e (goneBy x t)) × (answerText (movingOn nextOf (fetchOf (e .held) mem) x (inMoving e t) .answer) ≡ saidBy x)
+      → (movingOn nextOf (fetchOf (e .held) mem) x (inMoving e t) .engine ≡ inMoving e (goneBy x t)) × (answerText (turning e) (movingOn nextOf (fetchOf (e .held) mem) x (inMoving e t) .answer) ≡ saidBy (turning e) x)
   moving-by (Made s) p q = (ap (λ (c : Counters). inMoving e (here (s .rest) c)) (sym (next-moved (t .rest) (t .at) s refl p)), refl)
   moving-by Over p q = let z : _≡_ {A = ℕ} 0 1 = cc in absurd (omega arith)
 
-  same-direct : glides t ≡ true → Same mem (inDirect e) t
+  same-direct : glides t ≡ true → Same mem (inDirect e) (turning e) t
   unfolding glides ticked runsOf
   same-direct p =
       let q = within-next (t .rest) (t .at) p in
       let d = direct-by (withinOf (t .rest) (t .at)) q p in
-      (refl, ap (λ (x : Next). directly x (inDirect e t) .engine) q ∙ d .0, ap (λ (x : Next). answerText (directly x (inDirect e t) .answer)) q ∙ d .1)
+      (refl, ap (λ (x : Next). directly x (inDirect e t) .engine) q ∙ d .0, ap (λ (x : Next). answerText (turning e) (directly x (inDirect e t) .answer)) q ∙ d .1)
 
-  same-moving : glides t ≡ true → Same mem (inMoving e) t
+  same-moving : glides t ≡ true → Same mem (inMoving e) (turning e) t
   unfolding glides ticked runsOf
   same-moving p =
       let q = within-next (t .rest) (t .at) p in
       let d = moving-by (withinOf (t .rest) (t .at)) q p in
       let f = fetchOf (e .held) mem in
-      (refl, ap (λ (x : Next). movingOn nextOf f x (inMoving e t) .engine) q ∙ d .0, ap (λ (x : Next). answerText (movingOn nextOf f x (inMoving e t) .answer)) q ∙ d .1)
+      (refl, ap (λ (x : Next). movingOn nextOf f x (inMoving e t) .engine) q ∙ d .0, ap (λ (x : Next). answerText (turning e) (movingOn nextOf f x (inMoving e t) .answer)) q ∙ d .1)
 
 -- ---- so the pulses are a part of the run
 
@@ -73,11 +73,11 @@ glide-joins mem k e job.Idle p = none-joins mem k e
 glide-joins mem k e job.Storing p = none-joins mem k e
 glide-joins mem k e (job.Direct m) p =
     ap (λ d. goWay mem k d) (sym (same-job e (job.Direct m) p))
-    ∙ inner runsOf (tickNext mem) (tickSaid mem) glides glideOn glideSaid (inDirect e) (λ t. same-direct mem e t) k (here m (e .at))
+    ∙ inner runsOf (tickNext mem) (tickSaid mem) glides glideOn (glideSaid (turning e)) (inDirect e) (λ t. same-direct mem e t) k (here m (e .at))
 glide-joins mem k e job.Ready p = none-joins mem k e
 glide-joins mem k e (job.Moving m) p =
     ap (λ d. goWay mem k d) (sym (same-job e (job.Moving m) p))
-    ∙ inner runsOf (tickNext mem) (tickSaid mem) glides glideOn glideSaid (inMoving e) (λ t. same-moving mem e t) k (here m (e .at))
+    ∙ inner runsOf (tickNext mem) (tickSaid mem) glides glideOn (glideSaid (turning e)) (inMoving e) (λ t. same-moving mem e t) k (here m (e .at))
 glide-joins mem k e (job.Delay q) p = none-joins mem k e
 glide-joins mem k e (job.Wait c t) p = none-joins mem k e
 
@@ -85,8 +85,8 @@ pub glide-few : (j : Job) (k : ℕ) (e : Engine) → glideJob j k e .calls ≤ k
 unfolding glideJob
 glide-few job.Idle k e = omega arith
 glide-few job.Storing k e = omega arith
-glide-few (job.Direct m) k e = few glides glideOn glideSaid k (here m (e .at))
+glide-few (job.Direct m) k e = few glides glideOn (glideSaid (turning e)) k (here m (e .at))
 glide-few job.Ready k e = omega arith
-glide-few (job.Moving m) k e = few glides glideOn glideSaid k (here m (e .at))
+glide-few (job.Moving m) k e = few glides glideOn (glideSaid (turning e)) k (here m (e .at))
 glide-few (job.Delay q) k e = omega arith
 glide-few (job.Wait c t) k e = omega arith

@@ -8,7 +8,7 @@ use native.Mathlib.Omega.{arith}
 use Rattle.record.specs.Memory.{Memory}
 use Rattle.board.specs.declared.Board.{Board}
 use Rattle.board.specs.Calls.{clocking}
-use Rattle.course.specs.Text.{answerText}
+use Rattle.course.specs.Text.{turning, answerText}
 use Rattle.course.specs.Run.{runsNow, Course, noCalls, then, course}
 
 -- one run and another that goes on from it
@@ -34,7 +34,7 @@ module _ (m : Memory) where
   course-off (suc k) b e = rw (e, course)
 
   pub course-on : (k : ℕ) (b : Board) → runsNow b ≡ true
-      → course (suc k) m b ≡ then (answerText (clocking b m .answer)) (course k m (clocking b m .board))
+      → course (suc k) m b ≡ then (answerText (turning (b .engine)) (clocking b m .answer)) (course k m (clocking b m .board))
   unfolding course
   course-on k b e = rw (e, course)
 
@@ -50,8 +50,8 @@ module _ (m : Memory) where
   plus-by j k b true e h =
       let on = course-on j b e in
       course-on (j + k) b e
-      ∙ ap (λ (c : Course). then (answerText (clocking b m .answer)) c) h
-      ∙ then-joins (answerText (clocking b m .answer)) (course j m (clocking b m .board)) (course k m (course j m (clocking b m .board) .board))
+      ∙ ap (λ (c : Course). then (answerText (turning (b .engine)) (clocking b m .answer)) c) h
+      ∙ then-joins (answerText (turning (b .engine)) (clocking b m .answer)) (course j m (clocking b m .board)) (course k m (course j m (clocking b m .board) .board))
       ∙ sym (ap (λ (c : Course). joins c (course k m (c .board))) on)
   plus-by j k b false e h =
       let off = course-off (suc j) b e in

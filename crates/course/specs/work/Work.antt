@@ -1,9 +1,13 @@
 -- What the private functions hand on. The definitions of 01 are in the other files and use nothing of this. Definitions only.
 use Prim.Native.Nat.{ℕ}
 use mathlib.Core.Path.{_≡_}
-use mathlib.Core.Bool.{not}
-use mathlib.Core.List.{List, _++_}
+use mathlib.Core.Bool.{Bool, not}
+use mathlib.Core.List.{List, [], _∷_, _++_}
 use lib.ListN.{length, drop}
+use Rattle.count.specs.Chars.{ch}
+use Rattle.count.specs.Pick.{pick}
+use Rattle.count.specs.Numbers.{value}
+use Rattle.count.specs.Text.{shown}
 use Rattle.board.specs.declared.Board.{Board}
 use Rattle.course.specs.declared.Ran.{Ran}
 use Rattle.course.specs.declared.Walk.{Walk}
@@ -23,3 +27,7 @@ stood n b = record { board = b; calls = 0; over = not (runsNow b); len = 0; refu
 -- nothing taken, nothing written
 abbrev pub same : Walk → Portion
 same w = record { walk = w; len = 0 }
+
+-- the last field of the end line: A's position, where it is set
+abbrev pub lastField : Bool → ℕ → List ℕ
+lastField turns c = pick turns (ch " " ∷ shown (value c)) []

@@ -12,6 +12,9 @@ returns : tie.Need-returns
 unfolding tailDone
 returns c = sym (wrote-short 64 _ _ (c .if1 .taken))
 
+is-turning-requires : tie.Need-is-turning-requires
+is-turning-requires c κs = search needs
+
 put-end-requires : tie.Need-put-end-requires
 put-end-requires c κs = search needs
 
@@ -19,7 +22,7 @@ same-length : tie.Need-same-length
 same-length c = search needs
 
 returns-2 : tie.Need-returns-2
-returns-2 c = tail-over (c .before .before .before .before .before .before .before .before .before .before .args .self) (c .before .before .before .before .before .before .before .before .before .before .args .out .now) (c .before .before .before .before .before .before .before .before .if1 .left) (c .before .before .before .before .if2 .taken) (c .before .before .put-end .ensures .0)
+returns-2 c = tail-over (c .before .before .before .before .before .before .before .before .before .before .before .args .self) (c .before .before .before .before .before .before .before .before .before .before .before .args .out .now) (c .before .before .before .before .before .before .before .before .before .if1 .left) (c .before .before .before .before .if2 .taken) (rw (c .before .before .before .before .before .is-turning .ensures) at (c .before .before .put-end .ensures .0))
 
 put-limit-requires : tie.Need-put-limit-requires
 put-limit-requires c κs = search needs
@@ -43,13 +46,14 @@ same-length-2 : tie.Need-same-length-2
 same-length-2 c = search needs
 
 returns-3 : tie.Need-returns-3
-returns-3 c = tail-on (c .before .before .before .before .before .before .before .before .before .before .before .before .before .before .args .self) (c .before .before .before .before .before .before .before .before .before .before .before .before .before .before .args .out .now) (c .before .before .before .before .before .before .before .before .before .before .before .before .if1 .left) (c .before .before .before .before .before .before .before .before .if2 .left) (wrote-then (c .before .before .before .before .before .before .put-limit .ensures .0) (c .before .before .put-end2 .ensures .0))
+returns-3 c = tail-on (c .before .before .before .before .before .before .before .before .before .before .before .before .before .before .before .args .self) (c .before .before .before .before .before .before .before .before .before .before .before .before .before .before .before .args .out .now) (c .before .before .before .before .before .before .before .before .before .before .before .before .before .if1 .left) (c .before .before .before .before .before .before .before .before .if2 .left) (wrote-then (c .before .before .before .before .before .before .put-limit .ensures .0) (rw (c .before .before .before .before .before .before .before .before .before .is-turning .ensures) at (c .before .before .put-end2 .ensures .0)))
 
 pub tail-spec : {M : Type 1} → statement M
 tail-spec =
     tie.close
     (tie.spec
     returns
+    is-turning-requires
     put-end-requires
     same-length
     returns-2

@@ -1,7 +1,12 @@
--- `course::put_end` meets its contract: five texts, one behind the other. Assumes nothing.
-use native.Mathlib.Omega.{arith}
+-- `course::lines::put_end` meets its contract. Assumes nothing.
+use Rattle.course.proofs.Behind.{wrote-then, end-wrote}
 use Rattle.course.specs.Text.{positionsText}
-use Rattle.course.proofs.Behind.{wrote-then}
+use Rattle.motion.specs.Axes.{on}
+use Rattle.count.specs.Text.{shown}
+use Rattle.count.specs.Numbers.{value}
+use Rattle.count.specs.declared.Axis.{Axis}
+use native.Mathlib.Omega.{arith}
+use mathlib.Core.List.{_∷_}
 use borrow.Author.Needs.{needs}
 use Rattle.course.proofs.lines.put_end.Statement.{statement}
 use Rattle.course.proofs.lines.put_end.Tie as tie
@@ -54,6 +59,21 @@ put-field-requires-3 c κs = search needs
 add-r : tie.Need-add-r
 add-r c = search needs
 
+sub-put-last : tie.Need-sub-put-last
+sub-put-last c = search needs
+
+part-put-last-start : tie.Need-part-put-last-start
+part-put-last-start c = search needs
+
+part-put-last-end : tie.Need-part-put-last-end
+part-put-last-end c = search needs
+
+put-last-requires : tie.Need-put-last-requires
+put-last-requires c κs = search needs
+
+add-s : tie.Need-add-s
+add-s c = search needs
+
 sub-put-one : tie.Need-sub-put-one
 sub-put-one c = search needs
 
@@ -74,9 +94,7 @@ same-length c = search needs
 
 returns : tie.Need-returns
 unfolding positionsText
-returns c =
-    let w = wrote-then (wrote-then (wrote-then (wrote-then (c .before .before .before .before .before .before .before .before .before .before .before .before .before .before .before .before .before .before .put-one .ensures .0) (c .before .before .before .before .before .before .before .before .before .before .before .before .before .before .put-field .ensures .0)) (c .before .before .before .before .before .before .before .before .before .before .put-field2 .ensures .0)) (c .before .before .before .before .before .before .put-field3 .ensures .0)) (c .before .before .put-one2 .ensures .0) in
-    (record { long = w .long; text = w .text }, omega (arith, c .before .before .before .before .before .before .before .before .before .before .before .before .before .before .before .before .before .before .put-one .ensures .1, c .before .before .before .before .before .before .before .before .before .before .before .before .before .before .put-field .ensures .1, c .before .before .before .before .before .before .before .before .before .before .put-field2 .ensures .1, c .before .before .before .before .before .before .put-field3 .ensures .1, c .before .before .put-one2 .ensures .1))
+returns c = let w = wrote-then (wrote-then (wrote-then (wrote-then (wrote-then (c .before .before .before .before .before .before .before .before .before .before .before .before .before .before .before .before .before .before .before .before .before .before .put-one .ensures .0) (c .before .before .before .before .before .before .before .before .before .before .before .before .before .before .before .before .before .before .put-field .ensures .0)) (c .before .before .before .before .before .before .before .before .before .before .before .before .before .before .put-field2 .ensures .0)) (c .before .before .before .before .before .before .before .before .before .before .put-field3 .ensures .0)) (c .before .before .before .before .before .before .put-last .ensures .0)) (c .before .before .put-one2 .ensures .0) in let a = c .before .before .before .before .before .before .before .before .before .before .before .before .before .before .before .before .before .before .before .before .before .before .before .before .before .args in (end-wrote (λ (i : Axis). 32 ∷ shown (value (on i (a .at)))) (a .turns) w, omega (arith, c .before .before .before .before .before .before .before .before .before .before .before .before .before .before .before .before .before .before .before .before .before .before .put-one .ensures .1, c .before .before .before .before .before .before .before .before .before .before .before .before .before .before .before .before .before .before .put-field .ensures .1, c .before .before .before .before .before .before .before .before .before .before .before .before .before .before .put-field2 .ensures .1, c .before .before .before .before .before .before .before .before .before .before .put-field3 .ensures .1, c .before .before .before .before .before .before .put-last .ensures .1, c .before .before .put-one2 .ensures .1))
 
 pub put-end-spec : {M : Type 1} → statement M
 put-end-spec =
@@ -98,6 +116,11 @@ put-end-spec =
     part-put-field-end-3
     put-field-requires-3
     add-r
+    sub-put-last
+    part-put-last-start
+    part-put-last-end
+    put-last-requires
+    add-s
     sub-put-one
     part-put-one-start
     part-put-one-end

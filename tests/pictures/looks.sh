@@ -185,7 +185,7 @@ overlaps() { # PICTURE
         text = $0
         sub(/^[^>]*>/, "", text)
         sub(/<.*/, "", text)
-        gsub(/&[a-z]+;/, "x", text)
+        gsub(/&[^;]*;/, "x", text)
         wide = length(text) * size / 2
         n++
         left[n] = $2 - (/text-anchor="end"/ ? wide : /text-anchor="middle"/ ? wide / 2 : 0)

@@ -8,7 +8,8 @@
 #     go, cut or turn x1 y1 z1 x2 y2 z2 speed record pass line, and for a sloping way the corners of its pulses, three numbers each; a turn is a
 #     way of A that does not go aside in x and y, with the tool up, and in the plate it is a cut;
 #     hole or left x y top x y bottom 0 record pass line; record and pass are - for a movement that was sent as a line;
-#   from_a[i], to_a[i] of a thing made[i]: where A stood at its ends;
+#   from_a[i], to_a[i] of a thing made[i]: where A stood at its ends; goes_on[i] if it goes on with the way before it, parted from it at the
+#   surface;
 #   lowest_of[i], slopes[i] of a way made[i]: its lowest z, and whether z changes on it; arc_of[i] if it is an arc: centre in x, y and z, start
 #     from there on both axes of its plane, plane, direction; or ? if its line is not known; the points of a round way are in round.awk;
 #   left right low high, the extent in x and y; deepest, the lowest z in the plate; has_x, has_z, has_a, whether x, z and A were ever set;
@@ -218,11 +219,13 @@ function pulses(n,    k) {
 }
 
 # Pulses alike, all in the plate or none.
-function stretch(n, inside) {
+function stretch(n, inside,    was_open) {
     if (n < 1) return
     if (!open || inside != cuts) {
+        was_open = open
         close_way()
         open_way(inside)
+        parted = was_open
     }
     if (!aside && (dx || dy || da)) {
         aside = 1
@@ -284,6 +287,7 @@ function close_way() {
     made[++n_made] = (cuts ? "cut" : shifts ? "go" : "turn") " " x1 " " y1 " " z1 " " x " " y " " z " " way_speed " " by_whom() (n_corners < 601 ? corners : "")
     from_a[n_made] = a1
     to_a[n_made] = a
+    if (parted) goes_on[n_made] = 1
     lowest_of[n_made] = lowest
     slopes[n_made] = slope
     if (arc != "" || is_round) arc_of[n_made] = arc == "" ? "?" : arc

@@ -25,7 +25,7 @@ follow() { # STREAM FILE...: runs these awk files behind those that follow the s
 
 picture_of() { # STREAM: prints the picture
     csv=
-    follow "$1" plot marks plate
+    follow "$1" plot marks dial plate
 }
 
 measures_of() { # STREAM [csv]: prints the table of measures, as text or as comma separated values

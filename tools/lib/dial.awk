@@ -184,7 +184,7 @@ function label_stand(v, far,    at, text, w, x, y) {
     y = dial_y(at, far + 22) - 500
     if (!is_free(x - 200, y, x + w + 200, y + 1000)) return
     take(x - 200, y, x + w + 200, y + 1000)
-    print "<text class=\"stands\" x=\"" in_units(x) "\" y=\"" in_units(y + 950) "\" font-size=\"12\">" text "</text>"
+    print "<text x=\"" in_units(x) "\" y=\"" in_units(y + 950) "\" class=\"stands\" font-size=\"12\">" text "</text>"
 }
 
 # With A alone the dial is the picture.

@@ -12,7 +12,7 @@ function turn_refused(sent, line, storing, axes, store_axes) {
     if (sent == "3") return axes_refused(line, storing, axes)
     if (sent == "7" && axes == 8 && line ~ (storing ? "^[0m]" : "@0[AaMm]")) return "A is set alone, and a movement has two numbers then; for four axes send @07, then @08"
     if (sent == "G" && !storing && (is_turning(axes) || is_turning(store_axes)))
-        return "stored under other axes: under " axes_words(store_axes) " (" store_axes "), and " axes_words(axes) " (" axes ") are set"
+        return "stored under other axes: " axes_words(store_axes) " (" store_axes ") then, " axes_words(axes) " (" axes ") now"
     return ""
 }
 

@@ -16,6 +16,8 @@ compared() { # NAME: what is wanted and what came
 
 by_awk() { # FILE PATH: the picture and the table of an input, under the awk of a path
     PATH=$2 "$root/tools/plate" 80,80.5,400 --surface -1 --numbers --title x <"$1"
+    PATH=$2 "$root/tools/plate" 80,80,400,0.7 <"$1"
+    PATH=$2 "$root/tools/plate" 80,80,400,0.7 --csv <"$1"
     PATH=$2 "$root/tools/plate" 80,80.5,400 --measure <"$1"
     PATH=$2 "$root/tools/plate" <"$1"
 }
@@ -41,19 +43,33 @@ rounds() { # circles of all planes, up and down through the surface, small and l
         }
     }'
 }
+turns() { # A up and down a scale of its own, beside the others and by itself, in 2.5D and in 3D, in the plate and out of it
+    awk 'BEGIN {
+        printf "@07\r@08\r"
+        for (i = 1; i < 80; i++) printf "@0z%d\r@0A%d,600,%d,%d,%d,300,%d,300\r", i % 3 == 0, i * 37 % 23 - 11, i % 4 ? 0 : i * 53 % 31 - 15, 100 + i * 40, i * 7 % 5 - 2, i * 29 % 67 - 30
+    }'
+}
+alone() { # A alone, to and fro, more than once around
+    awk 'BEGIN {
+        printf "@08\r"
+        for (i = 1; i < 60; i++) printf "@0A%d,%d\r", i * 41 % 301 - 140, 100 + i * 60
+    }'
+}
 told_by() { # PATH: what ./exercise says of programs that are refused at their end line, of spaces and of words, under the awk of a path
-    for text in named spaces words circles; do
+    for text in named spaces words circles turns; do
         PATH=$1 "$root/exercise" "$root/tests/own/$text.txt" --no-picture
     done
 }
 slopes >"$dir/slopes"
 rounds >"$dir/rounds"
+turns >"$dir/turns"
+alone >"$dir/alone"
 grep -v '^#' "$root/exercises/ramp-3d.txt" | tr '\n' '\r' >"$dir/ramp"
 for awk in mawk gawk 'busybox awk' original-awk; do
     command -v "${awk%% *}" >/dev/null || continue
     # shellcheck disable=SC2086
     under $awk
-    for file in slopes rounds ramp; do
+    for file in slopes rounds ramp turns alone; do
         by_awk "$dir/$file" "$PATH" >"$dir/wanted"
         by_awk "$dir/$file" "$dir/${awk%% *}:$PATH" >"$dir/got"
         compared "$file under $awk"

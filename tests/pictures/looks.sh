@@ -63,6 +63,51 @@ lines @03 @0y4,600,0,2,0,-1,1 @0e1 @0y4,600,0,2,0,-1,-1 @0y4,600,0,0,0,-1,-1 @0i
 drawn "notes of circles" '>line 2: 1, wrong directions<' '>line 4: 3, plane with an axis not set<' '>line 5: 3, plane with an axis not set<' \
     '>run of line 9 ended with 3, axis not set<' '>run of line 11 ended with 1, wrong way<'
 
+# The A axis. Three turns at one place are one mark there, and the dial has a line for each place of A, a circle where a hole was drilled;
+# without the steps of a degree it is a gauge from the lowest place to the highest, over 270 degrees about 735, with a radius of 34.
+holes() { lines @07 @08 @0A12,800,0,800,0,300,0,400; for i in 1 2 3; do lines @0A0,800,0,800,-4,300,0,400 "@0A0,800,0,800,4,300,$1,400"; done; }
+holes 30 | draw
+drawn "a ring of holes" 'class="turn".*>a +30, 3 times<' '>A turns here<' '>where A stood, steps<' '>start 0<' '>end 90<' '>3 turns<' 'size in x: 12 steps' '!class="ring"'
+is "a mark for all turns at a place" 1 "$(has 'class="turn"')"
+is "a line for each place of A" 4 "$(has 'class="stood"')"
+is "a hole for each place where one was drilled" 3 "$(sed -n '/class="dial"/,/^<.g>$/p' "$dir/got" | grep -c '<circle cx=')"
+is "a gauge from lower left to lower right" "71096 75904" "$(echo $(sed -n 's/^<g stroke="#000000" stroke-width="110"><circle cx="\(7[0-9]*\)" cy="[0-9]*" r="350".*/\1/p' "$dir/got" | sed -n 1p) $(sed -n 's/^<path class="stood" d="M\([0-9]*\) .*/\1/p' "$dir/got" | awk 'NR == 4 { print $1 + 283 }'))"
+holes 30 | draw 80,80,400,1
+drawn "degrees" 'class="turn".*>a +30&#176;, 3 times<' '>where A stood, degrees<' '>end 90&#176;<' '>steps per mm: 80, 80, 400; per degree: 1<'
+is "a round dial: 0 at its top, 90 at its right" "73500 76900" "$(echo $(sed -n 's/.*<circle cx="\(7[0-9]*\)" cy="[0-9]*" r="350".*/\1/p' "$dir/got" | sed -n 1p) $(sed -n 's/^<path class="stood" d="M[0-9]* [0-9]*L\([0-9]*\) .*/\1/p' "$dir/got" | awk 'NR == 4 { print $1 - 400 }'))"
+holes 30 | draw 80
+drawn "no degrees by one number" '>a +30, 3 times<' '>where A stood, steps<' '!degree'
+lines @07 @08 @0A0,800,0,800,0,300,30,400 @0A0,800,0,800,0,300,-7,400 | draw
+drawn "turns that differ" 'class="turn".*>a: 2 turns<' '>end 23<' '>from 0 to 30<' '!drilled hole'
+lines @07 @08 @0A9,800,0,800,-4,300,-30,400 @0A0,800,0,800,4,300,0,400 | draw
+drawn "a turn in the plate" 'class="turn".*>a -30<' 'class="ring"' '>cutting<' '!drilled hole' '>deepest: 4 steps below the surface<'
+# In 3D a mark stands where a movement ends. One that comes to the surface on its way is one turn; where A alone steps there is no corner.
+lines @07 @08 @0A0,600,0,600,2,300,0,400 @0z1 @0A4,700,0,700,-4,300,40,300 | draw
+drawn "a turn through the surface" 'class="turn".*>a +40<' '>1 turn<' '>cutting<' '>tool up<' 'size in x: 4 steps'
+is "it has one mark" 1 "$(has 'class="turn"')"
+lines @07 @08 @0z1 @0A3,700,2,700,0,300,90,300 | draw
+tr -d '\n' <"$dir/got" >"$dir/joined"
+is "the way of x and y beside a longer one of A" 1 "$(grep -c 'M28000 33500L32000 33500L32000 29500L36000 29500L36000 25500L40000 25500"' "$dir/joined")"
+# A alone: the dial is the picture. 60 and -20 of 80 steps lie 270 degrees apart.
+lines @08 @0A60,400 @0A-80,900 | draw
+drawn "A alone" '^<title>The turntable<' '>a turn<' '>A stood here<' '>A from -20 to 60 steps, at the end -20<' '>2 turns<' '>200 to 499<' '>500 to 999<' 'class="stands".*>60<' '!size in x' '!no movement' '!>origin<' '!>x<'
+is "a sweep for each turn" 2 "$(has 'class="sweep"')"
+is "a place each" 3 "$(has 'class="stands"')"
+lines @08 @0A60,400 @0A-80,900 | draw 1,1,1,2 --numbers --title plate
+drawn "A alone in degrees" '>The turntable<' '>A from -10&#176; to 30&#176;, at the end -10&#176;<' '>steps per degree: 2<' 'preserve">  1  turn .* 30.000'
+lines @08 | draw
+drawn "A alone, at rest" '>no movement<' '>A from 0 to 0 steps, at the end 0<'
+awk 'BEGIN { printf "@08\r"; for (i = 0; i < 400; i++) printf "@0A9,400\r" }' | draw
+is "many places have few figures" 1 "$(awk '/class="stands"/ { n++ } END { print (n > 10 && n < 60) }' "$dir/got")"
+is "few sweeps are drawn" 200 "$(has 'class="sweep"')"
+awk 'BEGIN { printf "@07\r@08\r"; for (i = 0; i < 100; i++) printf "@0A%d,400,%d,400,0,400,9,400\r", i % 7 * 40, i % 5 * 30 - 60 }' | draw
+is "many turns have no more than 60 marks" 1 "$(awk '/class="turn"/ { n++ } END { print (n > 5 && n <= 60) }' "$dir/got")"
+# A that was dropped is still in the picture; @08 moves no table. Notes.
+lines @03 @08 @07 @08 @0A2,600,0,600,0,300,8,300 @08 @0A2,600,0,600,0,300,8,300 @07 | draw
+drawn "A set again, and dropped" '>line 2: 3, A takes @07 first<' '>end 16<' 'size in x: 4 steps'
+lines @07 @0A2,600,0,600,0,300,0,300 | draw
+drawn "no A" '!dial' '!>where A stood' '!>A turns here<'
+
 # Dashes: short moves are one line with whole dashes; a way back over the same line is not drawn again; the shortest have short dashes.
 lines @07 @0A9,600,0,600,0,300,0,300 @0A1,600,0,600,0,300,0,300 @0A1,600,0,600,0,300,0,300 @0A0,600,1,600,0,300,0,300 | draw
 is "short moves are one line" "1 1" "$(has '^<path class="go"') $(has '^" stroke=.*stroke-dasharray="500 400"/>')"
@@ -185,7 +230,7 @@ overlaps() { # PICTURE
         text = $0
         sub(/^[^>]*>/, "", text)
         sub(/<.*/, "", text)
-        gsub(/&[a-z]+;/, "x", text)
+        gsub(/&[^;]*;/, "x", text)
         wide = length(text) * size / 2
         n++
         left[n] = $2 - (/text-anchor="end"/ ? wide : /text-anchor="middle"/ ? wide / 2 : 0)
@@ -210,3 +255,8 @@ crowded | draw 80,80,400.125 --surface -3 --numbers --title 'A program with a na
 drawn "a crowded picture" '>tool up<' '>cutting<' '>drilled hole<' '>tool left down at -0.01<' '>not over after 100,000 clock calls<' \
     '>steps per mm: 80, 80, 400.125<' '>and [0-9]* more<' '>sent by the program: '
 is "texts of a crowded picture" "" "$(overlaps "$dir/got")"
+{ crowded | sed 's/^@07\r/@07\r@08\r/; s/@0z1/@0A1,700,0,700,0,700,50,700\r@0z1/'; } | draw 80,80,400.125,10 --surface -3 --title x
+drawn "a crowded picture with A" '>where A stood, degrees'
+is "texts of a crowded picture with A" "" "$(overlaps "$dir/got")"
+holes 30 | draw 80,80,400,1 --numbers --title x
+is "texts of a ring of holes" "" "$(overlaps "$dir/got")"

@@ -192,6 +192,82 @@ measured "an arc broken off, and one whose line is not known" "$steps,$arcs,plan
 1,arc,0,0,0,-2,2,0,,,,3,-2,0,0,2,xy,ccw
 2,arc,-2,2,0,-4,0,0,,,,7,,,,,,"
 
+# The A axis: where it stood at both ends. Three holes at one place; a groove that A turned, and a ramp in 3D that turns too. Tool up, a turn
+# leaves nothing.
+ring() { lines @07 @08 @0i '0 12,800,0,800,0,300,0,400' '0 0,800,0,800,-4,300,0,400' '0 0,800,0,800,4,300,30,400' '3 1,-2' 9 @0S; }
+ring | draw --csv
+measured "a ring of holes, CSV" "number,what,from_x,from_y,from_z,from_a,to_x,to_y,to_z,to_a,depth,record,pass,line
+1,hole,12,0,0,0,12,0,-4,0,4,1,1,9
+2,hole,12,0,0,30,12,0,-4,30,4,1,2,9"
+ring | draw --measure
+measured "a ring of holes" "no. what from x y z a to x y z a depth record pass line
+1 hole 12 0 0 0 12 0 -4 0 4 1 1 9
+2 hole 12 0 0 30 12 0 -4 30 4 1 2 9
+2 holes, 0 cuts; end at x 12, y 0, height 0, a 60 steps"
+is "columns are aligned with A" 1 "$(sed '$d' "$dir/got" | awk '{ print length($0) }' | sort -u | wc -l)"
+ring | draw --measure 80,80,400,10
+measured "a ring of holes in mm and degrees" "steps mm
+no. what from x y z a to x y z a depth from x y z a deg to x y z a deg depth record pass line
+1 hole 12 0 0 0 12 0 -4 0 4 0.150 0.000 0.000 0.000 0.150 0.000 -0.010 0.000 0.010 1 1 9
+2 hole 12 0 0 30 12 0 -4 30 4 0.150 0.000 0.000 3.000 0.150 0.000 -0.010 3.000 0.010 1 2 9
+2 holes, 0 cuts; end at x 12, y 0, height 0, a 60 steps (x 0.150, y 0.000, height 0.000 mm, a 6.000 degrees)"
+is "columns are aligned with degrees" 1 "$(sed '1d; $d' "$dir/got" | awk '{ print length($0) }' | sort -u | wc -l)"
+ring | draw --csv 80
+is "no degrees by one number, CSV" "number,what,from_x,from_y,from_z,from_a,to_x,to_y,to_z,to_a,depth,$mm,record,pass,line" "$(head -n 1 "$dir/got")"
+lines @07 @08 @0A5,800,0,800,-4,300,50,400 @0z1 @0A10,800,5,800,-4,300,-20,400 @0z0 @0A0,800,0,800,8,300,9,400 | draw --csv 80,80,400,10
+measured "turns in the plate" "number,what,from_x,from_y,from_z,from_a,to_x,to_y,to_z,to_a,depth,from_x_mm,from_y_mm,from_z_mm,from_a_deg,to_x_mm,to_y_mm,to_z_mm,to_a_deg,depth_mm,record,pass,line
+1,turn,5,0,-4,0,5,0,-4,50,4,0.063,0.000,-0.010,0.000,0.063,0.000,-0.010,5.000,0.010,,,3
+2,cut,5,0,-4,50,15,5,-8,30,8,0.063,0.000,-0.010,5.000,0.188,0.063,-0.020,3.000,0.020,,,5"
+# A hole deeper than the groove that A turns from there, and an arc beside A.
+lines @07 @08 @0A0,800,0,800,-6,300,0,400 @0A0,800,0,800,3,300,40,400 @0y4,600,0,2,0,-1,-1 | draw --measure
+measured "a hole, a turn and an arc" "no. what from x y z a to x y z a depth record pass line centre x y z radius plane turn
+1 hole 0 0 0 0 0 0 -6 0 6 - - 3 - - - - - -
+2 turn 0 0 -3 0 0 0 -3 40 3 - - 4 - - - - - -
+3 arc 0 0 -3 40 -2 -2 -3 40 3 - - 5 -2 0 -3 2 xy cw
+1 hole, 0 cuts, 1 arc, 1 turn, tool left down; end at x -2, y -2, height -3, a 40 steps"
+# A alone: each turn is a row. Passes, and a turn that is stopped is one.
+index() { lines @08 @0i '0 20,400' '3 1,-1' 9 @0S @0A-5,300; }
+index | draw --measure
+measured "A alone" "no. what from a to a record pass line
+1 turn 0 20 0 1 6
+2 turn 20 40 0 2 6
+3 turn 40 35 - - 7
+3 turns; end at a 35 steps"
+index | draw --measure 1,1,1,2
+measured "A alone in degrees" "steps degrees
+no. what from a to a from a to a record pass line
+1 turn 0 20 0.000 10.000 0 1 6
+2 turn 20 40 10.000 20.000 0 2 6
+3 turn 40 35 20.000 17.500 - - 7
+3 turns; end at a 35 steps (a 17.500 degrees)"
+index | draw --measure 80
+measured "A alone, without degrees" "steps
+no. what from a to a record pass line
+1 turn 0 20 0 1 6
+2 turn 20 40 0 2 6
+3 turn 40 35 - - 7
+3 turns; end at a 35 steps"
+index | draw --csv
+measured "A alone, CSV" "number,what,from_x,from_y,from_z,from_a,to_x,to_y,to_z,to_a,depth,record,pass,line
+1,turn,0,0,0,0,0,0,0,20,,0,1,6
+2,turn,0,0,0,20,0,0,0,40,,0,2,6
+3,turn,0,0,0,40,0,0,0,35,,,,7"
+printf '%s\n' @08 '@0A 9,400' 'clock 4' stop 'go on' '@0A 9,400' 'clock 2' break @08 '@0A 3,400' >"$dir/words"
+stream_of "$dir/words"
+measures_of "$dir/stream" >"$dir/got" 2>"$dir/said"
+echo $? >"$dir/status"
+measured "A stopped, broken off, and made 0" "no. what from a to a record pass line
+1 turn 0 9 - - 2
+2 turn 9 11 - - 6
+3 turn 11 14 - - 10
+3 turns; end at a 14 steps"
+# With two axes at first, then A alone: lines and turns.
+{ lines @03 @0A4,600,0,600; printf '\376'; lines @08 @0A7,400; } | draw --measure
+measured "lines and turns" "no. what from x y a to x y a record pass line
+1 line 0 0 0 4 0 0 - - 2
+2 turn 4 0 0 4 0 7 - - 4
+1 line, 1 turn; end at x 4, y 0, a 7 steps"
+
 lines @07 | draw --measure
 measured "nothing" "no. what from x y z to x y z depth record pass line
 0 holes, 0 cuts; end at x 0, y 0, height 0 steps"

@@ -4,7 +4,7 @@ complain() { # TEXT...: a message on standard error
     printf '%s: %s\n' "$name" "$*" >&2
 }
 
-# One number of steps per mm: digits, and perhaps a point and digits; from 0.001 to 1,000,000.
+# One number of steps per mm or degree: digits, and perhaps a point and digits; from 0.001 to 1,000,000.
 is_scale() { # TEXT
     case $1 in
     '' | *[!0-9.]* | *.*.* | .* | *. | ???????????????*) return 1 ;;
@@ -12,28 +12,25 @@ is_scale() { # TEXT
     LC_ALL=C awk -v n="$1" 'BEGIN { exit !(n + 0 >= 0.001 && n + 0 <= 1000000) }'
 }
 
-# The steps per mm of x, y and z, of a text that has one number for all of them, or three with commas between.
+# The steps per mm of x, y and z, and per degree of A where they are given: of a text that has one number for x, y and z, or three with commas
+# between, or four.
 scale_of() { # TEXT
-    scale_x=
     case $1 in
-    *,*,*,* | *,) ;;
+    *,*,*,*,* | *,) set -- "$1" ;;
     *,*,*)
-        scale_x=${1%%,*}
-        scale_z=${1##*,}
-        scale_y=${1#*,}
-        scale_y=${scale_y%,*}
+        rest=${1#*,}
+        set -- "$1" "${1%%,*}" "${rest%%,*}" "${rest#*,}"
+        case $4 in
+        *,*) set -- "$1" "$2" "$3" "${4%,*}" "${4#*,}" ;;
+        esac
         ;;
-    *)
-        scale_x=$1
-        scale_y=$1
-        scale_z=$1
-        ;;
+    *) set -- "$1" "$1" "$1" "$1" ;;
     esac
-    if is_scale "${scale_x-}" && is_scale "${scale_y-}" && is_scale "${scale_z-}"; then
-        echo "$scale_x $scale_y $scale_z"
+    if is_scale "${2-}" && is_scale "${3-}" && is_scale "${4-}" && is_scale "${5-1}"; then
+        echo "$2 $3 $4${5+ $5}"
         return 0
     fi
-    complain "\"$1\" is no number of steps per mm: one from 0.001 to 1000000, or three as x,y,z"
+    complain "\"$1\" is no number of steps per mm: one from 0.001 to 1000000, or three as x,y,z, or four as x,y,z,a with a's steps per degree"
     return 1
 }
 

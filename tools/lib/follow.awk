@@ -3,22 +3,28 @@
 #
 # Given: surface, the height of the plate in steps above the start (0 if it is not given); in front of the stream the lines that were sent,
 #   each as `A number text`.
-# Kept: x y z, the table counted from the start, by the pulses alone;
+# Kept: x y z a, the table counted from the start, by the pulses alone;
 #   made[1..n_made], in the order of happening, fields parted by spaces:
-#     go or cut x1 y1 z1 x2 y2 z2 speed record pass line, and for a sloping way the corners of its pulses, three numbers each;
+#     go, cut or turn x1 y1 z1 x2 y2 z2 speed record pass line, and for a sloping way the corners of its pulses, three numbers each; a turn is a
+#     way of A that does not go aside in x and y, with the tool up, and in the plate it is a cut;
 #     hole or left x y top x y bottom 0 record pass line; record and pass are - for a movement that was sent as a line;
+#   from_a[i], to_a[i] of a thing made[i]: where A stood at its ends; goes_on[i] if it goes on with the way before it, parted from it at the
+#   surface;
 #   lowest_of[i], slopes[i] of a way made[i]: its lowest z, and whether z changes on it; arc_of[i] if it is an arc: centre in x, y and z, start
 #     from there on both axes of its plane, plane, direction; or ? if its line is not known; the points of a round way are in round.awk;
-#   left right low high, the extent in x and y; deepest, the lowest z in the plate; has_z, whether z was ever set; moved, any pulse;
+#   left right low high, the extent in x and y; deepest, the lowest z in the plate; has_x, has_z, has_a, whether x, z and A were ever set;
+#   moved, any pulse;
 #   home[1..n_homes], places that were the origin; begun[1..n_begun], places where records began to move, and begun_by[place];
 #   note[1..n_notes], what the board refused and how runs ended, and note_why[1..n_notes], what that means; sent_text, the characters that
-#   programs sent; limit, the last run was not over when the clock calls were. Behind replies.awk and circles.awk.
+#   programs sent; limit, the last run was not over when the clock calls were. Behind
+#   state.awk, replies.awk, turns.awk and circles.awk.
 
 BEGIN {
     surface += 0
-    x = y = z = left = right = low = high = deepest = bottom = off_x = off_y = has_z = moved = limit = n_made = n_notes = 0
+    x = y = z = a = left = right = low = high = deepest = bottom = off_x = off_y = has_x = has_z = has_a = moved = limit = n_made = n_notes = 0
     top = surface > 0 ? surface : 0
     low_record = low_pass = low_line = "-"
+    low_a = 0
     keep_notes = 60
     keep_sent = 40
     record = pass = "-"
@@ -37,6 +43,7 @@ $0 == pulse { count++; fresh = 1; next }
     dx = sign(substr($3, 1, 1))
     dy = sign(substr($3, 2, 1))
     dz = sign(substr($3, 3, 1))
+    da = sign(substr($3, 4, 1))
     speed = $4
     next
 }
@@ -144,22 +151,27 @@ function reply(text) {
 }
 
 # A line S: what is at work, and where the positions and the origin lie on the table.
-function state(    job) {
-    job = $23
-    standing = $25 + 0
+function state(    job, at) {
+    job = $behind("job")
+    standing = $behind("standing") + 0
     if (held && standing) add_note("line " line ": F", "stopped")
     if (job != "Idle" && job != "Storing") run_is(job)
     else if (running && held) end_run("F")
     else if (running) end_run("")
     held = 0
     job_now = job
-    records = $19 + 0
-    plane = $29 + 0
-    direction = $31 + 0
-    if ($3 == 7) has_z = 1
-    off_x = x - $5
-    off_y = y - $6
-    origin_at($9 + off_x, $10 + off_y)
+    records = $behind("records") + 0
+    plane = $behind("plane") + 0
+    direction = $behind("direction") + 0
+    axes = $behind("axes") + 0
+    if (axes % 8) has_x = 1
+    if (axes % 8 == 7) has_z = 1
+    if (is_turning(axes)) has_a = 1
+    at = behind("position")
+    off_x = x - $at
+    off_y = y - $(at + 1)
+    at = behind("origin")
+    origin_at($at + off_x, $(at + 1) + off_y)
 }
 
 function add_note(text, why) {
@@ -207,29 +219,34 @@ function pulses(n,    k) {
 }
 
 # Pulses alike, all in the plate or none.
-function stretch(n, inside) {
+function stretch(n, inside,    was_open) {
     if (n < 1) return
     if (!open || inside != cuts) {
+        was_open = open
         close_way()
         open_way(inside)
+        parted = was_open
     }
-    if (!aside && (dx || dy)) {
+    if (!aside && (dx || dy || da)) {
         aside = 1
         leaves_at = lowest
     }
+    if (dx || dy) shifts = 1
     if (dz) slope = 1
     corner()
     x += n * dx
     y += n * dy
     z += n * dz
+    a += n * da
     widen(x, y)
     if (z < lowest) lowest = z
     if (z < deepest && inside) deepest = z
 }
 
 # A corner of the way is kept where the direction changes. Beyond 160 steps both ways no step of a straight way is wide enough to be drawn,
-# and none is kept.
+# and none is kept. Where A alone steps, the tool stays where it is.
 function corner() {
+    if (!dx && !dy && !dz) return
     if (headed && dx == last_dx && dy == last_dy && dz == last_dz) return
     if (headed && turns_round()) round_corner()
     else if (headed && n_corners < 600 && (right - left <= 160 || high - low <= 160)) {
@@ -240,22 +257,25 @@ function corner() {
     last_dx = dx
     last_dy = dy
     last_dz = dz
+    last_da = da
 }
 
 function open_way(inside) {
     open = 1
     cuts = inside
     way_speed = speed
-    aside = slope = 0
+    aside = shifts = slope = 0
     x1 = x
     y1 = y
+    a1 = a
     z1 = lowest = z
     corners = ""
     n_corners = headed = 0
     round_begins()
 }
 
-# The way since the phase began, or since the tool came to the surface. One that goes aside is a line; one that does not is down or up.
+# The way since the phase began, or since the tool came to the surface. One that goes aside is a line, as one of A is on the work that it
+# turns; one that does not is down or up.
 function close_way() {
     if (!open) return
     open = 0
@@ -264,7 +284,10 @@ function close_way() {
         return
     }
     if (bottom < top && bottom < leaves_at) add_stay("hole")
-    made[++n_made] = (cuts ? "cut" : "go") " " x1 " " y1 " " z1 " " x " " y " " z " " way_speed " " by_whom() (n_corners < 601 ? corners : "")
+    made[++n_made] = (cuts ? "cut" : shifts ? "go" : "turn") " " x1 " " y1 " " z1 " " x " " y " " z " " way_speed " " by_whom() (n_corners < 601 ? corners : "")
+    from_a[n_made] = a1
+    to_a[n_made] = a
+    if (parted) goes_on[n_made] = 1
     lowest_of[n_made] = lowest
     slopes[n_made] = slope
     if (arc != "" || is_round) arc_of[n_made] = arc == "" ? "?" : arc
@@ -284,6 +307,7 @@ function upright() {
         low_record = record
         low_pass = pass
         low_line = run_line
+        low_a = a
     }
     if (z < surface) return
     if (bottom < top) add_stay("hole")
@@ -297,4 +321,5 @@ function add_stay(what,    px, py) {
     px = aside ? x1 : x
     py = aside ? y1 : y
     made[++n_made] = what " " px " " py " " top " " px " " py " " bottom " 0 " low_record " " low_pass " " low_line
+    from_a[n_made] = to_a[n_made] = low_a
 }

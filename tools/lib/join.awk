@@ -10,7 +10,7 @@ FNR == NR {
 }
 {
     answers++
-    if ($0 ~ /^0 [0-9]+ [0-9]+ [137] (-|[0-9a-f]+) (-|[0-9]+(,[0-9]+)*)$/ && length($5) == ($2 == 0 ? 1 : 2 * $2) && starts($6) == $3) listing()
+    if ($0 ~ /^0 [0-9]+ [0-9]+ ([1378]|15) (-|[0-9a-f]+) (-|[0-9]+(,[0-9]+)*)$/ && length($5) == ($2 == 0 ? 1 : 2 * $2) && starts($6) == $3) listing()
     else if ($0 == "G" && enters()) refuse(into_a_loop(), "nothing may lead into a loop: put a record in front of it, as 5 0, a delay of nothing")
     else if ($0 == "6" && (records > 1000 || used > 16384)) refuse(no_room(), "make a loop of what repeats, or leave the two as two programs")
     else answers = 2

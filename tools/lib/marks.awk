@@ -196,18 +196,27 @@ function take_line(x1, y1, x2, y2, half,    n, k, px, py) {
     }
 }
 
-# Figures near a place, on the first of eight sides that is free, close by or a little farther; nothing if none is.
-function figures(text, x, y, style,    side, far, w, left_x, top_y) {
-    w = length(text) * 650
+# Figures near a place, on the first of eight sides that is free, close by or a little farther; nothing if none is. There may be room for
+# something in front of them, which begins at figure_x, figure_y.
+function figures(text, x, y, style, front,    side, far, w, left_x, top_y) {
+    w = width_of(text) * 650 + front
     for (far = 0; far <= 900; far += 900) for (side = 1; side <= 8; side++) {
         left_x = x + (side == 1 || side == 3 ? 700 + far : side == 2 || side == 4 ? -700 - w - far : side < 7 ? -w / 2 : side == 7 ? 1300 + far : -1300 - w - far)
         top_y = y + (side < 3 ? -1500 - far : side < 5 ? 500 + far : side == 5 ? -2200 - far : side == 6 ? 1100 + far : -500)
         if (!is_free(left_x - 200, top_y, left_x + w + 200, top_y + 1000)) continue
         take(left_x - 200, top_y, left_x + w + 200, top_y + 1000)
-        print "<text x=\"" in_units(left_x) "\" y=\"" in_units(top_y + 950) "\" " style ">" text "</text>"
+        figure_x = left_x
+        figure_y = top_y
+        print "<text x=\"" in_units(left_x + front) "\" y=\"" in_units(top_y + 950) "\" " style ">" text "</text>"
         return 1
     }
     return 0
+}
+
+# How many letters a text has; what stands between & and ; is one.
+function width_of(text) {
+    gsub(/&[^;]*;/, "o", text)
+    return length(text)
 }
 
 function in_units(n) { return sprintf("%d.%02d", int(n / 100), int(n) % 100) }

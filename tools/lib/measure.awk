@@ -21,8 +21,8 @@ function print_text(    r) {
 }
 
 function print_csv(    r, c, text) {
-    text = "from_x,from_y,from_z,to_x,to_y,to_z,depth"
-    if (in_mm) text = text ",from_x_mm,from_y_mm,from_z_mm,to_x_mm,to_y_mm,to_z_mm,depth_mm"
+    text = ends_csv(axes_shown(1), "")
+    if (in_mm) text = text "," ends_csv(axes_in_mm(1), "_mm")
     text = text ",record,pass,line"
     if (n_arcs) text = text ",centre_x,centre_y,centre_z,radius" (in_mm ? ",centre_x_mm,centre_y_mm,centre_z_mm,radius_mm" : "") ",plane,turn"
     print "number,what," text
@@ -32,4 +32,13 @@ function print_csv(    r, c, text) {
         for (c = 2; c <= n_cells; c++) text = text "," cell[c]
         print text
     }
+}
+
+# The names of the columns of both ends and of the depth.
+function ends_csv(shown, unit,    end, k, axis, text) {
+    for (end = 1; end <= 2; end++) for (k = 1; k <= length(shown); k++) {
+        axis = substr(shown, k, 1)
+        text = text (end == 1 ? "from_" : "to_") axis (unit != "" && axis == "a" ? "_deg" : unit) ","
+    }
+    return text "depth" unit
 }

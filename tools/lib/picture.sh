@@ -13,15 +13,10 @@ follow() { # STREAM FILE...: runs these awk files behind those that follow the s
     stream=$1
     shift
     files=
-    for file in replies circles follow round scale rows "$@"; do
+    for file in state replies turns circles follow round scale rows "$@"; do
         files="$files -f $file.awk"
     done
-    set -- -v "surface=${surface:-0}"
-    if [ -n "$scale" ]; then
-        set -- "$@" -v "per_x=${scale%% *}" -v "per_z=${scale##* }"
-        scale_y=${scale#* }
-        set -- "$@" -v "per_y=${scale_y% *}"
-    fi
+    set -- -v "surface=${surface:-0}" -v "scale=$scale"
     # The files are named without their folder, whose name may have spaces.
     # shellcheck disable=SC2086
     { LC_ALL=C sed 's/^/A /' "$lines" && cat "$stream"; } |
@@ -30,7 +25,7 @@ follow() { # STREAM FILE...: runs these awk files behind those that follow the s
 
 picture_of() { # STREAM: prints the picture
     csv=
-    follow "$1" plot marks plate
+    follow "$1" plot marks dial plate
 }
 
 measures_of() { # STREAM [csv]: prints the table of measures, as text or as comma separated values

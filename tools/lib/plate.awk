@@ -1,27 +1,36 @@
 # Draws the plate seen from above as SVG: the plot, and around it title, legend, notes, scale bar and sizes. Behind follow.awk, scale.awk,
-# rows.awk, plot.awk and marks.awk.
+# rows.awk, plot.awk, marks.awk and dial.awk.
 #
 # Given: the title in the environment variable TITLE; numbers=1 if the rows of the table stand in the picture as well.
 
 END {
     find_rows()
+    find_turns()
     fit()
     shown_rows = numbers ? least(n_rows, 60) : 0
     if (shown_rows) measure_columns(shown_rows)
     height = 640 + (numbers ? 60 + 16 * (shown_rows + (n_rows > 60) + in_mm) : 0)
     begin()
+    if (is_alone) draw_alone()
+    else draw_table()
+    legend()
+    list_dial()
+    list_notes()
+    if (!is_alone) bar()
+    sizes()
+    if (numbers) list_rows()
+    print "</svg>"
+}
+
+# The plate, and the figures on it.
+function draw_table() {
     print "<g transform=\"scale(0.01)\" fill=\"none\">"
     draw_plot()
     print "</g>"
     take_lines()
     if (numbers) draw_numbers()
+    draw_turns()
     draw_places()
-    legend()
-    list_notes()
-    bar()
-    sizes()
-    if (numbers) list_rows()
-    print "</svg>"
 }
 
 function draw_plot() {
@@ -37,16 +46,17 @@ function draw_plot() {
     draw_marks()
 }
 
-function begin(    title) {
+function begin(    title, what) {
     title = clean(ENVIRON["TITLE"])
+    what = is_alone ? "The turntable" : "The plate seen from above"
     print "<svg xmlns=\"http://www.w3.org/2000/svg\" version=\"1.1\" width=\"960\" height=\"" height "\" viewBox=\"0 0 960 " height \
         "\" font-family=\"sans-serif\" font-size=\"13\">"
-    print "<title>" (title == "" ? "The plate seen from above" : escaped(title)) "</title>"
+    print "<title>" (title == "" ? what : escaped(title)) "</title>"
     print "<rect width=\"960\" height=\"" height "\" fill=\"#FFFFFF\"/>"
     print "<rect x=\"20\" y=\"50\" width=\"640\" height=\"490\" fill=\"none\" stroke=\"#BBBBBB\"/>"
-    write(20, 34, title == "" ? "The plate seen from above" : escaped(shortened(title, limit ? 40 : 55)), "font-size=\"20\"")
+    write(20, 34, title == "" ? what : escaped(shortened(title, limit ? 40 : 55)), "font-size=\"20\"")
     if (limit) write(940, 34, "not over after 100,000 clock calls", "text-anchor=\"end\" font-size=\"18\" font-weight=\"bold\" fill=\"#B00020\"")
-    else if (title != "") write(940, 34, "The plate seen from above", "text-anchor=\"end\" fill=\"#555555\"")
+    else if (title != "") write(940, 34, what, "text-anchor=\"end\" fill=\"#555555\"")
     if (!moved) write(340, 245, "no movement", "text-anchor=\"middle\"")
 }
 
@@ -98,7 +108,11 @@ function escaped(text) {
 # The legend: only what the plot has, one entry below the other.
 function legend(    c, s) {
     at_y_now = 66
-    if (is_flat && moved) entry_line("movement", "go", 180, "")
+    if (is_alone) {
+        legend_alone()
+        return
+    }
+    if (is_flat && moved && (has_kind("go") || !has_a)) entry_line("movement", "go", 180, "")
     else {
         if (has_kind("go")) entry_line("tool up", "go", 130, " stroke-dasharray=\"500 400\"")
         if (n_of["cut"]) entry_line("cutting", "cut", 240, "")
@@ -109,6 +123,7 @@ function legend(    c, s) {
     entry_mark("start", "start")
     entry_mark("end", "end")
     entry_mark("origin", "origin")
+    if (has_turns) entry_turn("A turns here")
     if (has_places) entry_figure("3", "record that begins here", "fill=\"#555555\"")
     if (numbers && n_rows) entry_figure("3", "row of the table below", "font-weight=\"bold\" fill=\"#B00020\"")
     if (moved) legend_speeds()
@@ -116,6 +131,14 @@ function legend(    c, s) {
     print "<path d=\"M36 628h30l-7 -4m7 4l-7 4M36 628v-30l-4 7m4 -7l4 7\" stroke=\"#000000\" fill=\"none\"/>"
     write(71, 632, "x")
     write(20, 605, "y")
+}
+
+function legend_alone() {
+    if (moved) entry_mark("a turn", "sweep")
+    entry_mark("A stood here", "stood")
+    entry_mark("start", "start")
+    entry_mark("end", "end")
+    if (moved) legend_speeds()
 }
 
 function has_kind(kind,    i) {
@@ -142,10 +165,17 @@ function entry_mark(text, kind) {
     if (kind == "hole") print "<g stroke=\"#000000\" stroke-width=\"154\">" circle(71000, at_y_now * 100, 550, greys[2]) "</g>"
     else if (kind == "dot") print "<path d=\"M71000 " at_y_now * 100 "h0\" stroke=\"#333333\" stroke-width=\"440\" stroke-linecap=\"round\"/>"
     else if (kind == "left") mark_left(71000, at_y_now * 100)
+    else if (kind == "stood") print "<path d=\"M71000 " at_y_now * 100 "m0 -800v1600\" stroke=\"#333333\" stroke-width=\"160\"/>"
+    else if (kind == "sweep") print "<path d=\"M69500 " at_y_now * 100 "q1500 -900 3000 0\" stroke=\"#333333\" stroke-width=\"180\"/><path d=\"M72500 " at_y_now * 100 "l-860 -80l320 -560z\" fill=\"#333333\"/>"
     else if (kind == "start") mark_start(71000, at_y_now * 100)
     else if (kind == "end") mark_end(71000, at_y_now * 100)
     else mark_origin(71000, at_y_now * 100)
     print "</g>"
+    entry(text)
+}
+
+function entry_turn(text) {
+    turn_arrow(71000, at_y_now * 100, 1)
     entry(text)
 }
 
@@ -155,6 +185,7 @@ function entry_figure(figure, text, style) {
 }
 
 function legend_speeds(    c, names) {
+    if (has_a && !(1 in used_colour) && !(2 in used_colour) && !(3 in used_colour) && !(4 in used_colour) && !(5 in used_colour)) return
     split("30 to 199;200 to 499;500 to 999;1,000 to 2,499;2,500 to 10,000", names, ";")
     at_y_now += 8
     write(690, at_y_now + 4, "speed, steps per second")
@@ -250,15 +281,25 @@ function decimal(digit, power,    text) {
 # The words below the plot, one line each: sizes, the deepest place, the height at the end, the surface, and the steps of a mm.
 function sizes() {
     words_y = 562
+    if (is_alone) {
+        sizes_alone()
+        return
+    }
     word("size in x: " said_with_unit(right - left, "x") ", in y: " said_with_unit(high - low, "y"))
     if (deepest < surface && !is_flat) word("deepest: " said_with_unit(surface - deepest, "z") " below the surface")
     if (!is_flat) word("end height: " said_with_unit(z, "z") (is_left ? ", tool left down" : ""))
     if (surface) word("surface " said_with_unit(surface < 0 ? -surface : surface, "z") (surface < 0 ? " below" : " above") " the start")
-    if (in_mm) word("steps per mm: " (per_x == per_y && per_y == per_z ? per_x : per_x ", " per_y ", " per_z))
+    if (in_mm) word("steps per mm: " (per_x == per_y && per_y == per_z ? per_x : per_x ", " per_y ", " per_z) (in_degrees && has_a ? "; per degree: " per["a"] : ""))
+}
+
+function sizes_alone() {
+    word("A from " said_a(lowest_a) " to " said_a(highest_a) (in_degrees ? "" : " steps") ", at the end " said_a(a))
+    word(counted(n_all_turns, "turn", "turns"))
+    if (in_degrees) word("steps per degree: " per["a"])
 }
 
 function word(text) {
-    write(200, words_y, text)
+    write(is_alone ? 20 : 200, words_y, text)
     words_y += 17
 }
 

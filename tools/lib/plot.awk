@@ -37,7 +37,7 @@ function colour(speed) { return speed < 200 ? 1 : speed < 500 ? 2 : speed < 1000
 function find_shades(    i, f, k, deep) {
     deep = surface - deepest
     for (i = 1; i <= n_made; i++) {
-        if (substr(made[i], 1, 3) == "go ") continue
+        if (made[i] ~ /^(go|turn) /) continue
         split(made[i], f, " ")
         if (f[1] == "cut" && slopes[i]) break
         if (!add_depth(surface - f[7])) break

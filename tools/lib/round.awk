@@ -8,7 +8,7 @@
 function round_begins() { is_round = is_closed = 0 }
 
 # Whether a pulse has no axis in common with the last one.
-function turns_round() { return is_round || !(dx && last_dx || dy && last_dy || dz && last_dz) }
+function turns_round() { return is_round || !(dx && last_dx || dy && last_dy || dz && last_dz || da && last_da) }
 
 # The direction changes here.
 function round_corner() {
@@ -53,9 +53,10 @@ function arc_from(circle,    u, v) {
     return (plane < 2 ? x - u : x) " " (plane == 0 ? y - v : plane == 2 ? y - u : y) " " (plane > 0 ? z - v : z) " " u " " v " " plane " " direction
 }
 
-# A circle has words of its own where they are short.
+# A circle and the A axis have words of their own where they are short.
 function why_refused(text, storing,    circle) {
     circle = circle_line(line_text[line], storing)
+    if (text == "3" && !storing && line_text[line] ~ /@0+8$/) return "A takes @07 first"
     if (text == "3" && is_arc(circle)) return "plane with an axis not set"
     if (text == "1" && !storing && is_arc(circle) && arc_fault(0, direction) ~ / the directions are /) return "wrong directions"
     return meaning(text, storing)

@@ -1,13 +1,19 @@
 # Steps and millimetres: how the picture and the table say a distance.
 #
-# Given: per_x, per_y and per_z, the steps of a millimetre on each axis; none of them if distances are said in steps.
+# Given: scale, the steps of a millimetre on x, y and z, and then of a degree of A if they are known; empty if distances are said in steps.
 
 BEGIN {
-    in_mm = per_x != ""
-    if (!in_mm) per_x = per_y = per_z = 1
+    in_mm = scale != ""
+    if (!in_mm) scale = "1 1 1"
+    split(scale, part, " ")
+    per_x = part[1]
+    per_y = part[2]
+    per_z = part[3]
     per["x"] = per_x + 0
     per["y"] = per_y + 0
     per["z"] = per_z + 0
+    in_degrees = 4 in part
+    if (in_degrees) per["a"] = part[4] + 0
     unit = in_mm ? "mm" : "steps"
 }
 

@@ -1,8 +1,9 @@
-# The lines of a program as a script for `calls` (trial/README.md) that stores them on a board. Behind lines.awk. -v axes=N: the axes, 1, 3
-# or 7; -v lines=FILE: gets `number text` of each line that is sent. Comments (#) and empty lines are passed over, and the last line may be
+# The lines of a program as a script for `calls` (trial/README.md) that stores them on a board. Behind lines.awk. -v axes=N: the axes, 1, 3,
+# 7, 8 or 15; -v lines=FILE: gets `number text` of each line that is sent. Comments (#) and empty lines are passed over, and the last line may be
 # the end line. What is no line of a program goes to the file `faults`, behind the environment's NAME; the status is 3 then.
 BEGIN {
-    send("@0" axes)
+    if (axes == 15) send("@07")
+    send(axes == 15 ? "@08" : "@0" axes)
     send("@0i")
 }
 END {

@@ -1,7 +1,7 @@
-# What a board holds of a program that was sent to it for storing: awk -f replies.awk -f circles.awk -f fault.awk -f stored.awk STREAM.
-# STREAM is what `calls` printed of the script that store.awk made, -v lines=FILE the lines that it sent. Prints the program as a join is asked (trial/README.md, ask):
-# bytes in use, records, axes, and the bytes in hexadecimal digits. What was refused goes to the file `faults`, behind the environment's NAME;
-# the status is 4 then, and 5 if `calls` gave no answer.
+# What a board holds of a program that was sent to it for storing: awk -f state.awk -f replies.awk -f circles.awk -f fault.awk
+# -f stored.awk STREAM. STREAM is what `calls` printed of the script that store.awk made, -v lines=FILE the lines that it sent. Prints the
+# program as a join is asked (trial/README.md, ask): bytes in use, records, axes, and the bytes in hexadecimal digits. What was refused goes to
+# the file `faults`, behind the environment's NAME; the status is 4 then, and 5 if `calls` gave no answer.
 BEGIN {
     for (i = 1; i < 128; i++) byte[sprintf("%c", i)] = sprintf("%02x", i)
     while ((getline line <lines) > 0) text[line + 0] = substr(line, index(line, " ") + 1)
@@ -10,9 +10,9 @@ BEGIN {
 $1 == "N" { current = $2 }
 $1 == "B" && $2 != "-" && current != "" { reply($2) }
 $1 == "S" {
-    used = $17
-    records = $19
-    axes = $21
+    used = $behind("used")
+    records = $behind("records")
+    axes = $behind("store_axes")
 }
 $1 == "L" && $2 != "9" { bytes = bytes encoded($2) }
 END {

@@ -1,9 +1,10 @@
-# What the board did, for a person, under each line of the file that it answers, behind replies.awk, circles.awk and fault.awk:
-# awk .. -f told.awk LINES STREAM. LINES is what sent.awk wrote of the file, STREAM what `calls` printed. -v scale="x y z": the steps of a mm on
-# each axis, or empty; -v pulses=1 shows every pulse.
+# What the board did, for a person, under each line of the file that it answers, behind state.awk, replies.awk, turns.awk, circles.awk and
+# fault.awk: awk .. -f told.awk LINES STREAM. LINES is what sent.awk wrote of the file, STREAM what `calls` printed. -v scale="x y z a": the
+# steps of a mm on each axis and of a degree, without a or empty; -v pulses=1 shows every pulse.
 BEGIN {
     split(scale, per, " ")
-    split("x y z", axis, " ")
+    split("x y z a", axis, " ")
+    axes = 0
     job = "Idle"
 }
 
@@ -20,7 +21,7 @@ $1 == "N" { mark($2) }
 $1 == "B" && $2 != "-" { reply(substr($0, 3)) }
 $1 == "C" && $2 == "Pulse" { held = $3; rate = $4 }
 $1 == "C" && $2 != "Pulse" { answer = $2; value = $3 }
-$1 == "T" { told($3, $5, $7, $9 " " $10 " " $11) }
+$1 == "T" { told($3, $5, $7, $9 " " $10 " " $11 " " $12) }
 $1 == "Q" { unfinished = $2 == "more" }
 $1 == "L" { say("  " ($2 ~ /^(G|102|103|106)$/ ? "refused " : "") $2) }
 $1 == "S" { state() }
@@ -28,7 +29,7 @@ $1 == "S" { state() }
 END {
     mark("")
     if (unfinished) print "not over after 100,000 clock calls: no more is sent"
-    print "end: " place(at[1], at[2], at[3])
+    print "end: " place(at[1], at[2], at[3]) (is_turning(axes) ? turned(at[4]) : "")
 }
 
 # The next line of the file begins.
@@ -66,7 +67,7 @@ function say(words) {
 function reply(sent, words) {
     settle()
     words = sent
-    if (length(sent) == 19) words = sent "  " place(hex(substr(sent, 2, 6)), hex(substr(sent, 8, 6)), hex(substr(sent, 14, 6)))
+    if (length(sent) == 19 || length(sent) == 25) words = sent "  " positions(sent)
     else if (refuses(sent)) words = sent "  " reason(sent)
     else if (sent == "0" && storing && text[current] !~ /^9/) words = sent "  record " stored()
     if (headed) say(words)
@@ -90,6 +91,7 @@ function explain(sent, more) {
 
 function reason(sent, words) {
     words = circle_refused(sent, circle_line(text[current], storing), storing, plane, direction)
+    if (words == "") words = turn_refused(sent, text[current], storing, axes, store_axes)
     if (words != "") return words
     if (sent == "F") return text[current] ~ /^(break|byte 0*255)/ ? "ended" : "stopped, and stands"
     if (names_fault(sent)) return fails(sent)
@@ -103,22 +105,32 @@ function hex(digits, i, n) {
     return n > 8388607 ? n - 16777216 : n
 }
 
-# A place, or with signs a distance: each axis in steps, and in mm where their steps are known.
+# What P sends: x, y and z, and with four axes a. With A alone it does not say a.
+function positions(sent, words) {
+    words = place(hex(substr(sent, 2, 6)), hex(substr(sent, 8, 6)), hex(substr(sent, 14, 6)))
+    if (length(sent) == 25) return words turned(hex(substr(sent, 20, 6)))
+    return words (is_turning(axes) ? ", and not where a is" : "")
+}
+
+# A place, or with signs a distance: each axis in steps, and in mm or degrees where their steps are known.
 function place(x, y, z) {
     return "x " x mm(x, 1) ", y " y mm(y, 2) ", z " z mm(z, 3)
 }
+function turned(a) {
+    return ", a " a mm(a, 4)
+}
 function mm(n, i, shown) {
-    if (scale == "" || n == 0) return ""
+    if (per[i] == "" || n == 0) return ""
     shown = sprintf("%.3f", n / per[i] + (n > 0 ? 1e-9 : -1e-9))
     sub(/0+$/, "", shown)
     sub(/\.$/, "", shown)
-    return " (" shown " mm)"
+    return " (" shown (i == 4 ? " degrees)" : " mm)")
 }
 
 # The pulse that waits is made. A movement that was held goes on with it.
 function step(i, sign) {
     if (open == 2) open = 1
-    for (i = 1; i <= 3; i++) {
+    for (i = 1; i <= 4; i++) {
         sign = substr(held, i, 1)
         sign = sign == "+" ? 1 : sign == "-" ? -1 : 0
         way[i] += sign
@@ -128,7 +140,7 @@ function step(i, sign) {
     if (pulses) {
         if (!named) under(movement(what, pass, pass) ":")
         named = 1
-        print "          " held " " rate
+        print "          " substr(held, 1, is_turning(axes) ? 4 : 3) " " rate
     }
     speed = rate
     held = ""
@@ -177,7 +189,7 @@ function begin(from) {
 # A phase of the movement is over, or as much of it as was made under this line. A circle is one phase.
 function phase(i, words, is_back) {
     if (made == 0) return
-    for (i = 1; i <= 3; i++) {
+    for (i = 1; i <= 4; i++) {
         if (way[i] != 0) words = words (words == "" ? "" : ", ") axis[i] " " (way[i] > 0 ? "+" : "") way[i] mm(way[i], i)
         way[i] = 0
     }
@@ -283,15 +295,19 @@ function ending(was, from, words) {
 }
 
 # The state behind a line.
-function state() {
+function state(i, p) {
     settle()
-    for (i = 1; i <= 3; i++) at[i] = $(4 + i)
-    home = $9 " " $10 " " $11
-    works($23)
-    standing = $25
-    records = $19
-    plane = $29
-    direction = $31
+    axes = $behind("axes") + 0
+    store_axes = $behind("store_axes") + 0
+    p = behind("position")
+    for (i = 1; i <= 4; i++) at[i] = $(p + i - 1)
+    p = behind("origin")
+    home = $p " " $(p + 1) " " $(p + 2) " " $(p + 3)
+    works($behind("job"))
+    standing = $behind("standing")
+    records = $behind("records")
+    plane = $behind("plane")
+    direction = $behind("direction")
     if (text[current] ~ /^clock/ && !headed) say("nothing to do")
     if (job == "Wait") say("it waits for a character")
     if (running() && text[current] ~ /^clock/) say("it is still running")

@@ -68,23 +68,23 @@ fn show_refused(b: u8) {
     io::write_all(STDOUT_FILENO, &bytes);
 }
 
-pub(crate) fn show_arc(words: [u32; 18]) {
-    let at = point(words[3], words[4], words[5]);
-    let plane = circle::plane_of(words[6]);
-    let direction = circle::direction_of(words[7]);
+pub(crate) fn show_arc(words: [u32; 20]) {
+    let at = point(words[3], words[4], words[5], words[6]);
+    let plane = circle::plane_of(words[7]);
+    let direction = circle::direction_of(words[8]);
     let given = [
-        words[9],
-        words[10],
         words[11],
         words[12],
         words[13],
         words[14],
         words[15],
         words[16],
+        words[17],
+        words[18],
     ];
     let bent = circle::bend(narrow(words[0]), Circling { plane, direction }, at, given);
     match bent {
-        Bent::Going(a) => show_going(a, at, words[17]),
+        Bent::Going(a) => show_going(a, at, words[19]),
         Bent::Refused(b) => show_refused(b),
     }
 }

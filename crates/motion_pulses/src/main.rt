@@ -26,11 +26,12 @@ fn counted(w: u32) -> u32 {
     }
 }
 
-fn point(x: u32, y: u32, z: u32) -> Counters {
+fn point(x: u32, y: u32, z: u32, a: u32) -> Counters {
     Counters {
         x: counted(x),
         y: counted(y),
         z: counted(z),
+        a: counted(a),
     }
 }
 
@@ -60,6 +61,7 @@ fn show_point(c: Counters) {
     show_count(c.x);
     show_count(c.y);
     show_count(c.z);
+    show_count(c.a);
     io::write_all(STDOUT_FILENO, b"\n");
 }
 
@@ -67,7 +69,16 @@ fn show_signs(signs: Signs, speed: u16) {
     let x = signs.x;
     let y = signs.y;
     let z = signs.z;
-    let bytes = [80, 32, sign_byte(x), sign_byte(y), sign_byte(z), 32];
+    let a = signs.a;
+    let bytes = [
+        80,
+        32,
+        sign_byte(x),
+        sign_byte(y),
+        sign_byte(z),
+        sign_byte(a),
+        32,
+    ];
     io::write_all(STDOUT_FILENO, &bytes);
     show_number(speed as u32);
     io::write_all(STDOUT_FILENO, b"\n");
@@ -84,6 +95,7 @@ fn beside_of(at: Counters) -> Counters {
         x: at.x,
         y: at.y ^ 1,
         z: at.z,
+        a: at.a,
     }
 }
 
@@ -133,18 +145,18 @@ fn run(start: Move, from: Counters, few: u32) {
     show_point(m.resting());
 }
 
-fn show_straight(words: [u32; 18]) {
-    let at = point(words[3], words[4], words[5]);
-    let origin = point(words[6], words[7], words[8]);
+fn show_straight(words: [u32; 20]) {
+    let at = point(words[3], words[4], words[5], words[6]);
+    let origin = point(words[7], words[8], words[9], words[10]);
     let given = [
-        words[9],
-        words[10],
         words[11],
         words[12],
         words[13],
         words[14],
         words[15],
         words[16],
+        words[17],
+        words[18],
     ];
     let planned = motion::plan(
         narrow(words[0]),
@@ -162,10 +174,10 @@ fn show_straight(words: [u32; 18]) {
     show_number(m.left());
     io::write_all(STDOUT_FILENO, b"\n");
     show_sound(m, at);
-    run(m, at, words[17]);
+    run(m, at, words[19]);
 }
 
-fn show(words: [u32; 18]) {
+fn show(words: [u32; 20]) {
     if words[2] == 2 {
         show_arc(words);
     } else {
@@ -174,7 +186,7 @@ fn show(words: [u32; 18]) {
 }
 
 fn show_all(text: &[u8]) {
-    let mut words: [u32; 18] = [0; 18];
+    let mut words: [u32; 20] = [0; 20];
     let first = reader::next_number(text, 0);
     let mut left = first.word;
     let mut at = first.at;

@@ -6,7 +6,7 @@ use Rattle.motion_pulses.proofs.show_all.Statement.{statement}
 use Rattle.motion_pulses.proofs.show_all.Tie as tie
 
 abbrev Inv-loop : tie.InvT-loop
-Inv-loop text words₀ left₀ at₀ words left at = length words ≡ 18
+Inv-loop text words₀ left₀ at₀ words left at = length words ≡ 20
 
 abbrev μ-loop : tie.MeasureT-loop
 μ-loop text words₀ left₀ at₀ words left at = left

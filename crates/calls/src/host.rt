@@ -63,6 +63,7 @@ pub(crate) fn word_of(w: u64) -> u32 {
     if w < 4294967296 { w as u32 } else { 4294967295 }
 }
 
+// Whether a name's last byte is x, y, z or a: the names of points end so, and no others do.
 fn is_axis(axis: u64) -> bool {
     (axis == 97) | ((120 <= axis) & (axis <= 122))
 }

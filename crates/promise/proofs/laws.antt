@@ -18,10 +18,13 @@ pub mod Gathering
 pub mod Guard
 pub mod KeepsAlways
 pub mod KeepsArcs
+pub mod Axed
 pub mod KeepsAxes
 pub mod KeepsCalls
 pub mod KeepsChain
 pub mod KeepsCircles
+pub mod Turned
+pub mod KeepsTurntable
 pub mod KeepsCircling
 pub mod KeepsEnd
 pub mod KeepsEvents

@@ -61,7 +61,7 @@ pointOf a b = onPlane (a .circling .plane) (b .engine .at)
 abbrev pub moveAt : Arc → Board → Ways
 moveAt a b = moveOf (startValue a) (a .centre) (pointOf a b) (waysAt (a .circling .direction) (a .centre) (pointOf a b))
 
--- on the three axes: the third rests
+-- on the axes: the others rest, and A always
 abbrev pub signsAt : Arc → Board → Signs
 signsAt a b = onAxes (a .circling .plane) (moveAt a b)
 
@@ -100,9 +100,9 @@ arcOf b =
     let l = lineOf b .words in
     arcFrom (circlingOf b) (centreOf (onPlane (circlingOf b .plane) (b .engine .at)) (startOf l)) (startOf l) l
 
--- a pulse with its three signs at speed 600
+-- a pulse with the signs of x, y and z at speed 600; A rests
 abbrev pub shows : ℤ → ℤ → ℤ → Paper
-shows x y z = says 1 (x ∷ y ∷ z ∷ pos 600 ∷ [])
+shows x y z = says 1 (x ∷ y ∷ z ∷ pos 0 ∷ pos 600 ∷ [])
 
 module _ (m : Machine) where
   -- bytes one after the other with input ports 0, the memory handed on, and the answers of so many clock calls
@@ -141,8 +141,8 @@ module _ (m : Machine) where
     pub direction : (ports : List ℕ) (l : Lent) (s : m .State) → Typed (ch "f") (m .board s)
         → hears m (ch "\r") ports l s .refusal ≡ 0 → replied (hears m (ch "\r") ports l s) ≡ ch "0" ∷ []
         → circlingOf (boardThen m (ch "\r") ports l s) ≡ circling (circlingOf (m .board s) .plane) (directionOf (getD (lineOf (m .board s) .words) 0 0))
-    -- setting axes or reset gives plane 0, clockwise
-    pub axes : (ports : List ℕ) (l : Lent) (s : m .State) → Typed (ch "0") (m .board s)
+    -- setting axes 1, 3 or 7, or reset, gives plane 0, clockwise; 8 keeps them (see `Turntable.antt`)
+    pub axes : (ports : List ℕ) (l : Lent) (s : m .State) → Typed (ch "0") (m .board s) → (getD (lineOf (m .board s) .words) 0 0 ≡ 8 → ⊥)
         → hears m (ch "\r") ports l s .refusal ≡ 0 → replied (hears m (ch "\r") ports l s) ≡ ch "0" ∷ []
         → circlingOf (boardThen m (ch "\r") ports l s) ≡ atFirst
     pub reset : (ports : List ℕ) (l : Lent) (s : m .State) → hears m resetCode ports l s .refusal ≡ 0

@@ -8,6 +8,7 @@ use Rattle.promise.specs.Demands.{RefusedLine, AcceptedLine, SilentRetur
 use Rattle.promise.specs.Follows.{Follows}
 use Rattle.promise.specs.Named.{EndNames, AcceptedExactly}
 use Rattle.promise.specs.Circles.{CirclesRequested}
+use Rattle.promise.specs.Turntable.{TurntableRequested, TurntablePrinted}
 use Rattle.promise.specs.Spaces.{SpacesChangeNothing}
 use Rattle.promise.specs.Route.{Routes, StartRoutes}
 use Rattle.promise.specs.Three.{DemandThree}
@@ -46,5 +47,8 @@ pub record Requested (m : Machine) : Type 0 where
   pub accepted-exactly : (h : Held) (store : List ℕ) → AcceptedExactly h store
   -- §3: circles
   pub circles : CirclesRequested m
+  -- §7: turntables
+  pub turntable : TurntableRequested m
+  pub printed : TurntablePrinted
   -- §8: lines that differ only in the spaces after their commas
   pub spaces : SpacesChangeNothing m

@@ -7,11 +7,14 @@ use lib.Dec.{eqb}
 use lib.IntN.{ℤ, pos, _+ℤ_}
 use lib.ListN.{length, getD, take, drop}
 use Rattle.count.specs.Sizes.{storeBytes, replyBytes, textBytes}
-use Rattle.count.specs.Chars.{ch}
+use Rattle.count.specs.Chars.{ch, codes}
 use Rattle.count.specs.Pick.{pick}
 use Rattle.count.specs.Numbers.{value}
 use Rattle.count.specs.Paper.{Paper, says}
-use Rattle.motion.specs.declared.Counters.{Counters}
+use Rattle.count.specs.declared.Axis.{Axis}
+use Rattle.count.specs.declared.Axis.the-variants.{X, Y, Z, A}
+use Rattle.count.specs.Axes.{has}
+use Rattle.motion.specs.Axes.{on}
 use Rattle.line.specs.declared.Direct.{Direct}
 use Rattle.line.specs.Lines.{letterPaper, directOf}
 use Rattle.record.specs.declared.Held.{Held}
@@ -20,7 +23,6 @@ use Rattle.record.specs.Places.{inUse}
 use Rattle.record.specs.Bytes.{Below}
 use Rattle.program.specs.Program.{verdictOf, accepted}
 use Rattle.engine.specs.declared.Job.{Job}
-use Rattle.count.specs.Ranges.{names}
 use Rattle.engine.specs.Kinds.{kind, rowOf}
 use Rattle.engine.specs.State.{ceased, emptied}
 use Rattle.board.specs.declared.Board.{Board}
@@ -105,12 +107,12 @@ module _ (m : Machine) where
       → hears (ch "\r") ports l s .refusal ≡ 0 → replied (hears (ch "\r") ports l s) ≡ c ∷ t → (c ≡ ch "0" → ⊥)
       → Untouched (m .board s) (boardThen (ch "\r") ports l s) l (hears (ch "\r") ports l s .after) c t
 
-  -- a reply that begins with 0 has 1, 3 or 19 bytes
+  -- a reply that begins with 0 has 1, 3 or 19 bytes, with four axes also 25
   abbrev pub AcceptedLine : Type 0
   AcceptedLine =
       (v : ℕ) (ports : List ℕ) (l : Lent) (s : m .State) (t : List ℕ)
       → hears v ports l s .refusal ≡ 0 → replied (hears v ports l s) ≡ ch "0" ∷ t
-      → eqb (hears v ports l s .len) 1 || eqb (hears v ports l s .len) 3 || eqb (hears v ports l s .len) 19 ≡ true
+      → eqb (hears v ports l s .len) 1 || eqb (hears v ports l s .len) 3 || eqb (hears v ports l s .len) 19 || eqb (hears v ports l s .len) 25 ≡ true
 
   abbrev pub SilentReturn : Type 0
   SilentReturn =
@@ -136,38 +138,26 @@ module _ (m : Machine) where
 
 -- ---- demand 2: a position is the sum of that axis's pulses since it was last set to zero
 
-pub data Axis : Type 0 where
-  X : Axis
-  Y : Axis
-  Z : Axis
-
-abbrev pub counterOf : Axis → Counters → ℕ
-counterOf X c = c .x
-counterOf Y c = c .y
-counterOf Z c = c .z
-
 -- a position in ℤ
 abbrev pub position : Axis → Board → ℤ
-position a b = value (counterOf a (b .engine .at))
+position a b = value (on a (b .engine .at))
 
--- an axis is 1, 2 or 4 of an axes number, and the first, second or third value of a pulse
-abbrev pub part : Axis → ℕ
-part X = 1
-part Y = 2
-part Z = 4
-
+-- an axis is the first, second, third or fourth value of a pulse
 abbrev pub place : Axis → ℕ
 place X = 0
 place Y = 1
 place Z = 2
+place A = 3
 
 -- what an answer adds: a pulse (number 1) its sign on the axis, any other answer nothing
 unfoldable pub adds : Axis → Paper → ℤ
 adds a p = pick (eqb (p .number) 1) (getD (p .values) (place a) (pos 0)) (pos 0)
 
--- the axes line, or N with that axis in its number
+-- the axes line, but 8 zeroes A alone (02, §7); or N with that axis in its number
 unfoldable pub zeroLine : Axis → Direct → Bool
-zeroLine a d = eqb (letterPaper (d .letter) .number) (ch "0") || (eqb (letterPaper (d .letter) .number) (ch "N") && names (getD (d .words) 0 0) (part a))
+zeroLine a d =
+    (eqb (letterPaper (d .letter) .number) (ch "0") && (not (eqb (getD (d .words) 0 0) 8) || has (getD (d .words) 0 0) a))
+    || (eqb (letterPaper (d .letter) .number) (ch "N") && has (getD (d .words) 0 0) a)
 
 -- a byte sets an axis to zero: a call that is not refused, and reset; or the return of such a line on a board that is idle, answered 0
 unfoldable pub zeroes : Axis → ℕ → Board → Heard → Bool
@@ -231,9 +221,12 @@ pub record Host : Type 0 where
   pub calls : ℕ → ℕ
   pub room : (i : ℕ) → replyBytes ≤ length (reply i)
 
--- the axes line, the line `i`, and the lines of a listing
+-- the axes line, for four axes two of them; the line `i`; and the lines of a listing
+abbrev pub axesLines : ℕ → List ℕ
+axesLines axes = pick (eqb axes 15) (codes "@07\r@08\r") (ch "@" ∷ ch "0" ∷ (ch "0" + axes) ∷ ch "\r" ∷ [])
+
 abbrev pub storingText : ℕ → List ℕ → List ℕ
-storingText axes lines = ch "@" ∷ ch "0" ∷ (ch "0" + axes) ∷ ch "\r" ∷ ch "@" ∷ ch "0" ∷ ch "i" ∷ ch "\r" ∷ lines
+storingText axes lines = axesLines axes ++ (codes "@0i\r" ++ lines)
 
 -- each return is answered 0, and no other byte is answered
 abbrev pub zeroAtReturns : List ℕ → List (List ℕ)

@@ -133,7 +133,7 @@ spoils f = sinceStop (λ b. b) f
 
 -- they are slower, at speed 30
 abbrev pub slowed : Paper → Paper
-slowed a = pick (eqb (a .number) 1) (says 1 (take 3 (a .values) ++ (pos 30 ∷ []))) a
+slowed a = pick (eqb (a .number) 1) (says 1 (take 4 (a .values) ++ (pos 30 ∷ []))) a
 
 abbrev pub slows : Machine
 slows = spoils slowed

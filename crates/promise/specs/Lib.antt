@@ -12,6 +12,7 @@ pub mod Route
 pub mod Table
 pub mod Twelve
 pub mod Circles
+pub mod Turntable
 pub mod Demanded
 pub mod Fakes
 pub mod FakesStore

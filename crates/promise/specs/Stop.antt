@@ -103,10 +103,10 @@ abbrev pub spoken : Paper → List Paper
 spoken a = pick (eqb (a .number) 5) [] (a ∷ [])
 
 abbrev pub unsped : Paper → Paper
-unsped a = pick (eqb (a .number) 1) (says 1 (take 3 (a .values))) a
+unsped a = pick (eqb (a .number) 1) (says 1 (take 4 (a .values))) a
 
 abbrev pub speedOf : Paper → List ℤ
-speedOf a = pick (eqb (a .number) 1) (drop 3 (a .values)) []
+speedOf a = pick (eqb (a .number) 1) (drop 4 (a .values)) []
 
 abbrev pub speedsOf : List Paper → List ℤ
 speedsOf [] = []

@@ -65,7 +65,7 @@ ticks (suc k) h =
 
 -- a pulse with the signs of x and y, a record done, and a byte sent
 abbrev pub pulse : ℤ → ℤ → Paper
-pulse x y = says 1 (x ∷ y ∷ pos 0 ∷ pos 600 ∷ [])
+pulse x y = says 1 (x ∷ y ∷ pos 0 ∷ pos 0 ∷ pos 600 ∷ [])
 
 abbrev pub done : Paper
 done = says 4 []
@@ -80,7 +80,7 @@ times (suc n) p q = p ∷ q ∷ times n p q
 
 -- a fresh board, set to axes 1, where x stands at a count, and at a number
 abbrev pub standsOn : ℕ → Board
-standsOn c = board (record { axes = 1; at = record { x = c; y = half; z = half }; origin = zeroes; three = false; circling = atFirst; output = 0; held = nothingHeld; run = idle }) false noLine
+standsOn c = board (record { axes = 1; at = record { x = c; y = half; z = half; a = half }; origin = zeroes; three = false; circling = atFirst; output = 0; held = nothingHeld; run = idle }) false noLine
 
 abbrev pub standsAt : ℤ → Board
 standsAt z = standsOn (count z)

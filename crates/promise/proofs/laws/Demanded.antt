@@ -9,6 +9,7 @@ use Rattle.promise.proofs.laws.KeepsEvents.{keeps-sum-of-pulses}
 use Rattle.promise.proofs.laws.KeepsEnd.{keeps-end-accepts, stored-then-listed}
 use Rattle.promise.proofs.laws.KeepsTrip.{keeps-round-trip}
 use Rattle.promise.proofs.laws.KeepsNamed.{keeps-end-names, accepted-exactly}
+use Rattle.promise.proofs.laws.KeepsTurntable.{ours-turntable, turntable-printed}
 use Rattle.promise.proofs.laws.KeepsCircles.{ours-circles}
 use Rattle.promise.proofs.laws.KeepsSpaces.{keeps-spaces}
 use Rattle.promise.proofs.laws.RouteStart.{ours-start-routes}
@@ -37,4 +38,4 @@ pub ours-demanded : Demanded ours
 ours-demanded = record { demand-1 = ours-demand-1; demand-2 = ours-demand-2; demand-3 = ours-demand-3 }
 
 pub ours-requested : Requested ours
-ours-requested = record { end-names = keeps-end-names; accepted-exactly = accepted-exactly; circles = ours-circles; spaces = keeps-spaces }
+ours-requested = record { end-names = keeps-end-names; accepted-exactly = accepted-exactly; circles = ours-circles; turntable = ours-turntable; printed = turntable-printed; spaces = keeps-spaces }

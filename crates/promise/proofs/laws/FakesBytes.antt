@@ -12,7 +12,7 @@ use Rattle.count.specs.Ranges.{inSpeed, inOffset, inBack, inLoop, inDelay, inCh
 use Rattle.count.specs.Text.{hexDigit, hexes, twos24, report, twoHex, decimal, digits, shown}
 use Rattle.motion.specs.Next.{fromOf, toOf, speedAt, skipped, nextBy, pulseOf as straightPulse, afterOf, leftOf as straightLeft}
 use Rattle.motion.specs.Phase.{pulses, steps, signAt, countAfter}
-use Rattle.motion.specs.Plan.{goal, goalX, goalY, goalZ1, goalZ2, firstSpeed, laterSpeed, route, goingTo, planOf as straightPlan}
+use Rattle.motion.specs.Plan.{goal, goalOf, goalZ2, firstSpeed, laterSpeed, route, goingTo, planOf as straightPlan}
 use Rattle.motion.specs.Sound.{counted, inRange, underWay as straightUnderWay}
 use Rattle.travel.specs.Next.{pulseOf, leftOf}
 use Rattle.travel.specs.Plan.{planOf}
@@ -76,14 +76,14 @@ written-below =
     (c 0 _ (omega arith) (c 0 _ (omega arith) (c 0 _ (omega arith) (zeros-below 16376))))))))
 
 accepts : accepted (losesBytes .board (afterAll losesBytes events (losesBytes .first)) .engine .held) written ≡ true
-unfolding afterAll passes accepted sized within in24 signed word placed added inSpeed inOffset inBack inLoop inDelay inCharacter inSwitch inPort inByte inZero rightCount rightZ2 rightDistances rightSpeeds hexDigit hexes twos24 report twoHex decimal digits shown fromOf toOf speedAt skipped nextBy pulseOf straightPulse afterOf leftOf straightLeft pulses steps signAt countAfter goal goalX goalY goalZ1 goalZ2 firstSpeed laterSpeed route goingTo planOf straightPlan counted inRange underWay straightUnderWay behind letterOf afterAddress directOf codeOf storedOf digitsBehind digitsOf numberOf parted itemsOf numbersOf bytes4 numBytes encode wordAt wordsOf front isCode countRight axesRight loopRight rangesRight speedsRight faultOf hasRoom storeOf recordAt spotOf fetchOf recordsFrom recordsOf holds share around crosses early overlaps holders outside strays letter checked inside again opens looped aimed onwardOf checkOf verdictOf soundOf mixed resetOf heard beginOf performed ticked runsOf receiving clocking first replyOf directSaid earOf returned gathering stopped broken resetSaid hearing gathered sound recordReply storedSaid
+unfolding afterAll passes accepted sized within in24 signed word placed added inSpeed inOffset inBack inLoop inDelay inCharacter inSwitch inPort inByte inZero rightCount rightZ2 rightDistances rightSpeeds hexDigit hexes twos24 report twoHex decimal digits shown fromOf toOf speedAt skipped nextBy pulseOf straightPulse afterOf leftOf straightLeft pulses steps signAt countAfter goal goalOf goalZ2 firstSpeed laterSpeed route goingTo planOf straightPlan counted inRange underWay straightUnderWay behind letterOf afterAddress directOf codeOf storedOf digitsBehind digitsOf numberOf parted itemsOf numbersOf bytes4 numBytes encode wordAt wordsOf front isCode countRight axesRight loopRight rangesRight speedsRight faultOf hasRoom storeOf recordAt spotOf fetchOf recordsFrom recordsOf holds share around crosses early overlaps holders outside strays letter checked inside again opens looped aimed onwardOf checkOf verdictOf soundOf mixed resetOf heard beginOf performed ticked runsOf receiving clocking first replyOf directSaid earOf returned gathering stopped broken resetSaid hearing gathered sound recordReply storedSaid
 accepts = refl
 
 room : 32768 ≤ length page
 room = leb-true 32768 (length page) refl
 
 pub losesBytes-fails : Demanded losesBytes → ⊥
-unfolding afterAll sent ticks listing listOf more numbersText lineText listText within in24 signed word placed added inSpeed inOffset inBack inLoop inDelay inCharacter inSwitch inPort inByte inZero rightCount rightZ2 rightDistances rightSpeeds hexDigit hexes twos24 report twoHex decimal digits shown fromOf toOf speedAt skipped nextBy pulseOf straightPulse afterOf leftOf straightLeft pulses steps signAt countAfter goal goalX goalY goalZ1 goalZ2 firstSpeed laterSpeed route goingTo planOf straightPlan counted inRange underWay straightUnderWay behind letterOf afterAddress directOf codeOf storedOf digitsBehind digitsOf numberOf parted itemsOf numbersOf bytes4 numBytes encode wordAt wordsOf front isCode countRight axesRight loopRight rangesRight speedsRight faultOf hasRoom storeOf recordAt spotOf fetchOf recordsFrom recordsOf holds share around crosses early overlaps holders outside strays letter checked inside again opens looped aimed onwardOf checkOf verdictOf soundOf mixed resetOf heard beginOf performed ticked runsOf receiving clocking first replyOf directSaid earOf returned gathering stopped broken resetSaid hearing gathered sound recordReply storedSaid
+unfolding afterAll sent ticks listing listOf more numbersText lineText listText within in24 signed word placed added inSpeed inOffset inBack inLoop inDelay inCharacter inSwitch inPort inByte inZero rightCount rightZ2 rightDistances rightSpeeds hexDigit hexes twos24 report twoHex decimal digits shown fromOf toOf speedAt skipped nextBy pulseOf straightPulse afterOf leftOf straightLeft pulses steps signAt countAfter goal goalOf goalZ2 firstSpeed laterSpeed route goingTo planOf straightPlan counted inRange underWay straightUnderWay behind letterOf afterAddress directOf codeOf storedOf digitsBehind digitsOf numberOf parted itemsOf numbersOf bytes4 numBytes encode wordAt wordsOf front isCode countRight axesRight loopRight rangesRight speedsRight faultOf hasRoom storeOf recordAt spotOf fetchOf recordsFrom recordsOf holds share around crosses early overlaps holders outside strays letter checked inside again opens looped aimed onwardOf checkOf verdictOf soundOf mixed resetOf heard beginOf performed ticked runsOf receiving clocking first replyOf directSaid earOf returned gathering stopped broken resetSaid hearing gathered sound recordReply storedSaid
 losesBytes-fails d =
     let r : ListedAgain losesBytes written page noMemory host (afterAll losesBytes events (losesBytes .first)) =
     d .demand-2 .round-trip events written page noMemory host refl written-below accepts room (refl, refl) (zeros-below 16384) in

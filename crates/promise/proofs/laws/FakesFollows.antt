@@ -9,7 +9,7 @@ use Rattle.count.specs.Chars.{codes}
 use Rattle.count.specs.Numbers.{within, in24, signed, word, placed, added}
 use Rattle.count.specs.Ranges.{inSpeed, rightCount, rightZ2, rightDistances, rightSpeeds}
 use Rattle.motion.specs.Phase.{pulses, steps, countAfter, signAt}
-use Rattle.motion.specs.Plan.{goal, goalX, goalY, goalZ1, goalZ2, firstSpeed, laterSpeed, route, goingTo, planOf as straightPlan}
+use Rattle.motion.specs.Plan.{goal, goalOf, goalZ2, firstSpeed, laterSpeed, route, goingTo, planOf as straightPlan}
 use Rattle.motion.specs.Next.{fromOf, toOf, leftOf as straightLeft, afterOf, pulseOf as straightPulse, nextBy, skipped, speedAt}
 use Rattle.motion.specs.Sound.{counted, inRange, underWay as straightUnderWay}
 use Rattle.circle.specs.Plan.{atFirst}
@@ -37,21 +37,21 @@ use Rattle.promise.proofs.laws.FakesTyped.{lent0, typed}
 
 -- `@0k` is accepted with 0, and it answers 5
 pub refuses-fails : Demanded refuses → ⊥
-unfolding afterAll receiving sound soundOf counted inRange underWay straightUnderWay hearing stopped earOf gathering gathered returned directSaid replyOf first directOf afterAddress letterOf behind digitsBehind digitsOf numberOf parted itemsOf numbersOf within in24 signed word placed added inSpeed rightCount rightZ2 rightDistances rightSpeeds pulses steps countAfter goal goalX goalY goalZ1 goalZ2 firstSpeed laterSpeed route goingTo planOf straightPlan fromOf toOf leftOf straightLeft afterOf countRight axesRight rangesRight speedsRight beginOf
+unfolding afterAll receiving sound soundOf counted inRange underWay straightUnderWay hearing stopped earOf gathering gathered returned directSaid replyOf first directOf afterAddress letterOf behind digitsBehind digitsOf numberOf parted itemsOf numbersOf within in24 signed word placed added inSpeed rightCount rightZ2 rightDistances rightSpeeds pulses steps countAfter goal goalOf goalZ2 firstSpeed laterSpeed route goingTo planOf straightPlan fromOf toOf leftOf straightLeft afterOf countRight axesRight rangesRight speedsRight beginOf
 refuses-fails d =
     eqb-false 53 48 refl
     (ap (λ (h : Heard). getD (h .after .reply) 0 0) (d .demand-2 .follows .hears 13 [] lent0 (afterAll refuses (typed (codes "@0k")) (refuses .first))))
 
 -- an empty line is refused 5, and it answers 0
 pub agrees-fails : Demanded agrees → ⊥
-unfolding afterAll receiving sound soundOf counted inRange underWay straightUnderWay hearing stopped earOf gathering gathered returned directSaid replyOf first directOf afterAddress letterOf behind digitsBehind digitsOf numberOf parted itemsOf numbersOf within in24 signed word placed added inSpeed rightCount rightZ2 rightDistances rightSpeeds pulses steps countAfter goal goalX goalY goalZ1 goalZ2 firstSpeed laterSpeed route goingTo planOf straightPlan fromOf toOf leftOf straightLeft afterOf countRight axesRight rangesRight speedsRight beginOf
+unfolding afterAll receiving sound soundOf counted inRange underWay straightUnderWay hearing stopped earOf gathering gathered returned directSaid replyOf first directOf afterAddress letterOf behind digitsBehind digitsOf numberOf parted itemsOf numbersOf within in24 signed word placed added inSpeed rightCount rightZ2 rightDistances rightSpeeds pulses steps countAfter goal goalOf goalZ2 firstSpeed laterSpeed route goingTo planOf straightPlan fromOf toOf leftOf straightLeft afterOf countRight axesRight rangesRight speedsRight beginOf
 agrees-fails d =
     eqb-false 48 53 refl
     (ap (λ (h : Heard). getD (h .after .reply) 0 0) (d .demand-2 .follows .hears 13 [] lent0 (afterAll agrees (typed (codes "")) (agrees .first))))
 
 -- in a movement of three steps a clock call makes a pulse, 1, and it answers nothing, 5
 pub sleeps-fails : Demanded sleeps → ⊥
-unfolding afterAll receiving sound soundOf counted inRange underWay straightUnderWay hearing stopped earOf gathering gathered returned directSaid replyOf first directOf afterAddress letterOf behind digitsBehind digitsOf numberOf parted itemsOf numbersOf within in24 signed word placed added inSpeed rightCount rightZ2 rightDistances rightSpeeds pulses steps countAfter goal goalX goalY goalZ1 goalZ2 firstSpeed laterSpeed route goingTo planOf straightPlan fromOf toOf leftOf straightLeft afterOf countRight axesRight rangesRight speedsRight beginOf clocking ticked pulseOf straightPulse nextBy skipped signAt speedAt
+unfolding afterAll receiving sound soundOf counted inRange underWay straightUnderWay hearing stopped earOf gathering gathered returned directSaid replyOf first directOf afterAddress letterOf behind digitsBehind digitsOf numberOf parted itemsOf numbersOf within in24 signed word placed added inSpeed rightCount rightZ2 rightDistances rightSpeeds pulses steps countAfter goal goalOf goalZ2 firstSpeed laterSpeed route goingTo planOf straightPlan fromOf toOf leftOf straightLeft afterOf countRight axesRight rangesRight speedsRight beginOf clocking ticked pulseOf straightPulse nextBy skipped signAt speedAt
 sleeps-fails d =
     eqb-false 5 1 refl
     (ap (λ (c : Clocked). c .answer .number) (d .demand-2 .follows .ticks noMemory (afterAll sleeps (typed (codes "@01\r@0A3,600\r")) (sleeps .first))))
@@ -61,5 +61,5 @@ abbrev odd : Board
 odd = board (record { axes = 2; at = zeroes; origin = zeroes; three = false; circling = atFirst; output = 0; held = nothingHeld; run = idle }) false noLine
 
 pub blind-fails : Demanded blind → ⊥
-unfolding receiving sound soundOf counted inRange underWay straightUnderWay hearing stopped earOf gathering gathered returned directSaid replyOf first directOf afterAddress letterOf behind digitsBehind digitsOf numberOf parted itemsOf numbersOf within in24 signed word placed added inSpeed rightCount rightZ2 rightDistances rightSpeeds pulses steps countAfter goal goalX goalY goalZ1 goalZ2 firstSpeed laterSpeed route goingTo planOf straightPlan fromOf toOf leftOf straightLeft afterOf countRight axesRight rangesRight speedsRight beginOf
+unfolding receiving sound soundOf counted inRange underWay straightUnderWay hearing stopped earOf gathering gathered returned directSaid replyOf first directOf afterAddress letterOf behind digitsBehind digitsOf numberOf parted itemsOf numbersOf within in24 signed word placed added inSpeed rightCount rightZ2 rightDistances rightSpeeds pulses steps countAfter goal goalOf goalZ2 firstSpeed laterSpeed route goingTo planOf straightPlan fromOf toOf leftOf straightLeft afterOf countRight axesRight rangesRight speedsRight beginOf
 blind-fails d = eqb-false 0 103 refl (ap (λ (h : Heard). h .refusal) (d .demand-2 .follows .hears 13 [] lent0 odd))

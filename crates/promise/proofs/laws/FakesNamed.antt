@@ -13,7 +13,7 @@ use Rattle.count.specs.Ranges.{inSpeed, inOffset, inBack, inLoop, inDelay, inCh
 use Rattle.count.specs.Text.{hexDigit, hexes, twos24, report, twoHex, decimal, digits, shown, decimals, fourDigits}
 use Rattle.motion.specs.Next.{fromOf, toOf, speedAt, skipped, nextBy, pulseOf as straightPulse, afterOf, leftOf as straightLeft}
 use Rattle.motion.specs.Phase.{pulses, steps, signAt, countAfter}
-use Rattle.motion.specs.Plan.{goal, goalX, goalY, goalZ1, goalZ2, firstSpeed, laterSpeed, route, goingTo, planOf as straightPlan}
+use Rattle.motion.specs.Plan.{goal, goalOf, goalZ2, firstSpeed, laterSpeed, route, goingTo, planOf as straightPlan}
 use Rattle.motion.specs.Sound.{counted, inRange, underWay as straightUnderWay}
 use Rattle.travel.specs.Next.{pulseOf, leftOf}
 use Rattle.travel.specs.Plan.{planOf}
@@ -72,7 +72,7 @@ abbrev items : List Record
 items = made 51 (0 ∷ 9 ∷ []) ∷ made 51 (0 ∷ 9 ∷ []) ∷ made 51 (1 ∷ 4294967294 ∷ []) ∷ []
 
 reads : recordsOf held3 stored ≡ are items
-unfolding within in24 signed word placed added inSpeed inOffset inBack inLoop inDelay inCharacter inSwitch inPort inByte inZero rightCount rightZ2 rightDistances rightSpeeds hexDigit hexes twos24 report twoHex decimal digits shown decimals fourDigits fromOf toOf speedAt skipped nextBy pulseOf straightPulse afterOf leftOf straightLeft pulses steps signAt countAfter goal goalX goalY goalZ1 goalZ2 firstSpeed laterSpeed route goingTo planOf straightPlan counted inRange underWay straightUnderWay behind letterOf afterAddress directOf codeOf storedOf digitsBehind digitsOf numberOf parted itemsOf numbersOf bytes4 numBytes encode wordAt wordsOf front isCode countRight axesRight loopRight rangesRight speedsRight faultOf hasRoom storeOf recordAt spotOf fetchOf recordsFrom recordsOf holds share around crosses early overlaps holders outside strays letter checked inside again opens looped aimed onwardOf checkOf verdictOf soundOf mixed resetOf heard beginOf performed ticked runsOf receiving clocking first replyOf directSaid earOf returned gathering stopped broken resetSaid hearing gathered sound recordReply storedSaid
+unfolding within in24 signed word placed added inSpeed inOffset inBack inLoop inDelay inCharacter inSwitch inPort inByte inZero rightCount rightZ2 rightDistances rightSpeeds hexDigit hexes twos24 report twoHex decimal digits shown decimals fourDigits fromOf toOf speedAt skipped nextBy pulseOf straightPulse afterOf leftOf straightLeft pulses steps signAt countAfter goal goalOf goalZ2 firstSpeed laterSpeed route goingTo planOf straightPlan counted inRange underWay straightUnderWay behind letterOf afterAddress directOf codeOf storedOf digitsBehind digitsOf numberOf parted itemsOf numbersOf bytes4 numBytes encode wordAt wordsOf front isCode countRight axesRight loopRight rangesRight speedsRight faultOf hasRoom storeOf recordAt spotOf fetchOf recordsFrom recordsOf holds share around crosses early overlaps holders outside strays letter checked inside again opens looped aimed onwardOf checkOf verdictOf soundOf mixed resetOf heard beginOf performed ticked runsOf receiving clocking first replyOf directSaid earOf returned gathering stopped broken resetSaid hearing gathered sound recordReply storedSaid
 reads = refl
 
 -- ---- what a reply of G says of a store that is readable
@@ -102,14 +102,14 @@ module _ (h : Held) (store : List ℕ) (l : List Record) (r : recordsOf h store 
 
 -- demand 1: at the end line the fault is named
 pub bare-fails : Demanded bare → ⊥
-unfolding afterAll endLine within in24 signed word placed added inSpeed inOffset inBack inLoop inDelay inCharacter inSwitch inPort inByte inZero rightCount rightZ2 rightDistances rightSpeeds hexDigit hexes twos24 report twoHex decimal digits shown decimals fourDigits fromOf toOf speedAt skipped nextBy pulseOf straightPulse afterOf leftOf straightLeft pulses steps signAt countAfter goal goalX goalY goalZ1 goalZ2 firstSpeed laterSpeed route goingTo planOf straightPlan counted inRange underWay straightUnderWay behind letterOf afterAddress directOf codeOf storedOf digitsBehind digitsOf numberOf parted itemsOf numbersOf bytes4 numBytes encode wordAt wordsOf front isCode countRight axesRight loopRight rangesRight speedsRight faultOf hasRoom storeOf recordAt spotOf fetchOf recordsFrom recordsOf holds share around crosses early overlaps holders outside strays letter checked inside again opens looped aimed onwardOf checkOf verdictOf soundOf mixed resetOf heard beginOf performed ticked runsOf receiving clocking first replyOf directSaid earOf returned gathering stopped broken resetSaid hearing gathered sound recordReply storedSaid
+unfolding afterAll endLine within in24 signed word placed added inSpeed inOffset inBack inLoop inDelay inCharacter inSwitch inPort inByte inZero rightCount rightZ2 rightDistances rightSpeeds hexDigit hexes twos24 report twoHex decimal digits shown decimals fourDigits fromOf toOf speedAt skipped nextBy pulseOf straightPulse afterOf leftOf straightLeft pulses steps signAt countAfter goal goalOf goalZ2 firstSpeed laterSpeed route goingTo planOf straightPlan counted inRange underWay straightUnderWay behind letterOf afterAddress directOf codeOf storedOf digitsBehind digitsOf numberOf parted itemsOf numbersOf bytes4 numBytes encode wordAt wordsOf front isCode countRight axesRight loopRight rangesRight speedsRight faultOf hasRoom storeOf recordAt spotOf fetchOf recordsFrom recordsOf holds share around crosses early overlaps holders outside strays letter checked inside again opens looped aimed onwardOf checkOf verdictOf soundOf mixed resetOf heard beginOf performed ticked runsOf receiving clocking first replyOf directSaid earOf returned gathering stopped broken resetSaid hearing gathered sound recordReply storedSaid
 bare-fails d =
     let u = d .demand-1 .refused-line [] (lent reply0 (withStore stored)) (reached bare) 71 [] refl refl (eqb-false 71 48 refl) in
     eqb-false 0 5 refl (ap length (u .named refl))
 
 -- 02 §1: a single G is an unreadable store's
 pub bare-requested-fails : Requested bare → ⊥
-unfolding afterAll endLine within in24 signed word placed added inSpeed inOffset inBack inLoop inDelay inCharacter inSwitch inPort inByte inZero rightCount rightZ2 rightDistances rightSpeeds hexDigit hexes twos24 report twoHex decimal digits shown decimals fourDigits fromOf toOf speedAt skipped nextBy pulseOf straightPulse afterOf leftOf straightLeft pulses steps signAt countAfter goal goalX goalY goalZ1 goalZ2 firstSpeed laterSpeed route goingTo planOf straightPlan counted inRange underWay straightUnderWay behind letterOf afterAddress directOf codeOf storedOf digitsBehind digitsOf numberOf parted itemsOf numbersOf bytes4 numBytes encode wordAt wordsOf front isCode countRight axesRight loopRight rangesRight speedsRight faultOf hasRoom storeOf recordAt spotOf fetchOf recordsFrom recordsOf holds share around crosses early overlaps holders outside strays letter checked inside again opens looped aimed onwardOf checkOf verdictOf soundOf mixed resetOf heard beginOf performed ticked runsOf receiving clocking first replyOf directSaid earOf returned gathering stopped broken resetSaid hearing gathered sound recordReply storedSaid
+unfolding afterAll endLine within in24 signed word placed added inSpeed inOffset inBack inLoop inDelay inCharacter inSwitch inPort inByte inZero rightCount rightZ2 rightDistances rightSpeeds hexDigit hexes twos24 report twoHex decimal digits shown decimals fourDigits fromOf toOf speedAt skipped nextBy pulseOf straightPulse afterOf leftOf straightLeft pulses steps signAt countAfter goal goalOf goalZ2 firstSpeed laterSpeed route goingTo planOf straightPlan counted inRange underWay straightUnderWay behind letterOf afterAddress directOf codeOf storedOf digitsBehind digitsOf numberOf parted itemsOf numbersOf bytes4 numBytes encode wordAt wordsOf front isCode countRight axesRight loopRight rangesRight speedsRight faultOf hasRoom storeOf recordAt spotOf fetchOf recordsFrom recordsOf holds share around crosses early overlaps holders outside strays letter checked inside again opens looped aimed onwardOf checkOf verdictOf soundOf mixed resetOf heard beginOf performed ticked runsOf receiving clocking first replyOf directSaid earOf returned gathering stopped broken resetSaid hearing gathered sound recordReply storedSaid
 bare-requested-fails d = alone held3 stored items reads (d .end-names [] (lent reply0 (withStore stored)) (reached bare) refl refl)
 
 -- ---- a at place 1: place 0 has it too
@@ -121,7 +121,7 @@ not-largest s =
     never (sym (s .named .smallest 0 97 (omega arith)))
 
 pub largest-fails : Requested largest → ⊥
-unfolding afterAll endLine within in24 signed word placed added inSpeed inOffset inBack inLoop inDelay inCharacter inSwitch inPort inByte inZero rightCount rightZ2 rightDistances rightSpeeds hexDigit hexes twos24 report twoHex decimal digits shown decimals fourDigits fromOf toOf speedAt skipped nextBy pulseOf straightPulse afterOf leftOf straightLeft pulses steps signAt countAfter goal goalX goalY goalZ1 goalZ2 firstSpeed laterSpeed route goingTo planOf straightPlan counted inRange underWay straightUnderWay behind letterOf afterAddress directOf codeOf storedOf digitsBehind digitsOf numberOf parted itemsOf numbersOf bytes4 numBytes encode wordAt wordsOf front isCode countRight axesRight loopRight rangesRight speedsRight faultOf hasRoom storeOf recordAt spotOf fetchOf recordsFrom recordsOf holds share around crosses early overlaps holders outside strays letter checked inside again opens looped aimed onwardOf checkOf verdictOf soundOf mixed resetOf heard beginOf performed ticked runsOf receiving clocking first replyOf directSaid earOf returned gathering stopped broken resetSaid hearing gathered sound recordReply storedSaid
+unfolding afterAll endLine within in24 signed word placed added inSpeed inOffset inBack inLoop inDelay inCharacter inSwitch inPort inByte inZero rightCount rightZ2 rightDistances rightSpeeds hexDigit hexes twos24 report twoHex decimal digits shown decimals fourDigits fromOf toOf speedAt skipped nextBy pulseOf straightPulse afterOf leftOf straightLeft pulses steps signAt countAfter goal goalOf goalZ2 firstSpeed laterSpeed route goingTo planOf straightPlan counted inRange underWay straightUnderWay behind letterOf afterAddress directOf codeOf storedOf digitsBehind digitsOf numberOf parted itemsOf numbersOf bytes4 numBytes encode wordAt wordsOf front isCode countRight axesRight loopRight rangesRight speedsRight faultOf hasRoom storeOf recordAt spotOf fetchOf recordsFrom recordsOf holds share around crosses early overlaps holders outside strays letter checked inside again opens looped aimed onwardOf checkOf verdictOf soundOf mixed resetOf heard beginOf performed ticked runsOf receiving clocking first replyOf directSaid earOf returned gathering stopped broken resetSaid hearing gathered sound recordReply storedSaid
 largest-fails d = not-largest (six held3 stored items reads 97 (codes "0001") (d .end-names [] (lent reply0 (withStore stored)) (reached largest) refl refl))
 
 -- ---- e at place 0: it has a too
@@ -134,5 +134,5 @@ not-later s =
     never (sym (n .earliest 97 (omega arith)))
 
 pub later-fails : Requested later → ⊥
-unfolding afterAll endLine faulty within in24 signed word placed added inSpeed inOffset inBack inLoop inDelay inCharacter inSwitch inPort inByte inZero rightCount rightZ2 rightDistances rightSpeeds hexDigit hexes twos24 report twoHex decimal digits shown decimals fourDigits fromOf toOf speedAt skipped nextBy pulseOf straightPulse afterOf leftOf straightLeft pulses steps signAt countAfter goal goalX goalY goalZ1 goalZ2 firstSpeed laterSpeed route goingTo planOf straightPlan counted inRange underWay straightUnderWay behind letterOf afterAddress directOf codeOf storedOf digitsBehind digitsOf numberOf parted itemsOf numbersOf bytes4 numBytes encode wordAt wordsOf front isCode countRight axesRight loopRight rangesRight speedsRight faultOf hasRoom storeOf recordAt spotOf fetchOf recordsFrom recordsOf holds share around crosses early overlaps holders outside strays letter checked inside again opens looped aimed onwardOf checkOf verdictOf soundOf mixed resetOf heard beginOf performed ticked runsOf receiving clocking first replyOf directSaid earOf returned gathering stopped broken resetSaid hearing gathered sound recordReply storedSaid
+unfolding afterAll endLine faulty within in24 signed word placed added inSpeed inOffset inBack inLoop inDelay inCharacter inSwitch inPort inByte inZero rightCount rightZ2 rightDistances rightSpeeds hexDigit hexes twos24 report twoHex decimal digits shown decimals fourDigits fromOf toOf speedAt skipped nextBy pulseOf straightPulse afterOf leftOf straightLeft pulses steps signAt countAfter goal goalOf goalZ2 firstSpeed laterSpeed route goingTo planOf straightPlan counted inRange underWay straightUnderWay behind letterOf afterAddress directOf codeOf storedOf digitsBehind digitsOf numberOf parted itemsOf numbersOf bytes4 numBytes encode wordAt wordsOf front isCode countRight axesRight loopRight rangesRight speedsRight faultOf hasRoom storeOf recordAt spotOf fetchOf recordsFrom recordsOf holds share around crosses early overlaps holders outside strays letter checked inside again opens looped aimed onwardOf checkOf verdictOf soundOf mixed resetOf heard beginOf performed ticked runsOf receiving clocking first replyOf directSaid earOf returned gathering stopped broken resetSaid hearing gathered sound recordReply storedSaid
 later-fails d = not-later (six held3 stored items reads 101 (codes "0000") (d .end-names [] (lent reply0 (withStore stored)) (reached later) refl refl))

@@ -1,4 +1,4 @@
--- While ours stores, the store's axes are 1, 3 or 7: `i` needs axes, a stored record keeps the store's, and nothing else writes them before
+-- While ours stores, the store's axes are those that lines set: `i` needs axes, a stored record keeps the store's, and nothing else writes them before
 -- storing ends. Assumes nothing.
 use Prim.Native.Nat.{ℕ, zero, suc}
 use mathlib.Core.Path.{_≡_, refl, sym, ap, _∙_}
@@ -6,7 +6,7 @@ use mathlib.Core.Bool.{Bool, true, false, not, _&&_, _||_}
 use mathlib.Core.List.{List, []}
 use borrow.Author.Tests.{eqb-true}
 use lib.Dec.{eqb}
-use lib.ListN.{length}
+use lib.ListN.{length, getD}
 use Rattle.count.specs.Pick.{pick}
 use Rattle.count.proofs.laws.Truth.{never, and-true}
 use Rattle.motion.specs.Plan.{asked}
@@ -47,6 +47,9 @@ use Rattle.board.specs.Receive.{earOf, isStoring, returned, gathering, ordinary
 use Rattle.board.specs.Calls.{clocking, fresh}
 use Rattle.board.proofs.laws.Hears.{sound-engine}
 use Rattle.board.proofs.laws.Laws.{fresh-sound, hearing-sound, clocking-sound}
+use Rattle.engine.specs.declared.Run.{Run}
+use Rattle.record.specs.declared.Held.{Held}
+use Rattle.promise.proofs.laws.Axed.{axes-run, axes-held}
 use Rattle.promise.specs.Machine.{ours, Event, afterAll}
 use Rattle.promise.proofs.laws.KeepsCalls.{by-call}
 use Rattle.promise.proofs.laws.KeepsLines.{row-facts}
@@ -105,9 +108,9 @@ clock-written b mem w =
 -- ---- a byte: `i` on a board with axes, and no other byte, begins storing
 
 -- known and not 0
-known-set : (z a b c : Bool) → z || a || b || c ≡ true → true && z ≡ false → a || b || c ≡ true
-known-set true a b c p q = never (sym q)
-known-set false a b c p q = p
+known-set : (z a : Bool) → z || a ≡ true → true && z ≡ false → a ≡ true
+known-set true a p q = never (sym q)
+known-set false a p q = p
 
 -- nothing stands, and the line was none for the store: so nothing is being stored
 still : (s x : Bool) → x && not s ≡ false → s && true ≡ false → x ≡ false
@@ -158,7 +161,9 @@ module _ (v : ℕ) (ports : List ℕ) (b : Board) (mem : Memory) (h : sound b �
         → On (acceptedSaid (effectOf x l ports (b .engine) (b .standing)) mem)
     unfolding beginOf circleBegun
     effect-on letter.Wrong l p q = w
-    effect-on letter.Axes l p q = record { axes = w .axes }
+    effect-on letter.Axes l p q = record {
+      axes = λ z. ap (λ (h : Held). axesSet (h .axes)) (axes-held (getD l 0 0) (b .engine)) ∙ w .axes (ap (λ (r : Run). isStoring (r .job)) (sym (axes-run (getD l 0 0) (b .engine))) ∙ z);
+    }
     effect-on letter.Relative l p q = begun-on (planOf (asked (b .engine .axes) (b .engine .three) (b .engine .at) (b .engine .origin) false l))
     effect-on letter.Absolute l p q = begun-on (planOf (asked (b .engine .axes) (b .engine .three) (b .engine .at) (b .engine .origin) true l))
     effect-on letter.Origin l p q = record { axes = w .axes }
@@ -169,7 +174,7 @@ module _ (v : ℕ) (ports : List ℕ) (b : Board) (mem : Memory) (h : sound b �
     effect-on letter.Output l p q = record { axes = w .axes }
     effect-on letter.Store l p q =
         let a = b .engine .axes in
-        record { axes = λ z. known-set (eqb a 0) (eqb a 1) (eqb a 3) (eqb a 7) (facts (b .engine) (sound-engine b h) .axes) q }
+        record { axes = λ z. known-set (eqb a 0) (axesSet a) (facts (b .engine) (sound-engine b h) .axes) q }
     effect-on letter.Empty l p q = other _ (still (b .standing) (isStoring (b .engine .run .job)) k p)
     effect-on letter.Start l p q = start-on (b .standing)
     effect-on letter.Plane l p q = record { axes = w .axes }

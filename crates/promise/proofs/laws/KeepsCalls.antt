@@ -28,7 +28,7 @@ use Rattle.board.specs.declared.Ticked.{Ticked}
 use Rattle.board.specs.State.{board, sound}
 use Rattle.board.specs.Receive.{hearing, isStoring}
 use Rattle.board.specs.Calls.{Lent, Outcome, refused, answered, receiving, clocked, wentOn, clocking, listing}
-use Rattle.course.specs.Text.{answerText}
+use Rattle.course.specs.Text.{turning, answerText}
 use Rattle.course.specs.Run.{runsNow, Course, noCalls, then, course}
 use Rattle.promise.specs.Machine.{ours}
 use Rattle.promise.specs.Demands.{isIdle, isWaiting, RefusedCall, Quiet, ticks, CountedRun, Counted}
@@ -222,8 +222,8 @@ module _ (mem : Memory) where
   counted-by : (k : ℕ) (s : Board) (x : Bool) → runsNow s ≡ x
       → CountedRun ours k mem (clocking s mem .board) (course k mem (clocking s mem .board) .board) (course k mem (clocking s mem .board) .calls)
       → CountedRun ours (suc k) mem s
-      ((elim x as (λ _. Course) [ true ↦ then (answerText (clocking s mem .answer)) (course k mem (clocking s mem .board)) | false ↦ noCalls s ]) .board)
-      ((elim x as (λ _. Course) [ true ↦ then (answerText (clocking s mem .answer)) (course k mem (clocking s mem .board)) | false ↦ noCalls s ]) .calls)
+      ((elim x as (λ _. Course) [ true ↦ then (answerText (turning (s .engine)) (clocking s mem .answer)) (course k mem (clocking s mem .board)) | false ↦ noCalls s ]) .board)
+      ((elim x as (λ _. Course) [ true ↦ then (answerText (turning (s .engine)) (clocking s mem .answer)) (course k mem (clocking s mem .board)) | false ↦ noCalls s ]) .calls)
   unfolding ticks
   counted-by k s true e c =
       let n = course k mem (clocking s mem .board) .calls in

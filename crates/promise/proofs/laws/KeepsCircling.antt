@@ -5,7 +5,7 @@ use mathlib.Core.Path.{_≡_, refl, sym, ap, _∙_}
 use mathlib.Core.Bool.{Bool, true, false, not, _&&_, _||_}
 use mathlib.Core.List.{List, [], _∷_}
 use native.Mathlib.Omega.{arith}
-use borrow.Author.Tests.{eqb-true, eqb-false}
+use borrow.Author.Tests.{eqb-true, eqb-false, ne-eqb}
 use lib.Dec.{eqb}
 use lib.ListN.{length, getD, take}
 use Rattle.count.specs.Pick.{pick}
@@ -30,7 +30,7 @@ use Rattle.engine.specs.declared.Job.the-variants as job
 use Rattle.engine.specs.declared.Told.{Told}
 use Rattle.engine.specs.Kinds.{Ear}
 use Rattle.engine.specs.Kinds.Ear.{gathers, drops, waits}
-use Rattle.engine.specs.State.{withRun, withJob, running, begun, noPulse, begunBy, circleBegun, heard, heardBy, resetOf}
+use Rattle.engine.specs.State.{withRun, withJob, running, begun, noPulse, begunBy, circleBegun, heard, heardBy, resetOf, turntableOf, anewOf}
 use Rattle.engine.specs.Tick.{Rule, Fetching, ticked}
 use Rattle.engine.proofs.laws.Cases.{record-cases, cases}
 use Rattle.board.specs.declared.Board.{Board}
@@ -85,8 +85,10 @@ module _ (ports : List ℕ) (b : Board) (l : Lent) (f : receiving 13 ports b l .
       → circlingOf (got .result .board) ≡ circling (circlingOf b .plane) (directionOf (getD (lineOf b .words) 0 0))
   direction-set = set-by letter.Direction
 
-  pub axes-set : Typed 48 b → take (got .result .len) (got .after .reply) ≡ 48 ∷ [] → circlingOf (got .result .board) ≡ atFirst
-  axes-set = set-by letter.Axes
+  pub axes-set : Typed 48 b → (getD (lineOf b .words) 0 0 ≡ 8 → ⊥) → take (got .result .len) (got .after .reply) ≡ 48 ∷ [] → circlingOf (got .result .board) ≡ atFirst
+  axes-set t other n =
+      set-by letter.Axes t n
+      ∙ ap (λ (z : Bool). pick z (turntableOf (b .engine)) (anewOf (getD (lineOf b .words) 0 0) (b .engine)) .circling) (ne-eqb (getD (lineOf b .words) 0 0) 8 other)
 
   -- ---- a circle's line that is not replied to
 

@@ -32,7 +32,10 @@ use Rattle.engine.specs.Kinds.{Ear}
 use Rattle.board.specs.Receive.{earBy, earOf, isStoring, returned, gathering, ordinary, hearing, holdsBy, stopped, endsBy, broken, resetSaid}
 use Rattle.board.specs.Calls.{Lent, Outcome, receiving, fresh}
 use Rattle.promise.specs.Machine.{heardBy as heardFrom, ours, Event, byte, clock, next, afterAll}
-use Rattle.promise.specs.Demands.{isIdle, idles, stores, Axis, X, Y, Z, counterOf, position, zeroLine, zeroes, sumAfter, pulseSum, SumOfPulses}
+use Rattle.count.specs.declared.Axis.{Axis}
+use Rattle.count.specs.declared.Axis.the-variants.{X, Y, Z, A}
+use Rattle.motion.specs.Axes.{on}
+use Rattle.promise.specs.Demands.{isIdle, idles, stores, position, zeroLine, zeroes, sumAfter, pulseSum, SumOfPulses}
 use Rattle.promise.proofs.laws.KeepsCalls.{kept}
 use Rattle.promise.proofs.laws.KeepsLines.{storedIn}
 use Rattle.promise.proofs.laws.KeepsReturn.{out-reply, out-board}
@@ -160,6 +163,7 @@ unfolding hearing resetSaid resetOf
 reset-right X ports b mem = refl
 reset-right Y ports b mem = refl
 reset-right Z ports b mem = refl
+reset-right A ports b mem = refl
 
 byte-right : (a : Axis) (v : ℕ) (ports : List ℕ) (b : Board) (mem : Memory)
     → position a (hearing v ports b mem .board) ≡ pick (setsBy a v b (hearing v ports b mem .reply)) (pos 0) (position a b)
@@ -169,7 +173,7 @@ byte-right a v ports b mem = by (eqb v 13) (eqb v 254) refl refl
         → position a (hearing v ports b mem .board) ≡ pick (setsBy a v b (hearing v ports b mem .reply)) (pos 0) (position a b)
     by true y p q = rw (eqb-true v 13 p) (return-right a b ports mem)
     by false true p q = rw (eqb-true v 254 q) (reset-right a ports b mem)
-    by false false p q = rw (p, q) (ap (λ (c : Counters). value (counterOf a c)) (other-at v ports b mem p q))
+    by false false p q = rw (p, q) (ap (λ (c : Counters). value (on a c)) (other-at v ports b mem p q))
 
 -- ---- any event
 
@@ -205,6 +209,7 @@ at-zero : (a : Axis) → position a fresh ≡ pos 0
 at-zero X = refl
 at-zero Y = refl
 at-zero Z = refl
+at-zero A = refl
 
 pub keeps-sum-of-pulses : SumOfPulses ours
 keeps-sum-of-pulses a es = from a es fresh ∙ ap (pulseSum ours a es fresh) (at-zero a)

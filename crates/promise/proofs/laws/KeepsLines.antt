@@ -35,6 +35,9 @@ use Rattle.engine.specs.State.{withHeld, withJob, ceased, emptied, begun as beg
 use Rattle.engine.specs.Tick.{runsBy, runsOf}
 use Rattle.board.specs.declared.Board.{Board}
 use Rattle.board.specs.State.{board, noLine, textOf, lineDone, Said, said}
+use Rattle.count.specs.Axes.{shownAxes, endToEnd}
+use Rattle.motion.specs.declared.Counters.{Counters}
+use Rattle.motion.specs.Axes.{on}
 use Rattle.board.specs.Direct.{isWrong, heardStanding, needsAxes, countFits, axesFit, rangesFit, speedsFit, planReply, first, replyOf, effectOf, acceptedSaid, directSaid, started-with}
 use Rattle.board.specs.Storing.{recordOf, recordReply, recordSaid, namedFault, endSaid, storedBy, storedSaid}
 use Rattle.engine.specs.Kinds.Ear.{gathers}
@@ -48,10 +51,17 @@ storedIn h r mem = storeOf h r mem .memory
 
 -- ---- what a return comes to
 
+-- 0 and the positions are 19 bytes, or 25 with four axes
+positions-length : (at : Counters) (t : Bool)
+    → let n = length (48 ∷ endToEnd (λ i. report (on i at)) (shownAxes t)) in eqb n 1 || eqb n 3 || eqb n 19 || eqb n 25 ≡ true
+unfolding report hexes
+positions-length at true = refl
+positions-length at false = refl
+
 pub data Came (b : Board) (mem : Memory) (x : Said) : Type 0 where
   refused : (c : ℕ) → (c ≡ 48 → ⊥) → endLine b ≡ false → x ≡ said (lineDone b) (c ∷ []) mem → Came b mem x
   failed : endLine b ≡ true → x ≡ said (unstored b) (71 ∷ namedFault (verdictOf (b .engine .held) (mem .store))) mem → Came b mem x
-  zeroed : (t : List ℕ) → x .reply ≡ 48 ∷ t → eqb (length (x .reply)) 1 || eqb (length (x .reply)) 3 || eqb (length (x .reply)) 19 ≡ true → Came b mem x
+  zeroed : (t : List ℕ) → x .reply ≡ 48 ∷ t → eqb (length (x .reply)) 1 || eqb (length (x .reply)) 3 || eqb (length (x .reply)) 19 || eqb (length (x .reply)) 25 ≡ true → Came b mem x
   still : x .reply ≡ [] → Silent b (x .board) → Came b mem x
 
 -- ---- the rows of the table: reply 0 where none of them holds
@@ -120,7 +130,7 @@ module _ (b : Board) (mem : Memory) (ports words : List ℕ) (idle : b .standing
   effect-came letter.Origin p q r = zeroed [] refl refl
   effect-came letter.Zero p q r = zeroed [] refl refl
   effect-came letter.Three p q r = zeroed [] refl refl
-  effect-came letter.Position p q r = zeroed _ refl refl
+  effect-came letter.Position p q r = zeroed _ refl (positions-length (b .engine .at) (eqb (b .engine .axes) 15))
   effect-came letter.Input p q r = zeroed _ refl refl
   effect-came letter.Output p q r = zeroed [] refl refl
   effect-came letter.Store p q r = zeroed [] refl refl

@@ -1,9 +1,10 @@
 -- What a clock call does to a position: it adds the pulse that the answer shows, and nothing else. Assumes nothing.
 use Prim.Native.Nat.{ℕ, zero, suc}
-use mathlib.Core.Path.{_≡_, refl, sym}
+use mathlib.Core.Path.{_≡_, refl, sym, ap, _∙_}
 use mathlib.Core.Bool.{Bool, true, false, _&&_}
 use lib.Dec.{eqb, leb}
-use lib.IntN.{pos, _+ℤ_, +ℤ-idr}
+use mathlib.Core.List.{List, [], _∷_}
+use lib.IntN.{ℤ, pos, _+ℤ_, +ℤ-idr}
 use lib.ListN.{getD}
 use Rattle.count.specs.Pick.{pick}
 use Rattle.count.specs.Numbers.{value}
@@ -13,7 +14,8 @@ use Rattle.motion.specs.declared.Signs.{Signs}
 use Rattle.motion.specs.Plan.{asked}
 use Rattle.motion.specs.Sound.{counted}
 use Rattle.motion.specs.work.Room.{hasRoom}
-use Rattle.motion.proofs.laws.Whole.{value-moved}
+use Rattle.motion.specs.Phase.{signValue, signsThen}
+use Rattle.travel.proofs.laws.Whole.{value-pulsed}
 use Rattle.circle.specs.Plan.{planeOf, directionOf}
 use Rattle.travel.specs.declared.Travel.{Travel}
 use Rattle.travel.specs.Next.{Next}
@@ -48,7 +50,10 @@ use Rattle.board.specs.declared.Board.{Board}
 use Rattle.board.specs.declared.Ticked.{Ticked}
 use Rattle.board.specs.State.{sound}
 use Rattle.board.specs.Calls.{clocking}
-use Rattle.promise.specs.Demands.{Axis, X, Y, Z, counterOf, position, place, adds}
+use Rattle.count.specs.declared.Axis.{Axis}
+use Rattle.count.specs.declared.Axis.the-variants.{X, Y, Z, A}
+use Rattle.motion.specs.Axes.{on, shows}
+use Rattle.promise.specs.Demands.{position, place, adds}
 use Rattle.promise.proofs.laws.KeepsCalls.{by-call}
 
 -- a pulse's signs fit on the counters; any other answer fits
@@ -62,21 +67,26 @@ Fitting c answer.Nothing = Unit
 module _ (a : Axis) (c : Counters) where
   -- what a call does to the axis that stood at c
   abbrev Sums : Told → Type 0
-  Sums t = value (counterOf a (t .engine .at)) ≡ value (counterOf a c) +ℤ adds a (paper (t .answer))
+  Sums t = value (on a (t .engine .at)) ≡ value (on a c) +ℤ adds a (paper (t .answer))
+
+-- what a pulse shows on an axis stands at its place
+place-shows : (a : Axis) (s : Signs) (l : List ℤ) → getD (signsThen s l) (place a) (pos 0) ≡ signValue (shows a s)
+place-shows X s l = refl
+place-shows Y s l = refl
+place-shows Z s l = refl
+place-shows A s l = refl
 
 sum-pulse : (a : Axis) (e : Engine) (s : Signs) (v : ℕ) → hasRoom (e .at) s → Sums a (e .at) (told e (answer.Pulse s v))
 unfolding adds
-sum-pulse X e s v r = value-moved (e .at .x) (s .x) (r .0)
-sum-pulse Y e s v r = value-moved (e .at .y) (s .y) (r .1)
-sum-pulse Z e s v r = value-moved (e .at .z) (s .z) (r .2)
+sum-pulse a e s v r = value-pulsed a (e .at) s r ∙ ap (λ (z : ℤ). value (on a (e .at)) +ℤ z) (sym (place-shows a s (pos v ∷ [])))
 
 sum-told : (a : Axis) (e : Engine) (x : Answer) → Fitting (e .at) x → Sums a (e .at) (told e x)
 unfolding adds
 sum-told a e (answer.Pulse s v) r = sum-pulse a e s v r
-sum-told a e answer.Pause r = sym (+ℤ-idr (value (counterOf a (e .at))))
-sum-told a e (answer.Send b) r = sym (+ℤ-idr (value (counterOf a (e .at))))
-sum-told a e answer.Done r = sym (+ℤ-idr (value (counterOf a (e .at))))
-sum-told a e answer.Nothing r = sym (+ℤ-idr (value (counterOf a (e .at))))
+sum-told a e answer.Pause r = sym (+ℤ-idr (value (on a (e .at))))
+sum-told a e (answer.Send b) r = sym (+ℤ-idr (value (on a (e .at))))
+sum-told a e answer.Done r = sym (+ℤ-idr (value (on a (e .at))))
+sum-told a e answer.Nothing r = sym (+ℤ-idr (value (on a (e .at))))
 
 module _ (a : Axis) (e : Engine) where
   sum-planned : (p : Planned) → counted (e .at) ≡ true

@@ -157,7 +157,8 @@ keeps-accepted-line v ports l s t h e = by (eqb v 13) refl
     r = sym (out-reply v ports l s h) ∙ e
 
     long : Came s (l .memory) (hearing v ports s (l .memory))
-        → eqb (length (hearing v ports s (l .memory) .reply)) 1 || eqb (length (hearing v ports s (l .memory) .reply)) 3 || eqb (length (hearing v ports s (l .memory) .reply)) 19 ≡ true
+        → eqb (length (hearing v ports s (l .memory) .reply)) 1 || eqb (length (hearing v ports s (l .memory) .reply)) 3 || eqb (length (hearing v ports s (l .memory) .reply)) 19
+        || eqb (length (hearing v ports s (l .memory) .reply)) 25 ≡ true
     long (refused d m f q) =
         let y : d ∷ [] ≡ 48 ∷ t = sym (ap (λ (x : Said). x .reply) q) ∙ r in
         let w : d ≡ 48 = cc in
@@ -174,6 +175,6 @@ keeps-accepted-line v ports l s t h e = by (eqb v 13) refl
 
     by : (x : Bool) → eqb v 13 ≡ x
         → eqb (receiving v ports s l .result .len) 1 || eqb (receiving v ports s l .result .len) 3
-        || eqb (receiving v ports s l .result .len) 19 ≡ true
+        || eqb (receiving v ports s l .result .len) 19 || eqb (receiving v ports s l .result .len) 25 ≡ true
     by true q = rw (out-len v ports l s h) (long (rw (eqb-true v 13 q) (came s ports (l .memory))))
     by false q = absurd (other-zero v ports s (l .memory) q t r)

@@ -1,14 +1,14 @@
 -- What a byte leaves of a memory whose part in use is readable and whose table is true: the same, an emptied part, or one with a right
 -- record more and its entry, so that both hold again (02 §6). Assumes nothing.
 use Prim.Native.Nat.{ℕ, _<_}
-use mathlib.Core.Path.{_≡_, refl, sym, ap, _∙_}
+use mathlib.Core.Path.{_≡_, refl, sym, ap, subst, _∙_}
 use mathlib.Core.Bool.{Bool, true, false, not, _&&_, _||_}
 use mathlib.Core.List.{List, [], _∷_, _++_, map}
 use native.Mathlib.Omega.{arith}
 use borrow.Author.Tests.{eqb-true, eq-eqb}
 use lib.Dec.{eqb}
 use lib.IntN.{ℤ, pos, negsuc}
-use lib.ListN.{length, length-map, length-set}
+use lib.ListN.{length, getD, length-map, length-set}
 use Rattle.count.specs.Pick.{pick}
 use Rattle.count.specs.Numbers.{word}
 use Rattle.count.specs.Words.{pad}
@@ -49,6 +49,7 @@ use Rattle.board.specs.Direct.{replyOf, effectOf, acceptedSaid, directSaid}
 use Rattle.board.specs.Storing.{recordOf, recordReply, storedBy, storedSaid}
 use Rattle.board.specs.Receive.{earOf, isStoring, returned, gathering, ordinary, hearing, holdsBy, stopped, endsBy, broken, resetSaid}
 use Rattle.board.proofs.laws.Stores.{count-small, code-right}
+use Rattle.promise.proofs.laws.Axed.{axes-run, axes-held}
 use Rattle.promise.specs.Table.{Kept, part}
 
 -- ---- a line's numbers are words, padded to eight
@@ -189,7 +190,7 @@ module _ (v : ℕ) (ports : List ℕ) (b : Board) (mem : Memory) (k : Kept (part
   effect-on : (x : Letter) (l : List ℕ) → On (acceptedSaid (effectOf x l ports (b .engine) (b .standing)) mem)
   unfolding beginOf circleBegun
   effect-on letter.Wrong l = k
-  effect-on letter.Axes l = k
+  effect-on letter.Axes l = subst (λ (h : Held). Kept (part h mem)) (sym (axes-held (getD l 0 0) (b .engine))) k
   effect-on letter.Relative l = begun-on (planOf (asked (b .engine .axes) (b .engine .three) (b .engine .at) (b .engine .origin) false l))
   effect-on letter.Absolute l = begun-on (planOf (asked (b .engine .axes) (b .engine .three) (b .engine .at) (b .engine .origin) true l))
   effect-on letter.Origin l = k

@@ -1,6 +1,6 @@
 -- What a line does to a position: it is set to zero where `zeroes` says so, and else stays. Assumes nothing.
 use Prim.Native.Nat.{ℕ}
-use mathlib.Core.Path.{_≡_, refl, sym, ap}
+use mathlib.Core.Path.{_≡_, refl, sym, ap, _∙_}
 use mathlib.Core.Bool.{Bool, true, false, not, _&&_, _||_}
 use mathlib.Core.List.{List, [], _∷_}
 use borrow.Author.Tests.{eqb-true}
@@ -22,12 +22,15 @@ use Rattle.line.specs.declared.Direct.{Direct}
 use Rattle.record.specs.Memory.{Memory}
 use Rattle.line.specs.Lines.{letterPaper, directOf}
 use Rattle.engine.specs.declared.Job.the-variants as job
-use Rattle.count.specs.Ranges.{names}
-use Rattle.engine.specs.State.{mixed, withJob, begun, begunBy, beginOf, circleBegun}
+use Rattle.count.specs.declared.Axis.{Axis}
+use Rattle.count.specs.Axes.{has}
+use Rattle.motion.specs.Axes.{on}
+use Rattle.motion.proofs.laws.Points.{on-point}
+use Rattle.engine.specs.State.{zeroes, mixed, turntableOf, anewOf, withJob, begun, begunBy, beginOf, circleBegun}
 use Rattle.board.specs.declared.Board.{Board}
 use Rattle.board.specs.State.{board, textOf, lineDone, Said, said}
 use Rattle.board.specs.Direct.{isWrong, heardStanding, replyOf, effectOf, acceptedSaid, directSaid, started-with}
-use Rattle.promise.specs.Demands.{isIdle, idles, Axis, X, Y, Z, counterOf, position, part, zeroLine}
+use Rattle.promise.specs.Demands.{isIdle, idles, position, zeroLine}
 use Rattle.promise.proofs.laws.KeepsLines.{row-facts}
 
 -- ---- four tests joined are off where one of them is
@@ -54,7 +57,7 @@ module _ (a : Axis) (b : Board) where
 
   -- where nothing is set to zero, the position stays
   pub same : (x : Said) → x .board .engine .at ≡ b .engine .at → sets x ≡ false → Right x
-  same x p q = rw q (ap (λ (c : Counters). value (counterOf a c)) p)
+  same x p q = rw q (ap (λ (c : Counters). value (on a c)) p)
 
   -- ---- an accepted line, idle
 
@@ -63,7 +66,9 @@ module _ (a : Axis) (b : Board) where
     after k = acceptedSaid (effectOf k words ports (b .engine) (b .standing)) mem
 
     abbrev zeroBy : Letter → Bool
-    zeroBy k = eqb (letterPaper k .number) 48 || (eqb (letterPaper k .number) 78 && names (getD words 0 0) (part a))
+    zeroBy k =
+        (eqb (letterPaper k .number) 48 && (not (eqb (getD words 0 0) 8) || has (getD words 0 0) a))
+        || (eqb (letterPaper k .number) 78 && has (getD words 0 0) a)
 
     -- by its letter
     abbrev RightBy : Letter → Type 0
@@ -82,22 +87,35 @@ module _ (a : Axis) (b : Board) where
     start-at false = refl
 
     kept-at : (k : Letter) → after k .board .engine .at ≡ b .engine .at → zeroBy k ≡ false → RightBy k
-    kept-at k p q = rw (q, and-false) (ap (λ (c : Counters). value (counterOf a c)) p)
+    kept-at k p q = rw (q, and-false) (ap (λ (c : Counters). value (on a c)) p)
 
-zero-pick : (t : Bool) (c : ℕ) → value (pick t half c) ≡ pick t (pos 0) (value c)
-zero-pick true c = refl
-zero-pick false c = refl
+-- an axis named goes to zero, another stays
+zero-pick : (a : Axis) (t : Bool) (c : ℕ) → value (pick t (on a zeroes) c) ≡ pick t (pos 0) (value c)
+zero-pick a true c = ap value (on-point (λ (i : Axis). half) a)
+zero-pick a false c = refl
 
+mixed-zero : (a : Axis) (axes : ℕ) (c : Counters) → value (on a (mixed axes zeroes c)) ≡ pick (has axes a) (pos 0) (value (on a c))
+unfolding mixed
+mixed-zero a axes c = ap value (on-point (λ (i : Axis). pick (has axes i) (on i zeroes) (on i c)) a) ∙ zero-pick a (has axes a) (on a c)
+
+or-none : (b : Bool) → b || false ≡ b
+or-none true = refl
+or-none false = refl
+
+-- an axes line: 8 zeroes A, every other number all axes
 axes-at : (a : Axis) (b : Board) (ports words : List ℕ) (mem : Memory) → RightBy a b ports words mem letter.Axes
-axes-at X b ports words mem = refl
-axes-at Y b ports words mem = refl
-axes-at Z b ports words mem = refl
+axes-at a b ports words mem = by (eqb (getD words 0 0) 8) refl
+  where
+    by : (t : Bool) → eqb (getD words 0 0) 8 ≡ t
+        → value (on a (pick t (turntableOf (b .engine)) (anewOf (getD words 0 0) (b .engine)) .at))
+        ≡ pick (true && ((true && (not t || has (getD words 0 0) a)) || (false && has (getD words 0 0) a))) (pos 0) (value (on a (b .engine .at)))
+    by true p =
+        mixed-zero a 8 (b .engine .at) ∙ ap (λ (n : ℕ). pick (has n a) (pos 0) (value (on a (b .engine .at)))) (sym (eqb-true (getD words 0 0) 8 p))
+        ∙ ap (λ (t : Bool). pick t (pos 0) (value (on a (b .engine .at)))) (sym (or-none (has (getD words 0 0) a)))
+    by false p = ap value (on-point (λ (i : Axis). half) a)
 
 zero-at : (a : Axis) (b : Board) (ports words : List ℕ) (mem : Memory) → RightBy a b ports words mem letter.Zero
-unfolding mixed
-zero-at X b ports words mem = zero-pick (names (getD words 0 0) 1) (b .engine .at .x)
-zero-at Y b ports words mem = zero-pick (names (getD words 0 0) 2) (b .engine .at .y)
-zero-at Z b ports words mem = zero-pick (names (getD words 0 0) 4) (b .engine .at .z)
+zero-at a b ports words mem = mixed-zero a (getD words 0 0) (b .engine .at)
 
 module _ (a : Axis) (b : Board) (ports words : List ℕ) (mem : Memory) where
   abbrev keep : (k : Letter) → after a b ports words mem k .board .engine .at ≡ b .engine .at → zeroBy a b ports words mem k ≡ false → RightBy a b ports words mem k

@@ -41,7 +41,7 @@ use Rattle.promise.specs.Machine.{ours, afterAll}
 use Rattle.promise.specs.Demands.{idles, Host, storingText, sent, Restored, ListedAgain, RoundTrip}
 use Rattle.promise.proofs.laws.KeepsLines.{storedIn}
 use Rattle.promise.proofs.laws.KeepsSending.{with-line, lineOf, Ends, line-all}
-use Rattle.promise.proofs.laws.KeepsStart.{storingWith, restingWith, starts, fresh-sound}
+use Rattle.promise.proofs.laws.KeepsStart.{storingWith, restingWith, stores, leads}
 use Rattle.promise.proofs.laws.KeepsNumbers.{line, line-plain, line-back, record-back}
 use Rattle.promise.proofs.laws.KeepsAlways.{always-sound}
 
@@ -195,16 +195,15 @@ restored : (h : Held) (store : List ℕ) (l : List Record) (other : Memory) (hos
     → Restored ours h store (storingText (h .axes) (listText l)) (sent ours host 0 (storingText (h .axes) (listText l)) fresh other)
 restored h store l other host n b u r a q n′ b′ =
     let p = accepted-list h store l q a .passing in
-    let s = starts (h .axes) (accepted-parts h store a .1) in
+    let set = accepted-parts h store a .1 in
+    let s = stores (h .axes) set in
     let g = readable-list h store l b q in
     let used : length (encodeAll l) ≡ h .used = ap length (sym (g .bytes)) ∙ length-take-le (h .used) store (rw n u) in
     let few : length l ≤ 1000 = rw (g .count) r in
     let room : length (encodeAll l) ≤ 16384 = rw used u in
     let K = Kept-all host (h .axes) (s .known) l few room p in
     let x : Ends host K (storingText (h .axes) (listText l)) (sent ours host 0 (storingText (h .axes) (listText l)) fresh other) =
-    line-all host K (restingWith 0 nothingHeld) other refl refl fresh-sound n′ (64 ∷ 48 ∷ (48 + h .axes) ∷ []) 0 (64 ∷ 48 ∷ 105 ∷ 13 ∷ listText l)
-    (board (restingWith (h .axes) nothingHeld) false noLine) other
-    ((omega arith, omega arith), ((omega arith, omega arith), (s .plain, tt))) (omega arith) (λ ports. s .set ports other)
+    leads host K other n′ (64 ∷ 48 ∷ 105 ∷ 13 ∷ listText l) (h .axes) set
     (λ i. line-all host K (restingWith (h .axes) nothingHeld) other refl refl (s .sound) n′ (64 ∷ 48 ∷ 105 ∷ []) i (listText l)
     (board (storingWith (h .axes) (heldBy (h .axes) [])) false noLine) other
     ((omega arith, omega arith), ((omega arith, omega arith), ((omega arith, omega arith), tt))) (omega arith)

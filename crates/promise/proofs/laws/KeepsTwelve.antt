@@ -9,7 +9,7 @@ use Rattle.count.specs.Ranges.{inSpeed, inOffset, inBack, inLoop, inDelay, inCh
 use Rattle.count.specs.Text.{hexDigit, hexes, twos24, report, twoHex, decimal, digits, shown, decimals, fourDigits}
 use Rattle.motion.specs.Next.{fromOf, toOf, speedAt, skipped, nextBy, pulseOf as straightPulse, afterOf, leftOf as straightLeft}
 use Rattle.motion.specs.Phase.{pulses, steps, signAt, countAfter}
-use Rattle.motion.specs.Plan.{goal, goalX, goalY, goalZ1, goalZ2, firstSpeed, laterSpeed, route, goingTo, planOf as straightPlan}
+use Rattle.motion.specs.Plan.{goal, goalOf, goalZ2, firstSpeed, laterSpeed, route, goingTo, planOf as straightPlan}
 use Rattle.motion.specs.Sound.{counted, inRange, underWay as straightUnderWay}
 use Rattle.travel.specs.Next.{pulseOf, leftOf}
 use Rattle.travel.specs.Plan.{planOf}
@@ -41,7 +41,7 @@ use Rattle.promise.specs.Twelve.{History, from, standsOn, standsAt, send
 
 -- (1) to (3), which run
 ran : One × Two × Three
-unfolding sends ticks within in24 signed word placed added inSpeed inOffset inBack inLoop inDelay inCharacter inSwitch inPort inByte inZero rightCount rightZ2 rightDistances rightSpeeds hexDigit hexes twos24 report twoHex decimal digits shown decimals fourDigits fromOf toOf speedAt skipped nextBy pulseOf straightPulse afterOf leftOf straightLeft pulses steps signAt countAfter goal goalX goalY goalZ1 goalZ2 firstSpeed laterSpeed route goingTo planOf straightPlan counted inRange underWay straightUnderWay behind letterOf afterAddress directOf codeOf storedOf digitsBehind digitsOf numberOf parted itemsOf numbersOf bytes4 numBytes encode wordAt wordsOf front isCode countRight axesRight loopRight rangesRight speedsRight faultOf hasRoom storeOf recordAt spotOf fetchOf recordsFrom recordsOf holds share around crosses early overlaps holders outside strays letter checked inside again opens looped aimed onwardOf checkOf verdictOf soundOf mixed resetOf heard beginOf performed ticked runsOf receiving clocking first replyOf directSaid earOf returned gathering stopped broken resetSaid hearing gathered sound recordReply storedSaid runsNow course pulseText positionsText walkedFrom walked
+unfolding sends ticks within in24 signed word placed added inSpeed inOffset inBack inLoop inDelay inCharacter inSwitch inPort inByte inZero rightCount rightZ2 rightDistances rightSpeeds hexDigit hexes twos24 report twoHex decimal digits shown decimals fourDigits fromOf toOf speedAt skipped nextBy pulseOf straightPulse afterOf leftOf straightLeft pulses steps signAt countAfter goal goalOf goalZ2 firstSpeed laterSpeed route goingTo planOf straightPlan counted inRange underWay straightUnderWay behind letterOf afterAddress directOf codeOf storedOf digitsBehind digitsOf numberOf parted itemsOf numbersOf bytes4 numBytes encode wordAt wordsOf front isCode countRight axesRight loopRight rangesRight speedsRight faultOf hasRoom storeOf recordAt spotOf fetchOf recordsFrom recordsOf holds share around crosses early overlaps holders outside strays letter checked inside again opens looped aimed onwardOf checkOf verdictOf soundOf mixed resetOf heard beginOf performed ticked runsOf receiving clocking first replyOf directSaid earOf returned gathering stopped broken resetSaid hearing gathered sound recordReply storedSaid runsNow course pulseText positionsText walkedFrom walked
 ran = (refl, refl, (refl, refl, refl, refl))
 
 -- (12): the board at 8,388,607 and its line
@@ -51,7 +51,7 @@ last = sends (codes "@0A1,600\r") (from (standsAt (pos 8388607)))
 -- (4) to (8) and (12), lines and their replies
 replied : Four × Five × Six × Seven × Eight
     × ((last .replies ≡ codes "9") × (last .board ≡ standsOn 16777215) × (last .memory ≡ noMemory) × (last .refusal ≡ 0))
-unfolding sends ticks within in24 signed word placed added inSpeed inOffset inBack inLoop inDelay inCharacter inSwitch inPort inByte inZero rightCount rightZ2 rightDistances rightSpeeds hexDigit hexes twos24 report twoHex decimal digits shown decimals fourDigits fromOf toOf speedAt skipped nextBy pulseOf straightPulse afterOf leftOf straightLeft pulses steps signAt countAfter goal goalX goalY goalZ1 goalZ2 firstSpeed laterSpeed route goingTo planOf straightPlan counted inRange underWay straightUnderWay behind letterOf afterAddress directOf codeOf storedOf digitsBehind digitsOf numberOf parted itemsOf numbersOf bytes4 numBytes encode wordAt wordsOf front isCode countRight axesRight loopRight rangesRight speedsRight faultOf hasRoom storeOf recordAt spotOf fetchOf recordsFrom recordsOf holds share around crosses early overlaps holders outside strays letter checked inside again opens looped aimed onwardOf checkOf verdictOf soundOf mixed resetOf heard beginOf performed ticked runsOf receiving clocking first replyOf directSaid earOf returned gathering stopped broken resetSaid hearing gathered sound recordReply storedSaid runsNow course pulseText positionsText walkedFrom walked
+unfolding sends ticks within in24 signed word placed added inSpeed inOffset inBack inLoop inDelay inCharacter inSwitch inPort inByte inZero rightCount rightZ2 rightDistances rightSpeeds hexDigit hexes twos24 report twoHex decimal digits shown decimals fourDigits fromOf toOf speedAt skipped nextBy pulseOf straightPulse afterOf leftOf straightLeft pulses steps signAt countAfter goal goalOf goalZ2 firstSpeed laterSpeed route goingTo planOf straightPlan counted inRange underWay straightUnderWay behind letterOf afterAddress directOf codeOf storedOf digitsBehind digitsOf numberOf parted itemsOf numbersOf bytes4 numBytes encode wordAt wordsOf front isCode countRight axesRight loopRight rangesRight speedsRight faultOf hasRoom storeOf recordAt spotOf fetchOf recordsFrom recordsOf holds share around crosses early overlaps holders outside strays letter checked inside again opens looped aimed onwardOf checkOf verdictOf soundOf mixed resetOf heard beginOf performed ticked runsOf receiving clocking first replyOf directSaid earOf returned gathering stopped broken resetSaid hearing gathered sound recordReply storedSaid runsNow course pulseText positionsText walkedFrom walked
 replied = ((refl, refl, refl), (refl, refl), (refl, refl), refl, refl, (refl, refl, refl, refl))
 
 count-so : 16777215 ≡ count (pos 8388607)

@@ -62,7 +62,7 @@ module _ (ports : List ℕ) (e : Engine) (l : Line) (mem : Memory) where
   return-obeys (job.Delay q) i = never i
   return-obeys (job.Wait c t) i = never i
 
-  idle-gathers : (j : Job) → isIdle j ≡ true → earBy j ≡ gathers
+  pub idle-gathers : (j : Job) → isIdle j ≡ true → earBy j ≡ gathers
   idle-gathers job.Idle i = refl
   idle-gathers job.Storing i = never i
   idle-gathers (job.Direct m) i = never i

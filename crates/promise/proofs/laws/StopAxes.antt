@@ -35,6 +35,9 @@ use Rattle.board.specs.State.{board, noLine, textOf, gathered, lineDone, Said, 
 use Rattle.board.specs.Direct.{needsAxes, replyOf, effectOf, acceptedSaid, directSaid}
 use Rattle.board.specs.Storing.{recordReply, recordOf, namedFault, storedBy, storedSaid}
 use Rattle.board.specs.Receive.{isStoring, returned, gathering}
+use lib.ListN.{getD}
+use Rattle.engine.specs.declared.Run.{Run}
+use Rattle.promise.proofs.laws.Axed.{axes-run, axes-held}
 use Rattle.promise.specs.Stop.{restsBy}
 use Rattle.promise.proofs.laws.KeepsLines.{storedIn, row-facts}
 
@@ -70,7 +73,7 @@ module _ (ports : List ℕ) (e : Engine) (l : Line) (mem : Memory) (r : restsBy 
   effect-axed : (k : Letter) (w : List ℕ) → needsAxes k && eqb (e .axes) 0 ≡ false → Axed (effectOf k w ports e false .engine)
   unfolding beginOf circleBegun
   effect-axed letter.Wrong w a = λ q. still q
-  effect-axed letter.Axes w a = λ q. still q
+  effect-axed letter.Axes w a = λ q. still (ap (λ (x : Run). restsBy (x .job)) (sym (axes-run (getD w 0 0) e)) ∙ q)
   effect-axed letter.Relative w a = begun-axed (planOf (asked (e .axes) (e .three) (e .at) (e .origin) false w)) a
   effect-axed letter.Absolute w a = begun-axed (planOf (asked (e .axes) (e .three) (e .at) (e .origin) true w)) a
   effect-axed letter.Origin w a = λ q. still q

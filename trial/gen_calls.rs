@@ -118,6 +118,9 @@ impl Script<'_> {
         if self.rng.once_in(8) && !self.tame {
             self.put_a();
         }
+        if self.rng.once_in(10) && !self.tame {
+            self.fill_under_other_axes(axes);
+        }
     }
 
     /// A program stored and started, now and then with something altered in between.
@@ -164,13 +167,7 @@ impl Script<'_> {
             return;
         }
         let lines = self.program(axes);
-        let length = |line: &String| 8 + 4 * line.bytes().filter(|&b| b == b',').count();
-        self.stored = (0, lines.len(), axes);
-        self.starts.clear();
-        for line in &lines {
-            self.starts.push(self.stored.0);
-            self.stored.0 += length(line);
-        }
+        self.remember(&lines, axes);
         self.endless = gen_fault::may_not_end(&lines);
         self.line("@0i");
         let hurt = self.rng.once_in(10) && !self.tame && lines.len() < 50;
@@ -189,6 +186,17 @@ impl Script<'_> {
             self.spoil(self.starts[at]);
         }
         self.line("9");
+    }
+
+    /// What a program takes in the store, if all of it is accepted.
+    pub fn remember(&mut self, lines: &[String], axes: u8) {
+        let length = |line: &String| 8 + 4 * line.bytes().filter(|&b| b == b',').count();
+        self.stored = (0, lines.len(), axes);
+        self.starts.clear();
+        for line in lines {
+            self.starts.push(self.stored.0);
+            self.stored.0 += length(line);
+        }
     }
 
     /// A sound program, or one that mostly fails the check, now and then with something wrong in a line.

@@ -1,5 +1,6 @@
 //! What a host does to the table in a script: entries altered and shown, and the table filled.
 
+use crate::axes;
 use crate::gen_calls::Script;
 
 impl Script<'_> {
@@ -85,6 +86,45 @@ impl Script<'_> {
         }
         self.say("F".to_string());
         self.show_entries();
+    }
+
+    /// A store of n and few others is filled under axes that no board has, now and then with another number in an n,
+    /// and at last by its own axes again.
+    pub fn fill_under_other_axes(&mut self, axes: u8) {
+        self.altered = true;
+        let of = if axes == 15 && self.rng.once_in(2) { 8 } else { axes };
+        let lines: Vec<String> =
+            (0..self.rng.between(1, 4)).map(|place| self.kept(axes, of, place == 0)).collect();
+        self.remember(&lines, axes);
+        self.line("@0i");
+        lines.iter().for_each(|text| self.line(text));
+        self.line("9");
+        for _ in 0..self.rng.between(1, 4) {
+            let place = self.rng.below(lines.len() as u64) as usize;
+            if lines[place].starts_with('n') && self.rng.once_in(2) {
+                let mask = self.rng.pick(&[1, 2, 3, 4, 5, 6, 7, 8, 8, 8, 9, 0, 15, 16]);
+                self.say(format!("W {} {mask}", self.starts[place] + 4));
+            }
+            let any = self.rng.below(256);
+            let other =
+                self.rng.pick(&[2, 4, 5, 5, 6, 9, 9, 10, 11, 12, 13, 14, 16, 17, 24, 25, 254, 255, any]);
+            let first = self.rng.once_in(4); // its first records alone
+            let (used, records) =
+                if first { (self.starts[place], place) } else { (self.stored.0, lines.len()) };
+            self.say(format!("T {place} 65535\nK {used} {records} {other}\nF\nV {place}"));
+        }
+        self.say(format!("K {} {} {axes}\nF", self.stored.0, lines.len()));
+        self.show_entries();
+    }
+
+    /// A line for such a store: mostly n of these axes or some of them, and rarely a movement.
+    fn kept(&mut self, axes: u8, of: u8, surely_n: bool) -> String {
+        match self.rng.below(9) {
+            0 if !surely_n => "z1".to_string(),
+            1 if !surely_n => format!("1{}", self.rng.between(33, 126)),
+            2 if !surely_n => format!("0{}", axes::single(axes, 0, 1)),
+            _ => format!("n{}", axes::mask(self.rng, of)),
+        }
     }
 
     /// Entries about the count, and one that is any.

@@ -75,14 +75,15 @@ pub fn refusal(code: u8, axes: u8, v: &[i32]) -> Option<u8> {
     (!right).then_some(b'1')
 }
 
-/// Some of x, y and z as far as they are set, or A by itself. With 0, 1, 3 or 7 set, those are the numbers from 1 to
-/// theirs. So it is read of other axes too, which a host may have kept and a filling of the table meets (D197).
+/// Some of x, y and z as far as they are set, or A by itself: up to 7 and not above the axes, which have x's part, or
+/// 8 where they have A's. So it is read of axes that no board has too, which a host may have kept and a filling of
+/// the table meets (D197).
 pub fn mask_right(mask: i32, axes: u8) -> bool {
-    match axes {
-        8 => mask == 8,
-        15 => (1..=8).contains(&mask) || cfg!(slip_a_n9) && mask == 9,
-        _ => (1..=7).contains(&mask) && mask <= axes as i32,
+    let below = (1..=7).contains(&mask) && mask <= axes as i32;
+    if cfg!(slip_n_other_axes) && movement_count(axes).is_none() {
+        return below;
     }
+    below && axes & 1 != 0 || mask == 8 && axes & 8 != 0 || cfg!(slip_a_n9) && mask == 9 && axes == 15
 }
 
 fn offset_right(v: i32) -> bool {

@@ -142,6 +142,28 @@ fn filling() {
     assert_eq!(b.table, [9; TABLE]);
 }
 
+/// A movement is right under no axes but a board's.
+#[test]
+fn filling_under_other_axes() {
+    let (mut b, _) = Bench::with_program(15, &["n5", "n8", "133", "0 0,600,0,600,0,600,1,600"]);
+    let mut filled = |used, records, axes| {
+        b.table[..5].fill(9);
+        let answer = fill(&b.store, Part { used, records, axes }, &mut b.table);
+        assert_eq!(b.table[4], 9);
+        answer.map(|()| b.table[..4].to_vec())
+    };
+    for axes in [5, 9, 11, 13, 17, 21, 25, 255] {
+        assert_eq!(filled(8, 1, axes), Ok(vec![0, 9, 9, 9]));
+        let two = if axes & 8 != 0 { Ok(vec![0, 8, 16, 9]) } else { Err(b'G') };
+        assert_eq!(filled(24, 3, axes), two);
+        assert_eq!(filled(60, 4, axes), Err(b'G'));
+    }
+    for axes in [0, 1, 2, 3, 4, 6, 8, 10, 12, 14, 16, 24, 254] {
+        assert_eq!(filled(8, 1, axes), Err(b'G'));
+    }
+    assert_eq!(filled(60, 4, 15), Ok(vec![0, 8, 16, 24]));
+}
+
 #[test]
 fn filling_refused_in_order() {
     let (b, _) = Bench::with_program(1, THREE);

@@ -53,6 +53,24 @@ fn generated_tables() {
     assert!(altered > 1_000 && led_elsewhere > 150 && to_g > 100, "{altered} {led_elsewhere} {to_g}");
 }
 
+/// What F answers where the store has records, by x's part and A's of axes that no board has.
+#[test]
+fn generated_other_axes() {
+    let mut seen = [[0; 2]; 4];
+    for seed in 0..6_000 {
+        let said = printed(script(seed).replace("\nF\n", "\nS\nF\n").as_bytes());
+        let lines: Vec<&str> = said.lines().collect();
+        for pair in lines.windows(2).filter(|pair| pair[0].starts_with('S') && pair[1].starts_with('F')) {
+            let after = |name: &str| pair[0].split(name).nth(1).unwrap().split(' ').next().unwrap();
+            let (records, axes): (&str, usize) = (after(" records "), after(" store_axes ").parse().unwrap());
+            if records != "0" && ![0, 1, 3, 7, 8, 15].contains(&axes) && ["F 0", "F G"].contains(&pair[1]) {
+                seen[axes & 1 | axes >> 2 & 2][(pair[1] == "F G") as usize] += 1;
+            }
+        }
+    }
+    assert!(seen[1..].iter().flatten().all(|&times| times > 30) && seen[0][1] > 200, "{seen:?}");
+}
+
 /// With no host that alters anything, the entries below the count are where a walk from the front finds the
 /// records, after every byte and its run.
 #[test]

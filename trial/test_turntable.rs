@@ -204,6 +204,25 @@ fn masks() {
     }
 }
 
+/// Also under axes that no board has: as x's part and A's say, where movements are never right.
+#[test]
+fn masks_under_other_axes() {
+    let right = |axes| (-9..=300).filter(|&mask| mask_right(mask, axes)).collect::<Vec<i32>>();
+    for axes in [0, 2, 4, 6, 16, 18, 22, 32, 64, 128, 240, 246] {
+        assert_eq!(right(axes), []);
+    }
+    assert_eq!((right(1), right(3), right(5)), (vec![1], vec![1, 2, 3], vec![1, 2, 3, 4, 5]));
+    for axes in [7, 17, 19, 21, 23, 33, 129, 145, 247] {
+        assert_eq!(right(axes), [1, 2, 3, 4, 5, 6, 7]);
+    }
+    for axes in [8, 10, 12, 14, 24, 26, 136, 248, 254] {
+        assert_eq!(right(axes), [8]);
+    }
+    for axes in [9, 11, 13, 15, 25, 31, 137, 249, 255] {
+        assert_eq!(right(axes), [1, 2, 3, 4, 5, 6, 7, 8]);
+    }
+}
+
 #[test]
 fn origin_and_zero_of_a() {
     let mut b = filled(15);

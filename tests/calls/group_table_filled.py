@@ -1,5 +1,5 @@
 """The table filled from a store that a host kept: F, and its refusals."""
-from case import RESET, case, byte, clock, entries, filled, host, line, listed, nothing, refused, sends, state, stop, store, x
+from case import RESET, case, byte, clock, entries, filled, host, line, lines, listed, nothing, refused, sends, state, stop, store, x
 
 ZERO = sends("0")
 G = "Send 71"
@@ -26,6 +26,19 @@ case("filled_more_than_a_store_holds", "G for more than 16,384 bytes or 1,000 re
 case("filled_by_any_axes", "the axes are not asked but by the records: nothing in use is readable under any and writes nothing; a character is right under any",
      MIXED, host("T 0 5"), *[part for axes in (0, 1, 2, 7, 255) for part in (host("K 0 0 %d" % axes), filled())], entries(0, 5), host("K 8 1 2"), filled(), entries(0, 0), host("T 0 5", "K 20 2 2"), filled("G"),
      host("K 20 2 255"), filled("G"), entries(0, 5))
+
+AXES = (0, 1, 2, 3, 4, 5, 6, 7, 8, 9, 10, 11, 12, 13, 14, 15, 16, 17, 23, 24, 25, 128, 136, 254, 255)
+FROM_NINE = (9, 11, 13, 15, 17, 23, 25, 255)
+WITH_A = (8, 9, 10, 11, 12, 13, 14, 15, 24, 25, 136, 254, 255)
+RIGHT = {0: (), 1: (1, 3, 5, 7) + FROM_NINE, 2: (3, 5, 7) + FROM_NINE, 3: (3, 5, 7) + FROM_NINE, 4: (5, 7) + FROM_NINE, 5: (5, 7) + FROM_NINE, 6: (7,) + FROM_NINE, 7: (7,) + FROM_NINE, 8: WITH_A, 9: (), 15: (), 255: ()}
+case("filled_n_under_any_axes", "n of 1 to 7 is right under odd axes that are not below it, n8 under those with A's part, whether a board has them or not; others never are",
+     ONE, store("n1"), *[part for mask, right in RIGHT.items() for part in [host("W 4 %d" % mask)] + [p for axes in AXES for p in (host("K 8 1 %d" % axes), filled("0" if axes in right else "G"))]])
+
+case("filled_n_and_others", "one n that is wrong under them and nothing is written; a movement is wrong under all that no board has, even where it is A's or x's",
+     lines("0", "@07", "@08"), store("n7", "z1", "n8", "n1"), host("T 0 5", "T 1 5", "T 2 5", "T 3 5", "T 4 5", "K 32 4 17"), filled("G"), host("K 32 4 10"), filled("G"), host("K 32 4 14"), filled("G"), entries(0, 5, 5, 5, 5, 5),
+     host("K 16 2 17"), filled(), entries(0, 0, 8, 5, 5, 5), host("T 0 5", "T 1 5", "K 32 4 9"), filled(), entries(0, 0, 8, 16, 24, 5), refused(103, "C 1"), refused(103, "L"), host("T 0 5", "K 16 2 5"), filled("G"),
+     host("W 4 5"), filled(), entries(0, 0), host("T 0 5", "K 16 2 6"), filled("G"), host("W 4 8", "K 32 4 12"), filled("G"), host("K 24 3 12"), filled(), entries(0, 0), host("K 0 0 0", "H axes 8"), store("n8", "0 1,600"),
+     host("T 0 5", "T 1 5", "K 20 2 9"), filled("G"), host("K 20 2 24"), filled("G"), entries(0, 5, 5), host("K 8 1 24"), filled(), entries(0, 0, 5), host("K 20 2 8"), filled(), entries(0, 0, 8))
 
 case("filled_refusals_in_order", "102 before 104 before G; nothing is written",
      MIXED, host("T 1 5", "K 39 4 1", "M 16383", "U 999"), refused(102, "F"), host("U 999"), refused(104, "F"), filled("G"), host("M 0"), refused(102, "F"), host("M 16385", "U 1000"), refused(102, "F"),

@@ -2,6 +2,7 @@ pub mod Demanded
 pub mod FakesAlways
 pub mod FakesBytes
 pub mod FakesCircles
+pub mod FakesTurntable
 pub mod FakesCore
 pub mod FakesCount
 pub mod FakesFollows

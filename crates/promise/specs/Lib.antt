@@ -17,3 +17,4 @@ pub mod Demanded
 pub mod Fakes
 pub mod FakesStore
 pub mod FakesCircles
+pub mod FakesTurntable

@@ -1,12 +1,20 @@
 // One phase: its pulses, and what the next of them does to an axis.
 ghost use mathlib.Core.Path.{_≡_};
 ghost use Prim.Native.Nat.{_≤_, _<_, max};
+ghost use Rattle.count.specs.Pick.{pick};
 ghost use Rattle.count.specs.Numbers.{far};
 ghost use Rattle.motion.specs.work.Here.{signHere};
 ghost use Rattle.motion.specs.Phase.{pulses};
 ghost use Rattle.motion.specs.work.Room.{room};
 use super::Counters;
 use super::Sign;
+
+// One of two numbers by a test.
+pub(crate) fn chosen(b: bool, x: u32, y: u32) -> u32
+    ensures { λ r. ⌜ r ≡ pick b x y ⌝ }
+{
+    if b { x } else { y }
+}
 
 fn larger(a: u32, b: u32) -> u32
     ensures { λ r. ⌜ r ≡ max a b ⌝ }

@@ -18,6 +18,7 @@ use super::Next;
 use super::Sign;
 use super::Signs;
 use super::Stepped;
+use super::phase::chosen;
 use super::phase::pulses_of;
 use super::phase::sign_here;
 
@@ -88,12 +89,6 @@ fn to_by(p: u8, a: u32, b: u32, c: u32) -> u32
         1 => b,
         _ => c,
     }
-}
-
-fn chosen(b: bool, x: u32, y: u32) -> u32
-    ensures { λ r. ⌜ r ≡ pick b x y ⌝ }
-{
-    if b { x } else { y }
 }
 
 // The same as `from_by`, by tests that need no jump: in a loop over a phase they are then made once, before it.

@@ -10,6 +10,7 @@ ghost use Rattle.motion.specs.Plan.{asked, goal, onFrom, firstSpeed, lat
 use super::Counters;
 use super::Move;
 use super::Planned;
+use super::phase::chosen;
 use count::Axis;
 use count::Placed;
 
@@ -56,13 +57,6 @@ fn narrow(w: u32) -> u16
     ensures { λ r. ⌜ r ≡ w ⌝ }
 {
     w as u16
-}
-
-// One of two numbers by a test.
-fn chosen(b: bool, x: u32, y: u32) -> u32
-    ensures { λ r. ⌜ r ≡ pick b x y ⌝ }
-{
-    if b { x } else { y }
 }
 
 // The speed of the first phase: in 3D x's; else the longer axis's, x's at a tie.

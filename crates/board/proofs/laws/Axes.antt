@@ -81,13 +81,10 @@ pub named-below : (axes w : ℕ) → namedBy axes (signed w) ≡ true → w < 25
 unfolding namedBy
 named-below axes w e = by (has axes X && within (pos 1) (pos 7) (signed w) && within (pos 1) (pos axes) (signed w)) refl e
   where
-    seven : within (pos 1) (pos 7) (signed w) ≡ true → w < 256
-    seven g = omega (arith, leb-true w 7 (and-right (leb 1 w) (leb w 7) (sym (within-up 1 7 w (omega arith)) ∙ g)))
-
-    eight : within (pos 8) (pos 8) (signed w) ≡ true → w < 256
-    eight g = omega (arith, leb-true w 8 (and-right (leb 8 w) (leb w 8) (sym (within-up 8 8 w (omega arith)) ∙ g)))
+    up-to : (least most : ℕ) → most < 256 → within (pos least) (pos most) (signed w) ≡ true → w < 256
+    up-to least most l g = omega (arith, l, leb-true w most (and-right (leb least w) (leb w most) (sym (within-up least most w (omega (arith, l))) ∙ g)))
 
     by : (t : Bool) → has axes X && within (pos 1) (pos 7) (signed w) && within (pos 1) (pos axes) (signed w) ≡ t
         → t || (has axes A && within (pos 8) (pos 8) (signed w)) ≡ true → w < 256
-    by true p q = seven (and-right (has axes X) _ (and-left (has axes X && within (pos 1) (pos 7) (signed w)) _ p))
-    by false p q = eight (and-right (has axes A) _ q)
+    by true p q = up-to 1 7 (omega arith) (and-right (has axes X) _ (and-left (has axes X && within (pos 1) (pos 7) (signed w)) _ p))
+    by false p q = up-to 8 8 (omega arith) (and-right (has axes A) _ q)

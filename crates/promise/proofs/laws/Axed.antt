@@ -1,4 +1,4 @@
--- What setting axes leaves alone, whatever the number: the run, the store's part in use and the output. Assumes nothing.
+-- What setting axes leaves alone, whatever the number: the run and the store's part in use. Assumes nothing.
 use Prim.Native.Nat.{ℕ}
 use mathlib.Core.Path.{_≡_, refl}
 use mathlib.Core.Bool.{Bool, true, false}

@@ -39,6 +39,7 @@ pub struct Ticked {
 }
 
 // The positions or origins of the axes as numbers.
+#[repr(C)]
 pub struct Point {
     pub x: i32,
     pub y: i32,

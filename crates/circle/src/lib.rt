@@ -28,6 +28,7 @@ pub struct Circling {
 }
 
 // A point of a plane by its first and second axis, as counts.
+#[repr(C)]
 pub struct Pair {
     pub first: u32,
     pub second: u32,

@@ -10,6 +10,7 @@ pub use sound::counted_at;
 pub use steps::step_to;
 
 // The positions, origins or resting points of the four axes, as counts.
+#[repr(C)]
 pub struct Counters {
     pub x: u32,
     pub y: u32,
@@ -38,6 +39,7 @@ pub enum Moved {
 }
 
 // A movement: where it starts, its three resting points and speeds, the phase, and the pulses made in it.
+#[repr(C)]
 pub struct Move {
     pub start: Counters,
     pub first: Counters,

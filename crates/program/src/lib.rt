@@ -26,12 +26,14 @@ pub struct Acceptance {
 }
 
 // An open loop: its place, and the goes back still to make.
+#[repr(C)]
 pub struct Loop {
     pub place: u16,
     pub left: u16,
 }
 
 // The open loops, the one opened last at depth - 1; the entries past it are 0.
+#[repr(C)]
 pub struct Loops {
     pub at: [Loop; 7],
     pub depth: u8,

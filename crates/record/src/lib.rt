@@ -17,6 +17,7 @@ pub use table::fill;
 pub use table::find;
 
 // The store's part in use: its bytes, its records and the axes that it was written under.
+#[repr(C)]
 pub struct Held {
     pub used: u16,
     pub records: u16,

@@ -1,0 +1,26 @@
+-- `port::answers::sign_number` meets its contract. Assumes nothing.
+use borrow.Author.Needs.{needs}
+use Rattle.port.proofs.answers.sign_number.Statement.{statement}
+use Rattle.port.proofs.answers.sign_number.Tie as tie
+
+enum-told : tie.Need-enum-told
+enum-told c = search needs
+
+enum-told-2 : tie.Need-enum-told-2
+enum-told-2 c = search needs
+
+enum-told-3 : tie.Need-enum-told-3
+enum-told-3 c = search needs
+
+returns : tie.Need-returns
+returns c = cc
+
+returns-2 : tie.Need-returns-2
+returns-2 c = cc
+
+returns-3 : tie.Need-returns-3
+returns-3 c = cc
+
+pub sign-number-spec : {M : Type 1} → statement M
+sign-number-spec =
+    tie.close (tie.spec enum-told enum-told-2 enum-told-3 returns returns-2 returns-3)

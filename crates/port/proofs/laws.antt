@@ -1,0 +1,4 @@
+pub mod Codes
+pub mod Code
+pub mod Ticks
+pub mod Calls

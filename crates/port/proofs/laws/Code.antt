@@ -1,0 +1,216 @@
+-- A state and its board keep each other's word: a board written over a state is read back, a state's own board written over it changes
+-- nothing, and what is written has codes that are known. Assumes nothing.
+use Prim.Native.Nat.{ℕ}
+use mathlib.Core.Path.{_≡_, refl, sym}
+use mathlib.Core.Bool.{true, _&&_}
+use lib.Dec.{leb, eqb}
+use Rattle.count.proofs.laws.Truth.{and-left, and-right, both}
+use Rattle.motion.specs.declared.Counters.{Counters}
+use Rattle.motion.specs.declared.Move.{Move}
+use Rattle.travel.specs.declared.Travel.{Travel}
+use Rattle.travel.specs.declared.Travel.the-variants as travel
+use Rattle.engine.specs.declared.Job.{Job}
+use Rattle.engine.specs.declared.Job.the-variants as job
+use Rattle.engine.specs.declared.Under.{Under}
+use Rattle.engine.specs.declared.Under.the-variants as under
+use Rattle.engine.specs.State.{withAt, withRun, running}
+use Rattle.engine.specs.work.Acts.{underOf}
+use Rattle.board.specs.declared.Board.{Board}
+use Rattle.board.specs.State.{board}
+use Rattle.port.specs.declared.Round.{Round}
+use Rattle.port.specs.declared.State.{State}
+use Rattle.port.specs.Code.{arcOf, roundOf, travelOf, straightIn, roundIn, kindIn, straightOver, roundOver, kindOver, codeOf, jobOf, byteOver, numberOver, known, engineOf, boardOf, over, blank}
+use Rattle.port.specs.work.Work.{moved}
+use Rattle.port.proofs.laws.Codes.{Each, up-to, flag-read, flag-written, flag-known, plane-written, plane-known, direction-written, direction-known, circling-read, arc-read, arc-written}
+
+-- ---- what known codes are
+
+pub record Known (s : State) : Type 0 where
+  pub job : leb (s .job) 6 ≡ true
+  pub kind : leb (s .kind) 1 ≡ true
+  pub over : leb (s .over) 1 ≡ true
+  pub standing : leb (s .standing) 1 ≡ true
+  pub three : leb (s .three) 1 ≡ true
+  pub plane : leb (s .plane) 2 ≡ true
+  pub direction : leb (s .direction) 1 ≡ true
+  pub round-plane : leb (s .round .plane) 2 ≡ true
+  pub round-direction : leb (s .round .direction) 1 ≡ true
+
+pub codes : (s : State) → known s ≡ true → Known s
+unfolding known
+codes s h =
+    let j = leb (s .job) 6 in
+    let k = leb (s .kind) 1 in
+    let o = leb (s .over) 1 in
+    let t = leb (s .standing) 1 in
+    let n = leb (s .three) 1 in
+    let p = leb (s .plane) 2 in
+    let d = leb (s .direction) 1 in
+    let q = leb (s .round .plane) 2 in
+    let r = leb (s .round .direction) 1 in
+    let f = and-left (j && k && (o && t && n)) (p && d && q && r) h in
+    let c = and-right (j && k && (o && t && n)) (p && d && q && r) h in
+    let jk = and-left (j && k) (o && t && n) f in
+    let otn = and-right (j && k) (o && t && n) f in
+    let ot = and-left (o && t) n otn in
+    let pdq = and-left (p && d && q) r c in
+    let pd = and-left (p && d) q pdq in
+    record {
+      job = and-left j k jk;
+      kind = and-right j k jk;
+      over = and-left o t ot;
+      standing = and-right o t ot;
+      three = and-right (o && t) n otn;
+      plane = and-left p d pd;
+      direction = and-right p d pd;
+      round-plane = and-right (p && d) q pdq;
+      round-direction = and-right (p && d && q) r c;
+    }
+
+pub coded : (s : State) → Known s → known s ≡ true
+unfolding known
+coded s k =
+    both (both (both (k .job) (k .kind)) (both (both (k .over) (k .standing)) (k .three)))
+    (both (both (both (k .plane) (k .direction)) (k .round-plane)) (k .round-direction))
+
+-- ---- a board written over a state is read back
+
+travel-read : (t : Travel) (m : Move) (r : Round) → travelOf (kindIn t) (straightIn t m) (roundIn t r) ≡ t
+unfolding travelOf
+travel-read (travel.Straight n) m r = refl
+travel-read (travel.Round a) m r = rw (arc-read a) refl
+
+job-read : (j : Job) (k : ℕ) (m : Move) (r : Round) (n c : ℕ)
+    → jobOf (codeOf j) (travelOf (kindOver (underOf j) k) (straightOver (underOf j) m) (roundOver (underOf j) r)) (numberOver j n) (byteOver j c) ≡ j
+unfolding jobOf
+job-read job.Idle k m r n c = refl
+job-read job.Storing k m r n c = refl
+job-read (job.Direct t) k m r n c = rw (travel-read t m r) refl
+job-read job.Ready k m r n c = refl
+job-read (job.Moving t) k m r n c = rw (travel-read t m r) refl
+job-read (job.Delay q) k m r n c = refl
+job-read (job.Wait b q) k m r n c = refl
+
+pub read-written : (s : State) (b : Board) → boardOf (over s b) ≡ b
+read-written s b =
+    rw (job-read (b .engine .run .job) (s .kind) (s .straight) (s .round) (s .number) (s .byte), circling-read (b .engine .circling), flag-read (b .engine .three), flag-read (b .standing), flag-read (b .line .over))
+    refl
+
+-- ---- a state's own board written over it changes nothing
+
+-- what a job writes over a state: its own code, a movement and an arc, and the rest as it stood
+pub record Writes (s : State) (m : Move) (r : Round) (x : Job) : Type 0 where
+  pub code : codeOf x ≡ s .job
+  pub straight : straightOver (underOf x) (s .straight) ≡ m
+  pub round : roundOver (underOf x) (s .round) ≡ r
+  pub kind : kindOver (underOf x) (s .kind) ≡ s .kind
+  pub number : numberOver x (s .number) ≡ s .number
+  pub byte : byteOver x (s .byte) ≡ s .byte
+
+pub written-by : (s : State) (m : Move) (r : Round) (x : Job) (at : Counters) → known s ≡ true → Writes s m r x
+    → over s (board (withRun (withAt (engineOf s) at) (running x (s .place) (s .loops))) (boardOf s .standing) (boardOf s .line)) ≡ moved s at m r
+written-by s m r x at h w =
+    let k = codes s h in
+    rw (w .code, w .straight, w .round, w .kind, w .number, w .byte, flag-written (s .three) (k .three), flag-written (s .standing) (k .standing), flag-written (s .over) (k .over), plane-written (s .plane) (k .plane), direction-written (s .direction) (k .direction))
+    refl
+
+-- a job that moves writes what moves
+module _ (s : State) (m : Move) (r : Round) (t : Travel) (i : straightIn t (s .straight) ≡ m) (o : roundIn t (s .round) ≡ r) (k : kindIn t ≡ s .kind) where
+  pub direct-writes : s .job ≡ 2 → Writes s m r (job.Direct t)
+  direct-writes e = record { code = sym e; straight = i; round = o; kind = k; number = refl; byte = refl }
+
+  pub moving-writes : s .job ≡ 4 → Writes s m r (job.Moving t)
+  moving-writes e = record { code = sym e; straight = i; round = o; kind = k; number = refl; byte = refl }
+
+abbrev pub travelIn : State → Travel
+travelIn s = travelOf (s .kind) (s .straight) (s .round)
+
+module _ (s : State) (h : known s ≡ true) where
+  k : Known s
+  k = codes s h
+
+  abbrev Same : Job → Type 0
+  Same x = Writes s (s .straight) (s .round) x
+
+  -- each of the seven jobs of a state writes it again
+  each-again : straightIn (travelIn s) (s .straight) ≡ s .straight → roundIn (travelIn s) (s .round) ≡ s .round → kindIn (travelIn s) ≡ s .kind
+      → Each 6 (λ j. s .job ≡ j → Same (jobOf j (travelIn s) (s .number) (s .byte)))
+  unfolding jobOf
+  each-again i o t = (
+    (
+      (
+        (
+          (
+            (
+              λ e. record { code = sym e; straight = refl; round = refl; kind = refl; number = refl; byte = refl },
+              λ e. record { code = sym e; straight = refl; round = refl; kind = refl; number = refl; byte = refl },
+            ),
+            direct-writes s (s .straight) (s .round) (travelIn s) i o t,
+          ),
+          λ e. record { code = sym e; straight = refl; round = refl; kind = refl; number = refl; byte = refl },
+        ),
+        moving-writes s (s .straight) (s .round) (travelIn s) i o t,
+      ),
+      λ e. record { code = sym e; straight = refl; round = refl; kind = refl; number = refl; byte = refl },
+    ),
+    λ e. record { code = sym e; straight = refl; round = refl; kind = refl; number = refl; byte = refl },
+  )
+
+  -- what moves is written again
+  abbrev Moves : ℕ → Type 0
+  Moves n =
+      (straightIn (travelOf n (s .straight) (s .round)) (s .straight) ≡ s .straight)
+      × (roundIn (travelOf n (s .straight) (s .round)) (s .round) ≡ s .round)
+      × (kindIn (travelOf n (s .straight) (s .round)) ≡ n)
+
+  moves-again : Moves (s .kind)
+  unfolding travelOf
+  moves-again = up-to Moves 1 ((refl, refl, refl), (refl, arc-written (s .round) (k .round-plane) (k .round-direction), refl)) (s .kind) (k .kind)
+
+  again : Same (jobOf (s .job) (travelIn s) (s .number) (s .byte))
+  again =
+      let w = moves-again in
+      up-to (λ j. s .job ≡ j → Same (jobOf j (travelIn s) (s .number) (s .byte))) 6 (each-again (w .0) (w .1) (w .2)) (s .job) (k .job) refl
+
+  pub written-read : over s (boardOf s) ≡ s
+  written-read = written-by s (s .straight) (s .round) (jobOf (s .job) (travelIn s) (s .number) (s .byte)) (s .at) h again
+
+-- ---- what is written has known codes
+
+job-known : (j : Job) → leb (codeOf j) 6 ≡ true
+job-known job.Idle = refl
+job-known job.Storing = refl
+job-known (job.Direct t) = refl
+job-known job.Ready = refl
+job-known (job.Moving t) = refl
+job-known (job.Delay n) = refl
+job-known (job.Wait c t) = refl
+
+-- of what moves, or of what stood there
+going-known : (u : Under) (k : ℕ) (r : Round) → leb k 1 ≡ true → leb (r .plane) 2 ≡ true → leb (r .direction) 1 ≡ true
+    → (leb (kindOver u k) 1 ≡ true) × (leb (roundOver u r .plane) 2 ≡ true) × (leb (roundOver u r .direction) 1 ≡ true)
+going-known (under.Going (travel.Straight m)) k r a b c = (refl, b, c)
+going-known (under.Going (travel.Round t)) k r a b c = (refl, plane-known (t .circling .plane), direction-known (t .circling .direction))
+going-known under.Nothing k r a b c = (a, b, c)
+
+pub stays-known : (s : State) (b : Board) → known s ≡ true → known (over s b) ≡ true
+stays-known s b h =
+    let k = codes s h in
+    let e = b .engine in
+    let g = going-known (underOf (e .run .job)) (s .kind) (s .round) (k .kind) (k .round-plane) (k .round-direction) in
+    coded (over s b)
+    (record {
+      job = job-known (e .run .job);
+      kind = g .0;
+      over = flag-known (b .line .over);
+      standing = flag-known (b .standing);
+      three = flag-known (e .three);
+      plane = plane-known (e .circling .plane);
+      direction = direction-known (e .circling .direction);
+      round-plane = g .1;
+      round-direction = g .2;
+    })
+
+pub blank-known : known blank ≡ true
+unfolding known
+blank-known = refl

@@ -1,0 +1,4 @@
+pub mod Code
+pub mod Calls
+pub mod Store
+pub mod work

@@ -1,4 +1,5 @@
 pub mod Code
 pub mod Calls
 pub mod Store
+pub mod Host
 pub mod work

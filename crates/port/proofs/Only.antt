@@ -24,48 +24,62 @@ clock-one κs a r r′ s s′ p q = p ∙ sym q
 pub show-one : (κs : _) (a : _) (r r′ : _) (s s′ : _) → show.Post κs a r s → show.Post κs a r′ s′ → r ≡ r′
 show-one κs a r r′ s s′ p q = p ∙ sym q
 
--- what a lent parameter is left as: the first, the second, ..
-abbrev first : {X A : Type 0} → X × A → X
-first s = s .0
+-- the fourth, fifth and sixth parameter, `reply`, `store` and `table`, as they are left
+abbrev receive-reply : {X A B C D : Type 0} → A × (B × (C × (X × D))) → X
+receive-reply s = s .1 .1 .1 .0
 
-abbrev second : {X A B : Type 0} → A × (X × B) → X
-second s = s .1 .0
+abbrev receive-store : {X A B C D E : Type 0} → A × (B × (C × (D × (X × E)))) → X
+receive-store s = s .1 .1 .1 .1 .0
 
-abbrev third : {X A B C : Type 0} → A × (B × (X × C)) → X
-third s = s .1 .1 .0
+abbrev receive-table : {X A B C D E F : Type 0} → A × (B × (C × (D × (E × (X × F))))) → X
+receive-table s = s .1 .1 .1 .1 .1 .0
 
-abbrev fourth : {X A B C D : Type 0} → A × (B × (C × (X × D))) → X
-fourth s = s .1 .1 .1 .0
-
-abbrev fifth : {X A B C D E : Type 0} → A × (B × (C × (D × (X × E)))) → X
-fifth s = s .1 .1 .1 .1 .0
-
-abbrev sixth : {X A B C D E F : Type 0} → A × (B × (C × (D × (E × (X × F))))) → X
-sixth s = s .1 .1 .1 .1 .1 .0
-
--- `reply`, `store` and `table`
 pub receive-one : (κs : _) (a : _) (r r′ : _) (s s′ : _) → receive.Post κs a r s → receive.Post κs a r′ s′
-    → (r ≡ r′) × (now (fourth s) ≡ now (fourth s′)) × (now (fifth s) ≡ now (fifth s′)) × (now (sixth s) ≡ now (sixth s′))
+    → (r ≡ r′) × (now (receive-reply s) ≡ now (receive-reply s′)) × (now (receive-store s) ≡ now (receive-store s′)) × (now (receive-table s) ≡ now (receive-table s′))
 receive-one κs a r r′ s s′ p q =
     let e = p ∙ sym q in
     (ap (λ (o : Hearing). o .result) e, ap (λ (o : Hearing). o .after .reply) e, ap (λ (o : Hearing). o .after .memory .store) e, ap (λ (o : Hearing). o .after .memory .table) e)
 
--- `text`
-pub list-one : (κs : _) (a : _) (r r′ : _) (s s′ : _) → list.Post κs a r s → list.Post κs a r′ s′ → (r ≡ r′) × (now (third s) ≡ now (third s′))
+-- the third, `text`
+abbrev list-text : {X A B C : Type 0} → A × (B × (X × C)) → X
+list-text s = s .1 .1 .0
+
+pub list-one : (κs : _) (a : _) (r r′ : _) (s s′ : _) → list.Post κs a r s → list.Post κs a r′ s′ → (r ≡ r′) × (now (list-text s) ≡ now (list-text s′))
 list-one κs a r r′ s s′ p q = (ap (λ (t : Listing). t .result) (p ∙ sym q), ap (λ (t : Listing). t .text) (p ∙ sym q))
 
--- `table`
-pub fill-one : (κs : _) (a : _) (r r′ : _) (s s′ : _) → fill.Post κs a r s → fill.Post κs a r′ s′ → (r ≡ r′) × (now (fifth s) ≡ now (fifth s′))
+-- the fifth, `table`
+abbrev fill-table : {X A B C D E : Type 0} → A × (B × (C × (D × (X × E)))) → X
+fill-table s = s .1 .1 .1 .1 .0
+
+pub fill-one : (κs : _) (a : _) (r r′ : _) (s s′ : _) → fill.Post κs a r s → fill.Post κs a r′ s′ → (r ≡ r′) × (now (fill-table s) ≡ now (fill-table s′))
 fill-one κs a r r′ s s′ p q = (ap (λ (x : Filling). x .refusal) (p ∙ sym q), ap (λ (x : Filling). x .table) (p ∙ sym q))
 
--- `used`, `records`, `axes`, `store` and `table`
+-- the first to fifth
+abbrev join-used : {X A : Type 0} → X × A → X
+join-used s = s .0
+
+abbrev join-records : {X A B : Type 0} → A × (X × B) → X
+join-records s = s .1 .0
+
+abbrev join-axes : {X A B C : Type 0} → A × (B × (X × C)) → X
+join-axes s = s .1 .1 .0
+
+abbrev join-store : {X A B C D : Type 0} → A × (B × (C × (X × D))) → X
+join-store s = s .1 .1 .1 .0
+
+abbrev join-table : {X A B C D E : Type 0} → A × (B × (C × (D × (X × E)))) → X
+join-table s = s .1 .1 .1 .1 .0
+
 pub join-one : (κs : _) (a : _) (r r′ : _) (s s′ : _) → join.Post κs a r s → join.Post κs a r′ s′
-    → (r ≡ r′) × (now (first s) ≡ now (first s′)) × (now (second s) ≡ now (second s′)) × (now (third s) ≡ now (third s′)) × (now (fourth s) ≡ now (fourth s′))
-    × (now (fifth s) ≡ now (fifth s′))
+    → (r ≡ r′) × (now (join-used s) ≡ now (join-used s′)) × (now (join-records s) ≡ now (join-records s′)) × (now (join-axes s) ≡ now (join-axes s′)) × (now (join-store s) ≡ now (join-store s′))
+    × (now (join-table s) ≡ now (join-table s′))
 join-one κs a r r′ s s′ p q =
     let e = p ∙ sym q in
     (ap (λ (x : Joining). x .joined .refusal) e, ap (λ (x : Joining). x .joined .held .used) e, ap (λ (x : Joining). x .joined .held .records) e, ap (λ (x : Joining). x .joined .held .axes) e, ap (λ (x : Joining). x .memory .store) e, ap (λ (x : Joining). x .memory .table) e)
 
--- `distances`
-pub chain-one : (κs : _) (a : _) (r r′ : _) (s s′ : _) → chain.Post κs a r s → chain.Post κs a r′ s′ → (r ≡ r′) × (now (fifth s) ≡ now (fifth s′))
+-- the fifth, `distances`
+abbrev chain-distances : {X A B C D E : Type 0} → A × (B × (C × (D × (X × E)))) → X
+chain-distances s = s .1 .1 .1 .1 .0
+
+pub chain-one : (κs : _) (a : _) (r r′ : _) (s s′ : _) → chain.Post κs a r s → chain.Post κs a r′ s′ → (r ≡ r′) × (now (chain-distances s) ≡ now (chain-distances s′))
 chain-one κs a r r′ s s′ p q = (ap (λ (x : Chained). x .refusal) (p ∙ sym q), ap (λ (x : Chained). x .steps) (p ∙ sym q))

@@ -21,9 +21,6 @@ use Rattle.travel.specs.declared.Travel.the-variants as travel
 use Rattle.engine.specs.declared.Engine.{Engine}
 use Rattle.engine.specs.declared.Job.{Job}
 use Rattle.engine.specs.declared.Job.the-variants as job
-use Rattle.engine.specs.declared.Under.{Under}
-use Rattle.engine.specs.declared.Under.the-variants as under
-use Rattle.engine.specs.work.Acts.{underOf}
 use Rattle.board.specs.declared.Board.{Board}
 use Rattle.port.specs.declared.Round.{Round}
 use Rattle.port.specs.declared.State.{State}
@@ -92,18 +89,6 @@ abbrev pub kindIn : Travel → ℕ
 kindIn (travel.Straight m) = 0
 kindIn (travel.Round a) = 1
 
-abbrev pub straightOver : Under → Move → Move
-straightOver (under.Going t) old = straightIn t old
-straightOver under.Nothing old = old
-
-abbrev pub roundOver : Under → Round → Round
-roundOver (under.Going t) old = roundIn t old
-roundOver under.Nothing old = old
-
-abbrev pub kindOver : Under → ℕ → ℕ
-kindOver (under.Going t) old = kindIn t
-kindOver under.Nothing old = old
-
 -- ---- the job
 
 abbrev pub codeOf : Job → ℕ
@@ -123,6 +108,34 @@ jobOf code t number byte =
     (pick (eqb code 3) job.Ready
     (pick (eqb code 4) (job.Moving t)
     (pick (eqb code 5) (job.Delay number) (job.Wait byte number))))))
+
+-- what a job moves, written over what stood there
+abbrev pub straightOver : Job → Move → Move
+straightOver job.Idle old = old
+straightOver job.Storing old = old
+straightOver (job.Direct t) old = straightIn t old
+straightOver job.Ready old = old
+straightOver (job.Moving t) old = straightIn t old
+straightOver (job.Delay n) old = old
+straightOver (job.Wait c t) old = old
+
+abbrev pub roundOver : Job → Round → Round
+roundOver job.Idle old = old
+roundOver job.Storing old = old
+roundOver (job.Direct t) old = roundIn t old
+roundOver job.Ready old = old
+roundOver (job.Moving t) old = roundIn t old
+roundOver (job.Delay n) old = old
+roundOver (job.Wait c t) old = old
+
+abbrev pub kindOver : Job → ℕ → ℕ
+kindOver job.Idle old = old
+kindOver job.Storing old = old
+kindOver (job.Direct t) old = kindIn t
+kindOver job.Ready old = old
+kindOver (job.Moving t) old = kindIn t
+kindOver (job.Delay n) old = old
+kindOver (job.Wait c t) old = old
 
 abbrev pub byteOver : Job → ℕ → ℕ
 byteOver job.Idle old = old
@@ -185,8 +198,8 @@ codedOver s e line len over standing =
     record {
       at = e .at;
       origin = e .origin;
-      straight = straightOver (underOf j) (s .straight);
-      round = roundOver (underOf j) (s .round);
+      straight = straightOver j (s .straight);
+      round = roundOver j (s .round);
       held = e .held;
       place = e .run .place;
       number = numberOver j (s .number);
@@ -201,7 +214,7 @@ codedOver s e line len over standing =
       direction = directionCode (e .circling .direction);
       output = e .output;
       job = codeOf j;
-      kind = kindOver (underOf j) (s .kind);
+      kind = kindOver j (s .kind);
       byte = byteOver j (s .byte);
     }
 

@@ -13,7 +13,6 @@ use circle::Plane;
 use engine::Engine;
 use engine::Job;
 use engine::Run;
-use engine::Under;
 use motion::Counters;
 use motion::Move;
 use program::Loop;
@@ -133,32 +132,47 @@ fn kind_in(t: Travel) -> u8
 }
 
 // The straight movement under way, or what stood there.
-fn straight_over(u: Under, old: Move) -> Move
-    ensures { λ r. ⌜ r ≡ straightOver u old ⌝ }
+fn straight_over(job: Job, old: Move) -> Move
+    ensures { λ r. ⌜ r ≡ straightOver job old ⌝ }
 {
-    match u {
-        Under::Going(t) => straight_in(t, old),
-        Under::Nothing => old,
+    match job {
+        Job::Idle => old,
+        Job::Storing => old,
+        Job::Direct(t) => straight_in(t, old),
+        Job::Ready => old,
+        Job::Moving(t) => straight_in(t, old),
+        Job::Delay(_) => old,
+        Job::Wait(_, _) => old,
     }
 }
 
 // The arc under way, or what stood there.
-fn round_over(u: Under, old: Round) -> Round
-    ensures { λ r. ⌜ r ≡ roundOver u old ⌝ }
+fn round_over(job: Job, old: Round) -> Round
+    ensures { λ r. ⌜ r ≡ roundOver job old ⌝ }
 {
-    match u {
-        Under::Going(t) => round_in(t, old),
-        Under::Nothing => old,
+    match job {
+        Job::Idle => old,
+        Job::Storing => old,
+        Job::Direct(t) => round_in(t, old),
+        Job::Ready => old,
+        Job::Moving(t) => round_in(t, old),
+        Job::Delay(_) => old,
+        Job::Wait(_, _) => old,
     }
 }
 
 // Which of the two moves, or what stood there.
-fn kind_over(u: Under, old: u8) -> u8
-    ensures { λ r. ⌜ r ≡ kindOver u old ⌝ }
+fn kind_over(job: Job, old: u8) -> u8
+    ensures { λ r. ⌜ r ≡ kindOver job old ⌝ }
 {
-    match u {
-        Under::Going(t) => kind_in(t),
-        Under::Nothing => old,
+    match job {
+        Job::Idle => old,
+        Job::Storing => old,
+        Job::Direct(t) => kind_in(t),
+        Job::Ready => old,
+        Job::Moving(t) => kind_in(t),
+        Job::Delay(_) => old,
+        Job::Wait(_, _) => old,
     }
 }
 
@@ -299,9 +313,8 @@ impl State {
         let c = e.circling;
         let plane = c.plane;
         let direction = c.direction;
-        let under = e.under_way();
-        let straight = straight_over(under, self.straight);
-        let round = round_over(under, self.round);
+        let straight = straight_over(job, self.straight);
+        let round = round_over(job, self.round);
         let mut s = self;
         s.at = at;
         s.origin = origin;
@@ -317,7 +330,7 @@ impl State {
         s.direction = direction_code(direction);
         s.output = e.output;
         s.job = code_of(job);
-        s.kind = kind_over(under, self.kind);
+        s.kind = kind_over(job, self.kind);
         s.byte = byte_over(job, self.byte);
         s
     }

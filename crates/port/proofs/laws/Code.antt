@@ -11,10 +11,7 @@ use Rattle.travel.specs.declared.Travel.{Travel}
 use Rattle.travel.specs.declared.Travel.the-variants as travel
 use Rattle.engine.specs.declared.Job.{Job}
 use Rattle.engine.specs.declared.Job.the-variants as job
-use Rattle.engine.specs.declared.Under.{Under}
-use Rattle.engine.specs.declared.Under.the-variants as under
 use Rattle.engine.specs.State.{withAt, withRun, running}
-use Rattle.engine.specs.work.Acts.{underOf}
 use Rattle.board.specs.declared.Board.{Board}
 use Rattle.board.specs.State.{board}
 use Rattle.port.specs.declared.Round.{Round}
@@ -81,7 +78,7 @@ travel-read (travel.Straight n) m r = refl
 travel-read (travel.Round a) m r = rw (arc-read a) refl
 
 job-read : (j : Job) (k : ℕ) (m : Move) (r : Round) (n c : ℕ)
-    → jobOf (codeOf j) (travelOf (kindOver (underOf j) k) (straightOver (underOf j) m) (roundOver (underOf j) r)) (numberOver j n) (byteOver j c) ≡ j
+    → jobOf (codeOf j) (travelOf (kindOver j k) (straightOver j m) (roundOver j r)) (numberOver j n) (byteOver j c) ≡ j
 unfolding jobOf
 job-read job.Idle k m r n c = refl
 job-read job.Storing k m r n c = refl
@@ -101,9 +98,9 @@ read-written s b =
 -- what a job writes over a state: its own code, a movement and an arc, and the rest as it stood
 pub record Writes (s : State) (m : Move) (r : Round) (x : Job) : Type 0 where
   pub code : codeOf x ≡ s .job
-  pub straight : straightOver (underOf x) (s .straight) ≡ m
-  pub round : roundOver (underOf x) (s .round) ≡ r
-  pub kind : kindOver (underOf x) (s .kind) ≡ s .kind
+  pub straight : straightOver x (s .straight) ≡ m
+  pub round : roundOver x (s .round) ≡ r
+  pub kind : kindOver x (s .kind) ≡ s .kind
   pub number : numberOver x (s .number) ≡ s .number
   pub byte : byteOver x (s .byte) ≡ s .byte
 
@@ -187,17 +184,27 @@ job-known (job.Delay n) = refl
 job-known (job.Wait c t) = refl
 
 -- of what moves, or of what stood there
-going-known : (u : Under) (k : ℕ) (r : Round) → leb k 1 ≡ true → leb (r .plane) 2 ≡ true → leb (r .direction) 1 ≡ true
-    → (leb (kindOver u k) 1 ≡ true) × (leb (roundOver u r .plane) 2 ≡ true) × (leb (roundOver u r .direction) 1 ≡ true)
-going-known (under.Going (travel.Straight m)) k r a b c = (refl, b, c)
-going-known (under.Going (travel.Round t)) k r a b c = (refl, plane-known (t .circling .plane), direction-known (t .circling .direction))
-going-known under.Nothing k r a b c = (a, b, c)
+abbrev GoingKnown : ℕ → Round → Type 0
+GoingKnown k r = (leb k 1 ≡ true) × (leb (r .plane) 2 ≡ true) × (leb (r .direction) 1 ≡ true)
+
+travel-known : (t : Travel) (k : ℕ) (r : Round) → GoingKnown k r → GoingKnown (kindIn t) (roundIn t r)
+travel-known (travel.Straight m) k r g = (refl, g .1, g .2)
+travel-known (travel.Round a) k r g = (refl, plane-known (a .circling .plane), direction-known (a .circling .direction))
+
+going-known : (j : Job) (k : ℕ) (r : Round) → GoingKnown k r → GoingKnown (kindOver j k) (roundOver j r)
+going-known job.Idle k r g = g
+going-known job.Storing k r g = g
+going-known (job.Direct t) k r g = travel-known t k r g
+going-known job.Ready k r g = g
+going-known (job.Moving t) k r g = travel-known t k r g
+going-known (job.Delay n) k r g = g
+going-known (job.Wait c t) k r g = g
 
 pub stays-known : (s : State) (b : Board) → known s ≡ true → known (over s b) ≡ true
 stays-known s b h =
     let k = codes s h in
     let e = b .engine in
-    let g = going-known (underOf (e .run .job)) (s .kind) (s .round) (k .kind) (k .round-plane) (k .round-direction) in
+    let g = going-known (e .run .job) (s .kind) (s .round) (k .kind, k .round-plane, k .round-direction) in
     coded (over s b)
     (record {
       job = job-known (e .run .job);

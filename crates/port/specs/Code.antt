@@ -16,6 +16,7 @@ use Rattle.circle.specs.declared.Pair.{Pair}
 use Rattle.circle.specs.declared.Plane.{Plane}
 use Rattle.circle.specs.declared.Plane.the-variants.{XY, XZ, YZ}
 use Rattle.circle.specs.Plan.{planeOf, directionOf}
+use Rattle.program.specs.declared.Loops.{Loops}
 use Rattle.travel.specs.declared.Travel.{Travel}
 use Rattle.travel.specs.declared.Travel.the-variants as travel
 use Rattle.engine.specs.declared.Engine.{Engine}
@@ -223,19 +224,31 @@ abbrev pub over : State → Board → State
 over s b = codedOver s (b .engine) (b .line .bytes) (b .line .len) (flag (b .line .over)) (flag (b .standing))
 
 -- every number 0
+abbrev pub noPoint : Counters
+noPoint = record { x = 0; y = 0; z = 0; a = 0 }
+
+abbrev pub noMove : Counters → Move
+noMove none = record { start = none; first = none; second = none; third = none; speed1 = 0; speed2 = 0; speed3 = 0; phase = 0; made = 0 }
+
+abbrev pub noRound : Round
+noRound =
+    let none : Pair = record { first = 0; second = 0 } in
+    record { centre = none; start = none; length = 0; made = 0; speed = 0; plane = 0; direction = 0 }
+
+abbrev pub noLoops : Loops
+noLoops = record { at = replicate 7 (record { place = 0; left = 0 }); depth = 0 }
+
 abbrev pub blank : State
 blank =
-    let none : Counters = record { x = 0; y = 0; z = 0; a = 0 } in
-    let pair : Pair = record { first = 0; second = 0 } in
     record {
-      at = none;
-      origin = none;
-      straight = record { start = none; first = none; second = none; third = none; speed1 = 0; speed2 = 0; speed3 = 0; phase = 0; made = 0 };
-      round = record { centre = pair; start = pair; length = 0; made = 0; speed = 0; plane = 0; direction = 0 };
+      at = noPoint;
+      origin = noPoint;
+      straight = noMove noPoint;
+      round = noRound;
       held = record { used = 0; records = 0; axes = 0 };
       place = 0;
       number = 0;
-      loops = record { at = replicate 7 (record { place = 0; left = 0 }); depth = 0 };
+      loops = noLoops;
       line = replicate 80 0;
       len = 0;
       over = 0;

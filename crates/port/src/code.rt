@@ -1,6 +1,6 @@
 // A state read as a board, and what a board says written back over a state.
 ghost use mathlib.Core.Path.{_≡_};
-ghost use Rattle.port.specs.Code.{flag, planeCode, directionCode, circlingOf, arcOf, roundOf, travelOf, straightIn, roundIn, kindIn, straightOver, roundOver, kindOver, jobOf, codeOf, byteOver, numberOver, known, engineOf, boardOf, codedOver, over, blank};
+ghost use Rattle.port.specs.Code.{flag, planeCode, directionCode, circlingOf, arcOf, roundOf, travelOf, straightIn, roundIn, kindIn, straightOver, roundOver, kindOver, jobOf, codeOf, byteOver, numberOver, known, engineOf, boardOf, codedOver, over, noPoint, noMove, noRound, noLoops, blank};
 use crate::Round;
 use crate::State;
 use board::Board;
@@ -236,6 +236,61 @@ fn job_of(code: u8, travel: Travel, number: u16, byte: u8) -> Job
     }
 }
 
+// ---- nothing
+
+fn no_point() -> Counters
+    ensures { λ r. ⌜ r ≡ noPoint ⌝ }
+{
+    Counters {
+        x: 0,
+        y: 0,
+        z: 0,
+        a: 0,
+    }
+}
+
+fn no_move(none: Counters) -> Move
+    ensures { λ r. ⌜ r ≡ noMove none ⌝ }
+{
+    Move {
+        start: none,
+        first: none,
+        second: none,
+        third: none,
+        speed1: 0,
+        speed2: 0,
+        speed3: 0,
+        phase: 0,
+        made: 0,
+    }
+}
+
+fn no_round() -> Round
+    ensures { λ r. ⌜ r ≡ noRound ⌝ }
+{
+    let none = Pair {
+        first: 0,
+        second: 0,
+    };
+    Round {
+        centre: none,
+        start: none,
+        length: 0,
+        made: 0,
+        speed: 0,
+        plane: 0,
+        direction: 0,
+    }
+}
+
+fn no_loops() -> Loops
+    ensures { λ r. ⌜ r ≡ noLoops ⌝ }
+{
+    let none = Loop { place: 0, left: 0 };
+    let at = [none; 7];
+    Loops { at, depth: 0 }
+}
+
 // ---- the board
 
 impl State {
@@ -354,55 +409,22 @@ impl State {
     pub(crate) fn blank() -> State
         ensures { λ r. ⌜ r ≡ blank ⌝ }
     {
-        let none = Counters {
-            x: 0,
-            y: 0,
-            z: 0,
-            a: 0,
-        };
-        let straight = Move {
-            start: none,
-            first: none,
-            second: none,
-            third: none,
-            speed1: 0,
-            speed2: 0,
-            speed3: 0,
-            phase: 0,
-            made: 0,
-        };
-        let pair = Pair {
-            first: 0,
-            second: 0,
-        };
-        let round = Round {
-            centre: pair,
-            start: pair,
-            length: 0,
-            made: 0,
-            speed: 0,
-            plane: 0,
-            direction: 0,
-        };
+        let none = no_point();
         let held = Held {
             used: 0,
             records: 0,
             axes: 0,
         };
-        let l = Loop { place: 0, left: 0 };
-        let at = [l; 7];
-        let loops = Loops { at, depth: 0 };
-        let line = [0u8; 80];
         State {
             at: none,
             origin: none,
-            straight,
-            round,
+            straight: no_move(none),
+            round: no_round(),
             held,
             place: 0,
             number: 0,
-            loops,
-            line,
+            loops: no_loops(),
+            line: [0u8; 80],
             len: 0,
             over: 0,
             standing: 0,

@@ -82,8 +82,8 @@ enum {
     BOARD_WAIT = 6      /* a program that waits for a character */
 };
 
-/* The state of a board. A host may read every field. One that alters it is refused with 103 where no board has such a state; what a field
-   says is not looked at where the job has no use for it. */
+/* The state of a board. A host may read every field. It may also alter one: a code or flag that stands for nothing is refused with 103, and
+   so is a state that no board comes to; any other field that the job has no use for is not looked at, and stays. */
 typedef struct board_state {
     board_counters at;     /* the positions */
     board_counters origin; /* the origins */

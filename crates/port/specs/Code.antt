@@ -111,32 +111,23 @@ jobOf code t number byte =
     (pick (eqb code 5) (job.Delay number) (job.Wait byte number))))))
 
 -- what a job moves, written over what stood there
+abbrev pub movedBy : {A : Type 0} → (Travel → A) → A → Job → A
+movedBy f old job.Idle = old
+movedBy f old job.Storing = old
+movedBy f old (job.Direct t) = f t
+movedBy f old job.Ready = old
+movedBy f old (job.Moving t) = f t
+movedBy f old (job.Delay n) = old
+movedBy f old (job.Wait c t) = old
+
 abbrev pub straightOver : Job → Move → Move
-straightOver job.Idle old = old
-straightOver job.Storing old = old
-straightOver (job.Direct t) old = straightIn t old
-straightOver job.Ready old = old
-straightOver (job.Moving t) old = straightIn t old
-straightOver (job.Delay n) old = old
-straightOver (job.Wait c t) old = old
+straightOver j old = movedBy (λ t. straightIn t old) old j
 
 abbrev pub roundOver : Job → Round → Round
-roundOver job.Idle old = old
-roundOver job.Storing old = old
-roundOver (job.Direct t) old = roundIn t old
-roundOver job.Ready old = old
-roundOver (job.Moving t) old = roundIn t old
-roundOver (job.Delay n) old = old
-roundOver (job.Wait c t) old = old
+roundOver j old = movedBy (λ t. roundIn t old) old j
 
 abbrev pub kindOver : Job → ℕ → ℕ
-kindOver job.Idle old = old
-kindOver job.Storing old = old
-kindOver (job.Direct t) old = kindIn t
-kindOver job.Ready old = old
-kindOver (job.Moving t) old = kindIn t
-kindOver (job.Delay n) old = old
-kindOver (job.Wait c t) old = old
+kindOver j old = movedBy kindIn old j
 
 abbrev pub byteOver : Job → ℕ → ℕ
 byteOver job.Idle old = old

@@ -1,6 +1,7 @@
 // A state read as a board, and what a board says written back over a state.
 ghost use mathlib.Core.Path.{_≡_};
-ghost use Rattle.port.specs.Code.{flag, planeCode, directionCode, circlingOf, arcOf, roundOf, travelOf, straightIn, roundIn, kindIn, straightOver, roundOver, kindOver, jobOf, codeOf, byteOver, numberOver, known, engineOf, boardOf, codedOver, over, noPoint, noMove, noRound, noLoops, blank};
+ghost use Rattle.port.specs.work.Work.{straightUnder, roundUnder, kindUnder};
+ghost use Rattle.port.specs.Code.{flag, planeCode, directionCode, circlingOf, arcOf, roundOf, travelOf, straightIn, roundIn, kindIn, jobOf, codeOf, byteOver, numberOver, known, engineOf, boardOf, codedOver, over, noPoint, noMove, noRound, noLoops, blank};
 use crate::Round;
 use crate::State;
 use board::Board;
@@ -13,6 +14,7 @@ use circle::Plane;
 use engine::Engine;
 use engine::Job;
 use engine::Run;
+use engine::Under;
 use motion::Counters;
 use motion::Move;
 use program::Loop;
@@ -132,47 +134,32 @@ fn kind_in(t: Travel) -> u8
 }
 
 // The straight movement under way, or what stood there.
-fn straight_over(job: Job, old: Move) -> Move
-    ensures { λ r. ⌜ r ≡ straightOver job old ⌝ }
+fn straight_over(u: Under, old: Move) -> Move
+    ensures { λ r. ⌜ r ≡ straightUnder u old ⌝ }
 {
-    match job {
-        Job::Idle => old,
-        Job::Storing => old,
-        Job::Direct(t) => straight_in(t, old),
-        Job::Ready => old,
-        Job::Moving(t) => straight_in(t, old),
-        Job::Delay(_) => old,
-        Job::Wait(_, _) => old,
+    match u {
+        Under::Going(t) => straight_in(t, old),
+        Under::Nothing => old,
     }
 }
 
 // The arc under way, or what stood there.
-fn round_over(job: Job, old: Round) -> Round
-    ensures { λ r. ⌜ r ≡ roundOver job old ⌝ }
+fn round_over(u: Under, old: Round) -> Round
+    ensures { λ r. ⌜ r ≡ roundUnder u old ⌝ }
 {
-    match job {
-        Job::Idle => old,
-        Job::Storing => old,
-        Job::Direct(t) => round_in(t, old),
-        Job::Ready => old,
-        Job::Moving(t) => round_in(t, old),
-        Job::Delay(_) => old,
-        Job::Wait(_, _) => old,
+    match u {
+        Under::Going(t) => round_in(t, old),
+        Under::Nothing => old,
     }
 }
 
 // Which of the two moves, or what stood there.
-fn kind_over(job: Job, old: u8) -> u8
-    ensures { λ r. ⌜ r ≡ kindOver job old ⌝ }
+fn kind_over(u: Under, old: u8) -> u8
+    ensures { λ r. ⌜ r ≡ kindUnder u old ⌝ }
 {
-    match job {
-        Job::Idle => old,
-        Job::Storing => old,
-        Job::Direct(t) => kind_in(t),
-        Job::Ready => old,
-        Job::Moving(t) => kind_in(t),
-        Job::Delay(_) => old,
-        Job::Wait(_, _) => old,
+    match u {
+        Under::Going(t) => kind_in(t),
+        Under::Nothing => old,
     }
 }
 
@@ -368,8 +355,9 @@ impl State {
         let c = e.circling;
         let plane = c.plane;
         let direction = c.direction;
-        let straight = straight_over(job, self.straight);
-        let round = round_over(job, self.round);
+        let under = e.under_way();
+        let straight = straight_over(under, self.straight);
+        let round = round_over(under, self.round);
         let mut s = self;
         s.at = at;
         s.origin = origin;
@@ -385,7 +373,7 @@ impl State {
         s.direction = direction_code(direction);
         s.output = e.output;
         s.job = code_of(job);
-        s.kind = kind_over(job, self.kind);
+        s.kind = kind_over(under, self.kind);
         s.byte = byte_over(job, self.byte);
         s
     }

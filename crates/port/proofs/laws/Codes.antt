@@ -7,6 +7,7 @@ use borrow.Author.Tests.{leb-true, leb-false}
 use lib.Dec.{leb, eqb}
 use mir.Syntax.{w8}
 use mir.Val.{SFits, toZ, ofZ}
+use Rattle.motion.specs.declared.Move.{Move}
 use Rattle.motion.specs.declared.Sign.{Sign}
 use Rattle.motion.specs.declared.Sign.the-variants.{Minus, Rest, Plus}
 use Rattle.circle.specs.declared.Arc.{Arc}
@@ -16,9 +17,14 @@ use Rattle.circle.specs.declared.Direction.the-variants.{Clockwise, Counter}
 use Rattle.circle.specs.declared.Plane.{Plane}
 use Rattle.circle.specs.declared.Plane.the-variants.{XY, XZ, YZ}
 use Rattle.circle.specs.Plan.{planeOf, directionOf}
+use Rattle.travel.specs.declared.Travel.{Travel}
+use Rattle.engine.specs.declared.Job.{Job}
+use Rattle.engine.specs.declared.Job.the-variants as job
+use Rattle.engine.specs.work.Acts.{underOf}
 use Rattle.port.specs.declared.Round.{Round}
-use Rattle.port.specs.Code.{flag, planeCode, directionCode, circlingOf, arcOf, roundOf}
+use Rattle.port.specs.Code.{flag, planeCode, directionCode, circlingOf, arcOf, roundOf, straightIn, roundIn, kindIn, movedBy, straightOver, roundOver, kindOver}
 use Rattle.port.specs.Calls.{signNumber}
+use Rattle.port.specs.work.Work.{ofUnder, straightUnder, roundUnder, kindUnder}
 
 -- ---- what holds of each code up to the last holds of all of them
 
@@ -102,3 +108,26 @@ pub sign-kept : (s : Sign) → toZ w8 (ofZ w8 (signNumber s)) ≡ signNumber s
 sign-kept Minus = refl
 sign-kept Rest = refl
 sign-kept Plus = refl
+
+-- ---- what moves, if something does, is what the job moves
+
+of-under : {A : Type 0} (f : Travel → A) (old : A) (j : Job) → ofUnder f old (underOf j) ≡ movedBy f old j
+of-under f old job.Idle = refl
+of-under f old job.Storing = refl
+of-under f old (job.Direct t) = refl
+of-under f old job.Ready = refl
+of-under f old (job.Moving t) = refl
+of-under f old (job.Delay n) = refl
+of-under f old (job.Wait c t) = refl
+
+pub straight-under : (j : Job) (old : Move) → straightUnder (underOf j) old ≡ straightOver j old
+unfolding straightUnder
+straight-under j old = of-under (λ t. straightIn t old) old j
+
+pub round-under : (j : Job) (old : Round) → roundUnder (underOf j) old ≡ roundOver j old
+unfolding roundUnder
+round-under j old = of-under (λ t. roundIn t old) old j
+
+pub kind-under : (j : Job) (old : ℕ) → kindUnder (underOf j) old ≡ kindOver j old
+unfolding kindUnder
+kind-under j old = of-under kindIn old j

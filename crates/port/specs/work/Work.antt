@@ -1,11 +1,16 @@
 -- Forms that the code goes through.
+use Prim.Native.Nat.{ℕ}
 use mathlib.Core.Bool.{Bool, true, false}
 use Rattle.motion.specs.declared.Counters.{Counters}
 use Rattle.motion.specs.declared.Move.{Move}
+use Rattle.travel.specs.declared.Travel.{Travel}
 use Rattle.engine.specs.declared.Act.{Act}
 use Rattle.engine.specs.declared.Act.the-variants as act
+use Rattle.engine.specs.declared.Under.{Under}
+use Rattle.engine.specs.declared.Under.the-variants as under
 use Rattle.port.specs.declared.Round.{Round}
 use Rattle.port.specs.declared.State.{State}
+use Rattle.port.specs.Code.{straightIn, roundIn, kindIn}
 
 -- nothing runs
 abbrev pub isStill : Act → Bool
@@ -41,3 +46,17 @@ moved s at straight round =
       kind = s .kind;
       byte = s .byte;
     }
+
+-- what moves, if something does, written over what stood there
+abbrev pub ofUnder : {A : Type 0} → (Travel → A) → A → Under → A
+ofUnder f old (under.Going t) = f t
+ofUnder f old under.Nothing = old
+
+unfoldable pub straightUnder : Under → Move → Move
+straightUnder u old = ofUnder (λ t. straightIn t old) old u
+
+unfoldable pub roundUnder : Under → Round → Round
+roundUnder u old = ofUnder (λ t. roundIn t old) old u
+
+unfoldable pub kindUnder : Under → ℕ → ℕ
+kindUnder u old = ofUnder kindIn old u

@@ -1,7 +1,11 @@
 -- `port::State::with_engine` meets its contract. Assumes nothing.
 use borrow.Author.Needs.{needs}
+use Rattle.port.proofs.laws.Codes.{straight-under, round-under, kind-under}
 use Rattle.port.proofs.State.with_engine.Statement.{statement}
 use Rattle.port.proofs.State.with_engine.Tie as tie
+
+under-way-requires : tie.Need-under-way-requires
+under-way-requires c κs = search needs
 
 straight-over-requires : tie.Need-straight-over-requires
 straight-over-requires c κs = search needs
@@ -31,12 +35,13 @@ byte-over-requires : tie.Need-byte-over-requires
 byte-over-requires c κs = search needs
 
 returns : tie.Need-returns
-returns c = simp (c .byte-over .ensures, c .before .kind-over .ensures, c .before .before .code-of .ensures, c .before .before .before .direction-code .ensures, c .before .before .before .before .plane-code .ensures, c .before .before .before .before .before .as-flag .ensures, c .before .before .before .before .before .before .number-over .ensures, c .before .before .before .before .before .before .before .round-over .ensures, c .before .before .before .before .before .before .before .before .straight-over .ensures)
+returns c = simp (c .byte-over .ensures, c .before .kind-over .ensures, c .before .before .code-of .ensures, c .before .before .before .direction-code .ensures, c .before .before .before .before .plane-code .ensures, c .before .before .before .before .before .as-flag .ensures, c .before .before .before .before .before .before .number-over .ensures, c .before .before .before .before .before .before .before .round-over .ensures, c .before .before .before .before .before .before .before .before .straight-over .ensures, c .before .before .before .before .before .before .before .before .before .under-way .ensures, straight-under, round-under, kind-under)
 
 pub with-engine-spec : {M : Type 1} → statement M
 with-engine-spec =
     tie.close
     (tie.spec
+    under-way-requires
     straight-over-requires
     round-over-requires
     number-over-requires

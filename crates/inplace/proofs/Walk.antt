@@ -1,6 +1,6 @@
 -- What the walks of this crate share: a struct that is lent is opened, its state copied out, and what a call returns put in its place (`taken`, `replaced`);
 -- a slice is passed on (`passed-on`); a call is made and has returned (`asks`, `answered`); and a walk is the theorem (`by-walk`).
--- Assumes `Given`, as every walk does.
+-- Its laws take `Given`: the rules of the logic, which the kit proves and hands to every walk.
 use mathlib.Core.Path.{_≡_, refl, sym, ap, subst}
 use mathlib.Core.Option.{Option, none, some}
 use mathlib.Core.List.{List, [], _∷_}

@@ -2,7 +2,7 @@
 --     var, part, behind        a local, a field of one, or what one points to is read.        points, points-part      where a local, or a field of one, points to
 --     into, lands-in           a local that held nothing is given a value, or what a call returned
 --     begins, ends             a function begins, and it returns
--- Assumes `Given`.
+-- Each takes `Given`, the rules of the logic that the kit proves and hands to every walk.
 use mathlib.Core.Path.{_≡_, refl, subst}
 use mathlib.Core.Option.{Option, none, some}
 use mathlib.Core.List.{List, [], _∷_, map}

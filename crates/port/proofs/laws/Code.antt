@@ -1,7 +1,7 @@
 -- A state and its board keep each other's word: a board written over a state is read back, a state's own board written over it changes
 -- nothing, and what is written has codes that are known. Assumes nothing.
 use Prim.Native.Nat.{ℕ}
-use mathlib.Core.Path.{_≡_, refl, sym}
+use mathlib.Core.Path.{_≡_, refl, sym, _∙_}
 use mathlib.Core.Bool.{true, _&&_}
 use lib.Dec.{leb, eqb}
 use Rattle.count.proofs.laws.Truth.{and-left, and-right, both}
@@ -111,13 +111,9 @@ written-by s m r x at h w =
     rw (w .code, w .straight, w .round, w .kind, w .number, w .byte, flag-written (s .three) (k .three), flag-written (s .standing) (k .standing), flag-written (s .over) (k .over), plane-written (s .plane) (k .plane), direction-written (s .direction) (k .direction))
     refl
 
--- a job that moves writes what moves
-module _ (s : State) (m : Move) (r : Round) (t : Travel) (i : straightIn t (s .straight) ≡ m) (o : roundIn t (s .round) ≡ r) (k : kindIn t ≡ s .kind) where
-  pub direct-writes : s .job ≡ 2 → Writes s m r (job.Direct t)
-  direct-writes e = record { code = sym e; straight = i; round = o; kind = k; number = refl; byte = refl }
-
-  pub moving-writes : s .job ≡ 4 → Writes s m r (job.Moving t)
-  moving-writes e = record { code = sym e; straight = i; round = o; kind = k; number = refl; byte = refl }
+pub job-writes : (s : State) (m : Move) (r : Round) (x : Job) (n : ℕ) → codeOf x ≡ n → straightOver x (s .straight) ≡ m → roundOver x (s .round) ≡ r
+    → kindOver x (s .kind) ≡ s .kind → numberOver x (s .number) ≡ s .number → byteOver x (s .byte) ≡ s .byte → s .job ≡ n → Writes s m r x
+job-writes s m r x n c i o k u y e = record { code = c ∙ sym e; straight = i; round = o; kind = k; number = u; byte = y }
 
 abbrev pub travelIn : State → Travel
 travelIn s = travelOf (s .kind) (s .straight) (s .round)
@@ -133,25 +129,20 @@ module _ (s : State) (h : known s ≡ true) where
   each-again : straightIn (travelIn s) (s .straight) ≡ s .straight → roundIn (travelIn s) (s .round) ≡ s .round → kindIn (travelIn s) ≡ s .kind
       → Each 6 (λ j. s .job ≡ j → Same (jobOf j (travelIn s) (s .number) (s .byte)))
   unfolding jobOf
-  each-again i o t = (
-    (
-      (
+  each-again i o t =
+      let w = job-writes s (s .straight) (s .round) in (
         (
           (
             (
-              λ e. record { code = sym e; straight = refl; round = refl; kind = refl; number = refl; byte = refl },
-              λ e. record { code = sym e; straight = refl; round = refl; kind = refl; number = refl; byte = refl },
+              ((w job.Idle 0 refl refl refl refl refl refl, w job.Storing 1 refl refl refl refl refl refl), w (job.Direct (travelIn s)) 2 refl i o t refl refl),
+              w job.Ready 3 refl refl refl refl refl refl,
             ),
-            direct-writes s (s .straight) (s .round) (travelIn s) i o t,
+            w (job.Moving (travelIn s)) 4 refl i o t refl refl,
           ),
-          λ e. record { code = sym e; straight = refl; round = refl; kind = refl; number = refl; byte = refl },
+          w (job.Delay (s .number)) 5 refl refl refl refl refl refl,
         ),
-        moving-writes s (s .straight) (s .round) (travelIn s) i o t,
-      ),
-      λ e. record { code = sym e; straight = refl; round = refl; kind = refl; number = refl; byte = refl },
-    ),
-    λ e. record { code = sym e; straight = refl; round = refl; kind = refl; number = refl; byte = refl },
-  )
+        w (job.Wait (s .byte) (s .number)) 6 refl refl refl refl refl refl,
+      )
 
   -- what moves is written again
   abbrev Moves : ℕ → Type 0

@@ -18,6 +18,7 @@ use Rattle.record.specs.Table.{fetchOf}
 use Rattle.engine.specs.declared.Act.{Act}
 use Rattle.engine.specs.declared.Act.the-variants as act
 use Rattle.engine.specs.declared.Answer.the-variants as answer
+use Rattle.engine.specs.declared.Job.the-variants as job
 use Rattle.engine.specs.declared.Told.{Told}
 use Rattle.engine.specs.Sound.{soundOf}
 use Rattle.engine.specs.State.{running}
@@ -33,7 +34,7 @@ use Rattle.port.specs.Code.{flag, straightIn, roundIn, kindIn, travelOf,
 use Rattle.port.specs.Calls.{clockedBy, tickedState}
 use Rattle.port.specs.work.Work.{isStill, moved}
 use Rattle.port.proofs.laws.Codes.{Each, up-to, flag-written, plane-written, direction-written}
-use Rattle.port.proofs.laws.Code.{Writes, codes, written-by, written-read, direct-writes, moving-writes, travelIn}
+use Rattle.port.proofs.laws.Code.{Writes, codes, written-by, written-read, job-writes, travelIn}
 
 abbrev isPulse : Act → Bool
 isPulse act.Wrong = false
@@ -128,10 +129,13 @@ module _ (s : State) (h : known s ≡ true) where
         (
           (
             (
-              ((λ f q. no-pulse act.Still refl q, λ f q. no-pulse act.Still refl q), λ f q. direct-writes s v r (atMark (travelIn s) (b .mark)) i u k f),
+              (
+                (λ f q. no-pulse act.Still refl q, λ f q. no-pulse act.Still refl q),
+                λ f q. job-writes s v r (job.Direct (atMark (travelIn s) (b .mark))) 2 refl i u k refl refl f,
+              ),
               λ f q. no-pulse act.Record refl q,
             ),
-            λ f q. moving-writes s v r (atMark (travelIn s) (b .mark)) i u k f,
+            λ f q. job-writes s v r (job.Moving (atMark (travelIn s) (b .mark))) 4 refl i u k refl refl f,
           ),
           λ f q. no-pulse (act.Pause (s .number)) refl q,
         ),

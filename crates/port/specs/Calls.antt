@@ -4,17 +4,17 @@ use Prim.Native.Nat.{ℕ}
 use mathlib.Core.Bool.{Bool, false, not, _&&_, _||_}
 use mathlib.Core.List.{List}
 use lib.Dec.{ltb, eqb}
-use lib.IntN.{ℤ, pos, negsuc}
 use lib.ListN.{length}
 use Rattle.count.specs.Sizes.{storeBytes, replyBytes}
 use Rattle.count.specs.Pick.{pick}
-use Rattle.motion.specs.declared.Sign.{Sign}
-use Rattle.motion.specs.declared.Sign.the-variants.{Minus, Rest, Plus}
+use Rattle.motion.specs.declared.Sign.the-variants.{Rest}
 use Rattle.motion.specs.declared.Signs.{Signs}
+use Rattle.motion.specs.Phase.{signValue}
 use Rattle.record.specs.Memory.{Memory, storeFits}
 use Rattle.record.specs.Listing.{Telling}
 use Rattle.engine.specs.declared.Answer.{Answer}
 use Rattle.engine.specs.declared.Answer.the-variants as answer
+use Rattle.engine.specs.State.{paper}
 use Rattle.engine.specs.Tick.{runsOf}
 use Rattle.board.specs.declared.Board.{Board}
 use Rattle.board.specs.declared.Ticked.{Ticked}
@@ -32,17 +32,8 @@ freshState = over blank fresh
 
 -- ---- a clock call: its kind as on paper, which way each axis goes, and a speed or a byte
 
-abbrev pub signNumber : Sign → ℤ
-signNumber Minus = negsuc 0
-signNumber Rest = pos 0
-signNumber Plus = pos 1
-
 abbrev pub kindOf : Answer → ℕ
-kindOf (answer.Pulse s v) = 1
-kindOf answer.Pause = 2
-kindOf (answer.Send b) = 3
-kindOf answer.Done = 4
-kindOf answer.Nothing = 5
+kindOf a = paper a .number
 
 abbrev pub valueOf : Answer → ℕ
 valueOf (answer.Pulse s v) = v
@@ -67,10 +58,10 @@ clockedBy n s a =
     record {
       state = s;
       kind = kindOf a;
-      x = signNumber (g .x);
-      y = signNumber (g .y);
-      z = signNumber (g .z);
-      a = signNumber (g .a);
+      x = signValue (g .x);
+      y = signValue (g .y);
+      z = signValue (g .z);
+      a = signValue (g .a);
       value = valueOf a;
       refusal = n;
     }

@@ -5,6 +5,7 @@ use mathlib.Core.Bool.{Bool, true, false, _&&_}
 use mathlib.Core.List.{List, [], _∷_}
 use lib.Dec.{leb, eqb}
 use lib.ListN.{replicate}
+use Rattle.count.specs.Sizes.{lineBytes}
 use Rattle.count.specs.Pick.{pick}
 use Rattle.motion.specs.declared.Counters.{Counters}
 use Rattle.motion.specs.declared.Move.{Move}
@@ -13,9 +14,8 @@ use Rattle.circle.specs.declared.Circling.{Circling}
 use Rattle.circle.specs.declared.Direction.{Direction}
 use Rattle.circle.specs.declared.Direction.the-variants.{Clockwise, Counter}
 use Rattle.circle.specs.declared.Pair.{Pair}
-use Rattle.circle.specs.declared.Plane.{Plane}
-use Rattle.circle.specs.declared.Plane.the-variants.{XY, XZ, YZ}
 use Rattle.circle.specs.Plan.{planeOf, directionOf}
+use Rattle.circle.specs.Rule.{planeNumber}
 use Rattle.program.specs.declared.Loops.{Loops}
 use Rattle.travel.specs.declared.Travel.{Travel}
 use Rattle.travel.specs.declared.Travel.the-variants as travel
@@ -32,12 +32,7 @@ abbrev pub flag : Bool → ℕ
 flag true = 1
 flag false = 0
 
--- planes are 0, 1 and 2, as on the line that sets them
-abbrev pub planeCode : Plane → ℕ
-planeCode XY = 0
-planeCode XZ = 1
-planeCode YZ = 2
-
+-- a plane is its number on the line that sets it; a direction, which is 0 or -1 there, is 0 or 1
 abbrev pub directionCode : Direction → ℕ
 directionCode Clockwise = 0
 directionCode Counter = 1
@@ -70,7 +65,7 @@ roundOf a =
       length = a .length;
       made = a .made;
       speed = a .speed;
-      plane = planeCode (a .circling .plane);
+      plane = planeNumber (a .circling .plane);
       direction = directionCode (a .circling .direction);
     }
 
@@ -202,7 +197,7 @@ codedOver s e line len over standing =
       standing = standing;
       axes = e .axes;
       three = flag (e .three);
-      plane = planeCode (e .circling .plane);
+      plane = planeNumber (e .circling .plane);
       direction = directionCode (e .circling .direction);
       output = e .output;
       job = codeOf j;
@@ -240,7 +235,7 @@ blank =
       place = 0;
       number = 0;
       loops = noLoops;
-      line = replicate 80 0;
+      line = replicate lineBytes 0;
       len = 0;
       over = 0;
       standing = 0;

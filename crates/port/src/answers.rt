@@ -1,14 +1,15 @@
 // An answer by its kind, signs, and speed or byte.
 ghost use mathlib.Core.Path.{_≡_};
-ghost use Rattle.port.specs.Calls.{signNumber, kindOf, valueOf, atRest, signsOf, clockedBy};
+ghost use Rattle.motion.specs.Phase.{signValue};
+ghost use Rattle.port.specs.Calls.{kindOf, valueOf, atRest, signsOf, clockedBy};
 use crate::Clocked;
 use crate::State;
 use engine::Answer;
 use motion::Sign;
 use motion::Signs;
 
-fn sign_number(s: Sign) -> i8
-    ensures { λ r. ⌜ r ≡ signNumber s ⌝ }
+fn sign_value(s: Sign) -> i8
+    ensures { λ r. ⌜ r ≡ signValue s ⌝ }
 {
     match s {
         Sign::Minus => -1,
@@ -76,10 +77,10 @@ pub(crate) fn clocked(state: State, a: Answer, refusal: u16) -> Clocked
     Clocked {
         state,
         kind: kind_of(a),
-        x: sign_number(x),
-        y: sign_number(y),
-        z: sign_number(z),
-        a: sign_number(w),
+        x: sign_value(x),
+        y: sign_value(y),
+        z: sign_value(z),
+        a: sign_value(w),
         value: value_of(a),
         refusal,
     }

@@ -1,7 +1,8 @@
 // A state read as a board, and what a board says written back over a state.
 ghost use mathlib.Core.Path.{_≡_};
+ghost use Rattle.circle.specs.Rule.{planeNumber};
 ghost use Rattle.port.specs.work.Work.{straightUnder, roundUnder, kindUnder};
-ghost use Rattle.port.specs.Code.{flag, planeCode, directionCode, circlingOf, arcOf, roundOf, travelOf, straightIn, roundIn, kindIn, jobOf, codeOf, byteOver, numberOver, known, engineOf, boardOf, codedOver, over, noPoint, noMove, noRound, noLoops, blank};
+ghost use Rattle.port.specs.Code.{flag, directionCode, circlingOf, arcOf, roundOf, travelOf, straightIn, roundIn, kindIn, jobOf, codeOf, byteOver, numberOver, known, engineOf, boardOf, codedOver, over, noPoint, noMove, noRound, noLoops, blank};
 use crate::Round;
 use crate::State;
 use board::Board;
@@ -30,8 +31,8 @@ pub(crate) fn as_flag(b: bool) -> u8
 
 // ---- circles
 
-fn plane_code(plane: Plane) -> u8
-    ensures { λ r. ⌜ r ≡ planeCode plane ⌝ }
+fn plane_number(plane: Plane) -> u8
+    ensures { λ r. ⌜ r ≡ planeNumber plane ⌝ }
 {
     match plane {
         Plane::XY => 0,
@@ -90,7 +91,7 @@ fn round_of(a: Arc) -> Round
         length: a.length,
         made: a.made,
         speed: a.speed,
-        plane: plane_code(plane),
+        plane: plane_number(plane),
         direction: direction_code(direction),
     }
 }
@@ -369,7 +370,7 @@ impl State {
         s.loops = loops;
         s.axes = e.axes;
         s.three = as_flag(e.three);
-        s.plane = plane_code(plane);
+        s.plane = plane_number(plane);
         s.direction = direction_code(direction);
         s.output = e.output;
         s.job = code_of(job);

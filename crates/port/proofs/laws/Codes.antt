@@ -10,6 +10,7 @@ use mir.Val.{SFits, toZ, ofZ}
 use Rattle.motion.specs.declared.Move.{Move}
 use Rattle.motion.specs.declared.Sign.{Sign}
 use Rattle.motion.specs.declared.Sign.the-variants.{Minus, Rest, Plus}
+use Rattle.motion.specs.Phase.{signValue}
 use Rattle.circle.specs.declared.Arc.{Arc}
 use Rattle.circle.specs.declared.Circling.{Circling}
 use Rattle.circle.specs.declared.Direction.{Direction}
@@ -17,13 +18,13 @@ use Rattle.circle.specs.declared.Direction.the-variants.{Clockwise, Counter}
 use Rattle.circle.specs.declared.Plane.{Plane}
 use Rattle.circle.specs.declared.Plane.the-variants.{XY, XZ, YZ}
 use Rattle.circle.specs.Plan.{planeOf, directionOf}
+use Rattle.circle.specs.Rule.{planeNumber}
 use Rattle.travel.specs.declared.Travel.{Travel}
 use Rattle.engine.specs.declared.Job.{Job}
 use Rattle.engine.specs.declared.Job.the-variants as job
 use Rattle.engine.specs.work.Acts.{underOf}
 use Rattle.port.specs.declared.Round.{Round}
-use Rattle.port.specs.Code.{flag, planeCode, directionCode, circlingOf, arcOf, roundOf, straightIn, roundIn, kindIn, movedBy, straightOver, roundOver, kindOver}
-use Rattle.port.specs.Calls.{signNumber}
+use Rattle.port.specs.Code.{flag, directionCode, circlingOf, arcOf, roundOf, straightIn, roundIn, kindIn, movedBy, straightOver, roundOver, kindOver}
 use Rattle.port.specs.work.Work.{ofUnder, straightUnder, roundUnder, kindUnder}
 
 -- ---- what holds of each code up to the last holds of all of them
@@ -63,17 +64,17 @@ flag-known false = refl
 
 -- ---- planes and directions
 
-pub plane-read : (p : Plane) → planeOf (planeCode p) ≡ p
+pub plane-read : (p : Plane) → planeOf (planeNumber p) ≡ p
 unfolding planeOf
 plane-read XY = refl
 plane-read XZ = refl
 plane-read YZ = refl
 
-pub plane-written : (n : ℕ) → leb n 2 ≡ true → planeCode (planeOf n) ≡ n
+pub plane-written : (n : ℕ) → leb n 2 ≡ true → planeNumber (planeOf n) ≡ n
 unfolding planeOf
-plane-written = up-to (λ n. planeCode (planeOf n) ≡ n) 2 ((refl, refl), refl)
+plane-written = up-to (λ n. planeNumber (planeOf n) ≡ n) 2 ((refl, refl), refl)
 
-pub plane-known : (p : Plane) → leb (planeCode p) 2 ≡ true
+pub plane-known : (p : Plane) → leb (planeNumber p) 2 ≡ true
 plane-known XY = refl
 plane-known XZ = refl
 plane-known YZ = refl
@@ -91,7 +92,7 @@ pub direction-known : (d : Direction) → leb (directionCode d) 1 ≡ true
 direction-known Clockwise = refl
 direction-known Counter = refl
 
-pub circling-read : (c : Circling) → circlingOf (planeCode (c .plane)) (directionCode (c .direction)) ≡ c
+pub circling-read : (c : Circling) → circlingOf (planeNumber (c .plane)) (directionCode (c .direction)) ≡ c
 circling-read c = rw (plane-read (c .plane), direction-read (c .direction)) refl
 
 -- ---- arcs
@@ -104,7 +105,7 @@ arc-written r p d = rw (plane-written (r .plane) p, direction-written (r .direct
 
 -- ---- signs fit the machine's 8 bits
 
-pub sign-kept : (s : Sign) → toZ w8 (ofZ w8 (signNumber s)) ≡ signNumber s
+pub sign-kept : (s : Sign) → toZ w8 (ofZ w8 (signValue s)) ≡ signValue s
 sign-kept Minus = refl
 sign-kept Rest = refl
 sign-kept Plus = refl

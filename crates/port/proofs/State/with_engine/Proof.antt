@@ -19,8 +19,8 @@ number-over-requires c κs = search needs
 as-flag-requires : tie.Need-as-flag-requires
 as-flag-requires c κs = search needs
 
-plane-code-requires : tie.Need-plane-code-requires
-plane-code-requires c κs = search needs
+plane-number-requires : tie.Need-plane-number-requires
+plane-number-requires c κs = search needs
 
 direction-code-requires : tie.Need-direction-code-requires
 direction-code-requires c κs = search needs
@@ -35,7 +35,7 @@ byte-over-requires : tie.Need-byte-over-requires
 byte-over-requires c κs = search needs
 
 returns : tie.Need-returns
-returns c = simp (c .byte-over .ensures, c .before .kind-over .ensures, c .before .before .code-of .ensures, c .before .before .before .direction-code .ensures, c .before .before .before .before .plane-code .ensures, c .before .before .before .before .before .as-flag .ensures, c .before .before .before .before .before .before .number-over .ensures, c .before .before .before .before .before .before .before .round-over .ensures, c .before .before .before .before .before .before .before .before .straight-over .ensures, c .before .before .before .before .before .before .before .before .before .under-way .ensures, straight-under, round-under, kind-under)
+returns c = simp (c .byte-over .ensures, c .before .kind-over .ensures, c .before .before .code-of .ensures, c .before .before .before .direction-code .ensures, c .before .before .before .before .plane-number .ensures, c .before .before .before .before .before .as-flag .ensures, c .before .before .before .before .before .before .number-over .ensures, c .before .before .before .before .before .before .before .round-over .ensures, c .before .before .before .before .before .before .before .before .straight-over .ensures, c .before .before .before .before .before .before .before .before .before .under-way .ensures, straight-under, round-under, kind-under)
 
 pub with-engine-spec : {M : Type 1} → statement M
 with-engine-spec =
@@ -46,7 +46,7 @@ with-engine-spec =
     round-over-requires
     number-over-requires
     as-flag-requires
-    plane-code-requires
+    plane-number-requires
     direction-code-requires
     code-of-requires
     kind-over-requires

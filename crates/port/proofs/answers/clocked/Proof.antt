@@ -12,24 +12,24 @@ signs-of-requires c κs = search needs
 kind-of-requires : tie.Need-kind-of-requires
 kind-of-requires c κs = search needs
 
-sign-number-requires : tie.Need-sign-number-requires
-sign-number-requires c κs = search needs
+sign-value-requires : tie.Need-sign-value-requires
+sign-value-requires c κs = search needs
 
-sign-number-requires-2 : tie.Need-sign-number-requires-2
-sign-number-requires-2 c κs = search needs
+sign-value-requires-2 : tie.Need-sign-value-requires-2
+sign-value-requires-2 c κs = search needs
 
-sign-number-requires-3 : tie.Need-sign-number-requires-3
-sign-number-requires-3 c κs = search needs
+sign-value-requires-3 : tie.Need-sign-value-requires-3
+sign-value-requires-3 c κs = search needs
 
-sign-number-requires-4 : tie.Need-sign-number-requires-4
-sign-number-requires-4 c κs = search needs
+sign-value-requires-4 : tie.Need-sign-value-requires-4
+sign-value-requires-4 c κs = search needs
 
 value-of-requires : tie.Need-value-of-requires
 value-of-requires c κs = search needs
 
 returns : tie.Need-returns
 returns c = let g = signsOf (c .before .before .before .before .before .before .before .args .a) in
-    simp (c .value-of .ensures, c .before .sign-number4 .ensures, c .before .before .sign-number3 .ensures, c .before .before .before .sign-number2 .ensures, c .before .before .before .before .sign-number .ensures, c .before .before .before .before .before .kind-of .ensures, c .before .before .before .before .before .before .signs-of .ensures)
+    simp (c .value-of .ensures, c .before .sign-value4 .ensures, c .before .before .sign-value3 .ensures, c .before .before .before .sign-value2 .ensures, c .before .before .before .before .sign-value .ensures, c .before .before .before .before .before .kind-of .ensures, c .before .before .before .before .before .before .signs-of .ensures)
     (rw (sign-kept (g .x), sign-kept (g .y), sign-kept (g .z), sign-kept (g .a)) refl)
 
 pub clocked-spec : {M : Type 1} → statement M
@@ -38,9 +38,9 @@ clocked-spec =
     (tie.spec
     signs-of-requires
     kind-of-requires
-    sign-number-requires
-    sign-number-requires-2
-    sign-number-requires-3
-    sign-number-requires-4
+    sign-value-requires
+    sign-value-requires-2
+    sign-value-requires-3
+    sign-value-requires-4
     value-of-requires
     returns)

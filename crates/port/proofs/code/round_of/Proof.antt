@@ -3,8 +3,8 @@ use borrow.Author.Needs.{needs}
 use Rattle.port.proofs.code.round_of.Statement.{statement}
 use Rattle.port.proofs.code.round_of.Tie as tie
 
-plane-code-requires : tie.Need-plane-code-requires
-plane-code-requires c κs = search needs
+plane-number-requires : tie.Need-plane-number-requires
+plane-number-requires c κs = search needs
 
 direction-code-requires : tie.Need-direction-code-requires
 direction-code-requires c κs = search needs
@@ -13,4 +13,4 @@ returns : tie.Need-returns
 returns c = cc
 
 pub round-of-spec : {M : Type 1} → statement M
-round-of-spec = tie.close (tie.spec plane-code-requires direction-code-requires returns)
+round-of-spec = tie.close (tie.spec plane-number-requires direction-code-requires returns)

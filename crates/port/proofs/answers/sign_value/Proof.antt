@@ -1,7 +1,7 @@
--- `port::answers::sign_number` meets its contract. Assumes nothing.
+-- `port::answers::sign_value` meets its contract. Assumes nothing.
 use borrow.Author.Needs.{needs}
-use Rattle.port.proofs.answers.sign_number.Statement.{statement}
-use Rattle.port.proofs.answers.sign_number.Tie as tie
+use Rattle.port.proofs.answers.sign_value.Statement.{statement}
+use Rattle.port.proofs.answers.sign_value.Tie as tie
 
 enum-told : tie.Need-enum-told
 enum-told c = search needs
@@ -21,6 +21,6 @@ returns-2 c = cc
 returns-3 : tie.Need-returns-3
 returns-3 c = cc
 
-pub sign-number-spec : {M : Type 1} → statement M
-sign-number-spec =
+pub sign-value-spec : {M : Type 1} → statement M
+sign-value-spec =
     tie.close (tie.spec enum-told enum-told-2 enum-told-3 returns returns-2 returns-3)

@@ -1,0 +1,133 @@
+// What a person does with a board: lines, words and buttons, in order, each an entry with all that came of it. Written one below the other
+// the entries are a program file that `./exercise` takes, and does the same with.
+import { History } from './history.js';
+
+// The clock calls that a run is given before it counts as one without an end.
+export const LIMIT = 100000;
+
+export class Session {
+    // `board` is driven, with `spare` one looks back.
+    constructor(board, spare) {
+        this.history = new History(board, spare);
+        this.begin();
+    }
+
+    // A fresh board, and nothing done.
+    begin() {
+        this.history.begin();
+        this.entries = [];
+        this.ports = [0, 0, 0, 0];
+    }
+
+    get board() {
+        return this.history.board;
+    }
+
+    get entry() {
+        return this.entries[this.entries.length - 1];
+    }
+
+    // Whether the next clock call has something to do.
+    runs() {
+        return this.board.show().runs;
+    }
+
+    // An item (script.js) is begun: what comes from now on goes to its entry, until the next one is begun.
+    start(item) {
+        this.count();
+        this.open(item);
+    }
+
+    // An entry: the item, its events, the clock calls made before it (`began`) and before its last byte (`sent`), and the board after it.
+    open(item) {
+        if (this.entry) this.entry.after = this.entry.after ?? this.summary();
+        this.entries.push({ ...item, events: [], began: this.history.calls, sent: this.history.calls, after: null });
+    }
+
+    // A byte comes in. Its events are a reply, or what refused the call.
+    receive(byte) {
+        const [a, b, c, d] = this.ports;
+        const { reply, refusal } = this.history.receive(byte, (a | b << 8 | c << 16 | d << 24) >>> 0);
+        this.entry.sent = this.history.calls;
+        if (refusal || reply !== '') this.entry.events.push({ at: this.history.calls, reply, refusal });
+    }
+
+    // Clock calls are made, so many at most, as long as there is something to do: how many it were. Their event is a range of the history.
+    clock(most) {
+        const { history } = this;
+        const from = history.calls;
+        while (history.calls < from + most && this.runs()) history.clock();
+        this.span(from, history.calls);
+        return history.calls - from;
+    }
+
+    span(from, to) {
+        const { events } = this.entry;
+        const last = events[events.length - 1];
+        if (from === to) return;
+        if (last && last.to === from) last.to = to;
+        else events.push({ at: from, from, to });
+    }
+
+    list() {
+        const { text, refusal } = this.board.list();
+        this.entry.events.push({ at: this.history.calls, list: text, refusal });
+    }
+
+    // If something runs while the next thing is begun, the person has counted the clock calls behind the last byte: they become an entry.
+    count() {
+        const { entry, history } = this;
+        if (!entry || entry.kind === 'clock' || !this.runs()) return;
+        const { sent } = entry;
+        entry.events = entry.events.filter(event => event.to === undefined || event.from < sent);
+        entry.after = this.summary(history.at(sent));
+        this.open(counted(history.calls - sent));
+        this.entry.began = this.entry.sent = sent;
+        this.span(sent, history.calls);
+    }
+
+    // Clock calls that a person counts; those counted just before are put together with them.
+    clockCounted(most) {
+        this.count();
+        if (!this.entry || this.entry.kind !== 'clock') this.open(counted(0));
+        const made = this.clock(most);
+        Object.assign(this.entry, counted(this.entry.value + Math.max(made, 1)));
+        return made;
+    }
+
+    // What is told of a board behind an entry.
+    summary(board = this.board) {
+        const { position, origin, runs } = board.show();
+        const [job, standing, axes, storeAxes, records, plane, direction] =
+            ['job', 'standing', 'axes', 'store axes', 'records', 'plane', 'direction'].map(name => board.get(name));
+        return { position, origin, runs, job, standing, axes, storeAxes, records, plane, direction };
+    }
+
+    // The board behind an entry; behind the last one it is the present board.
+    after(index) {
+        return this.entries[index].after ?? this.summary();
+    }
+
+    // Goes on from before the clock call of this index: the entries and events that came later are forgotten.
+    back(call) {
+        if (call >= this.history.calls) return;
+        this.history.back(call);
+        while (this.entry && this.entry.began > call) this.entries.pop();
+        const { entry } = this;
+        if (!entry) return;
+        entry.events = entry.events.filter(event => event.at <= call && event.from !== call);
+        for (const event of entry.events) if (event.to > call) event.to = call;
+        entry.sent = Math.min(entry.sent, call);
+        entry.after = null;
+        if (entry.kind === 'clock') Object.assign(entry, counted(call - entry.began));
+    }
+
+    // All that was done, as lines of a program file.
+    file() {
+        return this.entries.map(entry => entry.text + '\n').join('');
+    }
+}
+
+function counted(calls) {
+    return { number: null, kind: 'clock', value: calls, text: 'clock ' + calls };
+}

@@ -116,7 +116,8 @@ export class History {
         return this.spare;
     }
 
-    load(board, call) {
+    // The state that was kept last up to this clock call.
+    keptAt(call) {
         let low = 0;
         let high = this.kept.length - 1;
         while (low < high) {
@@ -124,7 +125,11 @@ export class History {
             if (this.kept[middle].at <= call) low = middle;
             else high = middle - 1;
         }
-        const kept = this.kept[low];
+        return this.kept[low];
+    }
+
+    load(board, call) {
+        const kept = this.keptAt(call);
         board.load(kept.state, this.memories[kept.memory]);
         for (let k = kept.at; k < call; k++) board.clock();
     }

@@ -1,5 +1,6 @@
 // Does items one after the other, in pieces, so that a page can show what happens and stays answering.
 import { stepsOf } from './script.js';
+import { LIMIT } from './session.js';
 
 export class Player {
     constructor(session) {
@@ -11,9 +12,10 @@ export class Player {
     clear() {
         this.items = []; // those that are not begun
         this.steps = []; // of the item that is begun
-        this.last = null; // the item that is begun
         this.left = 0; // clock calls that the run under way may still take
+        this.isCounted = false; // whether a word of the program has counted them
         this.endless = false; // the last run was not over when its clock calls were
+        this.follows = false; // the next item follows the last one, with nothing that a person did in between
     }
 
     // More items are to be done behind those that wait.
@@ -26,21 +28,48 @@ export class Player {
         return this.items.length > 0 || this.steps.length > 0 || this.left > 0;
     }
 
-    // Goes on by so many clock calls at most, and up to the end of an item: whether anything is left to do.
+    // What stands still in the midst of a run goes on.
+    runOn() {
+        this.left = LIMIT;
+        this.isCounted = false;
+        this.endless = false;
+    }
+
+    // What is begun is left as it stands; the items that wait stay.
+    hold() {
+        this.steps = [];
+        this.left = 0;
+        this.follows = false;
+    }
+
+    // Goes on by so many clock calls at most, and up to the end of an item: whether anything is left to do. Bytes need no clock calls.
     go(calls) {
         if (this.left === 0 && this.steps.length === 0 && this.items.length > 0) this.beginItem();
-        while (calls > 0 && (this.left > 0 || this.steps.length > 0)) {
+        while (this.left > 0 || this.steps.length > 0) {
             if (this.left === 0) this.step(this.steps.shift());
-            else calls -= this.run(Math.min(calls, this.left));
+            else if (calls <= 0 && this.session.runs()) break;
+            else calls -= this.run(Math.min(Math.max(calls, 1), this.left));
         }
         return this.busy;
     }
 
+    // An item is begun. If a person has counted clock calls before it, they are the entry in front of it.
     beginItem() {
         const item = this.items.shift();
+        if (this.follows) this.session.open(item);
+        else this.session.start(item);
+        this.follows = true;
+        this.steps = stepsOf(item, this.session.entries.at(-2), this.items[0]);
+    }
+
+    // An item is done but for its clock calls: a person makes them.
+    send(item) {
+        this.clear();
         this.session.start(item);
-        this.steps = stepsOf(item, this.last, this.items[0]);
-        this.last = item;
+        for (const step of stepsOf(item, this.session.entries.at(-2), { kind: 'clock' })) {
+            this.step(step);
+            while (this.left > 0) this.run(this.left);
+        }
     }
 
     step(step) {
@@ -49,15 +78,16 @@ export class Player {
         else if (step.list) session.list();
         else if (step.ports) session.ports = step.ports;
         else this.left = step.run ?? step.count;
-        this.counted = step.count !== undefined;
+        this.isCounted = step.count !== undefined;
     }
 
     // Clock calls of the run under way. One without an end takes all that would follow with it.
     run(most) {
-        const made = this.session.clock(most);
+        const { session } = this;
+        const made = session.entry.kind === 'clock' && !this.isCounted ? session.clockCounted(most) : session.clock(most);
         this.left -= made;
         if (made < most) this.left = 0;
-        else if (this.left === 0 && !this.counted && this.session.runs()) {
+        else if (this.left === 0 && !this.isCounted && session.runs()) {
             this.clear();
             this.endless = true;
         }

@@ -1,5 +1,6 @@
 // What a person does with a board: lines, words and buttons, in order, each an entry with all that came of it. Written one below the other
 // the entries are a program file that `./exercise` takes, and does the same with.
+import { STORING } from './board.js';
 import { History } from './history.js';
 
 // The clock calls that a run is given before it counts as one without an end.
@@ -34,7 +35,7 @@ export class Session {
 
     // An item (script.js) is begun: what comes from now on goes to its entry, until the next one is begun.
     start(item) {
-        this.count();
+        if (item.kind !== 'clock' || this.history.calls > this.entry?.sent) this.count();
         this.open(item);
     }
 
@@ -44,12 +45,15 @@ export class Session {
         this.entries.push({ ...item, events: [], began: this.history.calls, sent: this.history.calls, after: null });
     }
 
-    // A byte comes in. Its events are a reply, or what refused the call.
+    // A byte comes in. Its events are a reply, or what refused the call; beside a reply that names a record stands the program as it was before.
     receive(byte) {
         const [a, b, c, d] = this.ports;
+        const isLine = byte === 13 && this.board.get('job') === STORING;
+        const stored = isLine ? { state: this.board.state().slice(), memory: this.board.memory() } : null;
         const { reply, refusal } = this.history.receive(byte, (a | b << 8 | c << 16 | d << 24) >>> 0);
         this.entry.sent = this.history.calls;
-        if (refusal || reply !== '') this.entry.events.push({ at: this.history.calls, reply, refusal });
+        if (!refusal && reply === '') return;
+        this.entry.events.push({ at: this.history.calls, reply, refusal, stored: reply.length === 6 ? stored : null });
     }
 
     // Clock calls are made, so many at most, as long as there is something to do: how many it were. Their event is a range of the history.
@@ -86,12 +90,12 @@ export class Session {
         this.span(sent, history.calls);
     }
 
-    // Clock calls that a person counts; those counted just before are put together with them.
+    // Clock calls that a person counts; those counted just before are put together with them. A single one counts also if nothing runs.
     clockCounted(most) {
         this.count();
         if (!this.entry || this.entry.kind !== 'clock') this.open(counted(0));
         const made = this.clock(most);
-        Object.assign(this.entry, counted(this.entry.value + Math.max(made, 1)));
+        Object.assign(this.entry, counted(this.entry.value + (most === 1 ? 1 : made)));
         return made;
     }
 
@@ -113,6 +117,7 @@ export class Session {
         if (call >= this.history.calls) return;
         this.history.back(call);
         while (this.entry && this.entry.began > call) this.entries.pop();
+        this.ports = this.entries.findLast(one => one.kind === 'ports')?.value ?? [0, 0, 0, 0];
         const { entry } = this;
         if (!entry) return;
         entry.events = entry.events.filter(event => event.at <= call && event.from !== call);
@@ -122,9 +127,19 @@ export class Session {
         if (entry.kind === 'clock') Object.assign(entry, counted(call - entry.began));
     }
 
-    // All that was done, as lines of a program file.
+    // The program that the check refused last, unless something was stored since: its bytes, and the place that the reply names.
+    refusedProgram() {
+        const { entry } = this;
+        const event = entry && entry.events.find(one => one.stored);
+        return event ? { ...event.stored, place: Number(event.reply.slice(2)) } : null;
+    }
+
+    // All that was done, as lines of a program file. Where something still runs, its clock calls are counted.
     file() {
-        return this.entries.map(entry => entry.text + '\n').join('');
+        const { entry, history } = this;
+        const lines = this.entries.map(one => one.text);
+        if (entry && entry.kind !== 'clock' && this.runs()) lines.push(counted(history.calls - entry.sent).text);
+        return lines.map(line => line + '\n').join('');
     }
 }
 

@@ -181,7 +181,7 @@ export class App {
         const now = performance.now();
         if (!this.isRunning || now - this.lastTold > TELL) {
             this.log.show();
-            this.program.showReplies(this.session);
+            this.program.showReplies(this.session, this.player.items);
             this.lastTold = now;
         }
         this.view.show();

@@ -44,6 +44,7 @@ export class Program {
         this.items = itemsOf(text);
         this.next = 0;
         this.shown = 0; // entries whose replies stand beside the lines
+        this.waiting = 0; // of those before the next one, how many are not begun yet
         this.replies = new Map();
         byId('source').value = text;
         this.render();
@@ -78,7 +79,7 @@ export class Program {
     }
 
     rewindLines() {
-        this.next = this.shown = 0;
+        this.next = this.shown = this.waiting = 0;
         this.replies.clear();
         this.render();
     }
@@ -92,9 +93,10 @@ export class Program {
         this.mark();
     }
 
-    // Beside each line the characters that it was answered.
-    showReplies(session) {
+    // Beside each line the characters that it was answered. Items that wait to be begun are still to come.
+    showReplies(session, waiting) {
         const { history } = session;
+        this.waiting = waiting.filter(item => this.items.includes(item)).length;
         for (const entry of session.entries.slice(Math.max(0, this.shown - 2))) {
             if (entry.number !== null) this.replies.set(entry.number, repliesOf(entry.events, history));
         }
@@ -113,7 +115,6 @@ export class Program {
     takeItems(most) {
         const items = this.items.slice(this.next, this.next + most);
         this.next += items.length;
-        this.mark();
         return items;
     }
 
@@ -124,6 +125,7 @@ export class Program {
     // Items that were not begun after all. Some may be none of this program.
     giveBack(items) {
         this.next -= items.filter(item => this.items.includes(item)).length;
+        this.waiting = 0;
         this.mark();
     }
 
@@ -141,11 +143,12 @@ export class Program {
     }
 
     mark() {
+        const next = this.next - this.waiting;
         this.rows.forEach((row, i) => {
-            row.classList.toggle('next', i === this.next);
+            row.classList.toggle('next', i === next);
             setText(row.lastChild, this.replies.get(this.items[i].number) ?? '');
         });
-        const row = this.rows[Math.min(this.next, this.rows.length - 1)];
+        const row = this.rows[Math.min(next, this.rows.length - 1)];
         if (row) reveal(byId('lines'), row);
     }
 

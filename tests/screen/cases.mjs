@@ -14,7 +14,7 @@ import { walk } from './walk.mjs';
 // By name what a door does with an input, as bytes; a name that is missing does not go through it.
 const DOORS = {
     programs() {
-        return Object.fromEntries(['walk', 'calls', 'sheet_vectors', 'ask'].map(name => {
+        return Object.fromEntries(['walk', 'calls', 'sheet_vectors'].map(name => {
             const module = moduleOf(name);
             return [name, input => runProgram(module, input)];
         }));
@@ -36,7 +36,7 @@ function casesIn(folder, programOf) {
     return inputs.map(file => [programOf(file), `${folder}/${file}`, `${folder}/${file.slice(0, -2)}out`]);
 }
 
-const VECTORS = { walk: 'walk', calls: 'calls', sheet: 'sheet_vectors', ask: 'ask' };
+const VECTORS = { walk: 'walk', calls: 'calls', sheet: 'sheet_vectors' };
 
 const SETS = {
     'cases of walk': () => casesIn('target/screen/cases/walk', () => 'walk'),

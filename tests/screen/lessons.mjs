@@ -1,5 +1,6 @@
 // The lessons of the classroom screen under node: each runs on the board, and what it counts is compared with what ./exercise makes of the
 // same program, with the proved program calls behind it: its text, its table of measures, and the stream of calls.
+import { fileURLToPath } from 'node:url';
 import { execFileSync } from 'node:child_process';
 import { chmodSync, mkdtempSync, readFileSync, readdirSync, rmSync, writeFileSync } from 'node:fs';
 import { tmpdir } from 'node:os';
@@ -10,7 +11,7 @@ import { Player } from '../../screen/src/player.js';
 import { itemsOf } from '../../screen/src/script.js';
 import { Session } from '../../screen/src/session.js';
 
-const root = new URL('../..', import.meta.url).pathname;
+const root = fileURLToPath(new URL('../..', import.meta.url));
 const module = new WebAssembly.Module(readFileSync(root + 'target/screen/board.wasm'));
 const folder = mkdtempSync(tmpdir() + '/lessons-');
 let compared = 0;

@@ -1,11 +1,12 @@
 // The sheet of the classroom screen under node: values and chains as a person writes them, right and wrong, compared line by line with what
 // tools/steps prints for them, and with the stored vectors of sheet_vectors and ask.
+import { fileURLToPath } from 'node:url';
 import { spawnSync } from 'node:child_process';
 import { readFileSync } from 'node:fs';
 import { Board } from '../../screen/src/board.js';
 import { Sheet, sheetProgram } from '../../screen/src/sheet.js';
 
-const root = new URL('../..', import.meta.url).pathname;
+const root = fileURLToPath(new URL('../..', import.meta.url));
 const moduleOf = name => new WebAssembly.Module(readFileSync(`${root}target/screen/${name}.wasm`));
 const sheet = new Sheet(moduleOf('sheet_vectors'), await Board.make(moduleOf('board')));
 const count = { values: 0, 'refused values': 0, chains: 0, 'refused chains': 0, vectors: 0 };

@@ -8,6 +8,7 @@ import time
 
 from changing import changing
 from client import Driver, Wrong
+from corners import corners
 from endless import endless
 from exercises import exercises
 from keys import keys
@@ -21,7 +22,7 @@ from saving import saving
 from sheets import sheets
 from stopping import stopping
 
-GROUPS = [opening, exercises, lessons, lines, endless, stopping, changing, looking, saving, sheets, keys, pictures]
+GROUPS = [opening, exercises, lessons, lines, endless, stopping, changing, looking, corners, saving, sheets, keys, pictures]
 
 
 def outside(page):

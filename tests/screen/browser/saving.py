@@ -5,7 +5,7 @@ import time
 
 from told import compared
 
-NAMES = ("drill-grid", "clamp-check", "slot")
+NAMES = ("drill-grid", "clamp-check", "slot", "clamp-then-drill", "two-record-pattern", "turn-in-the-plate")
 ACTIONS = 40
 LINES = ["@0P", "@07", "@03", "@0A 30,600,10,600,0,300,0,300", "@0A -8,900,3,900", "@0S", "@0b1", "hello", "@0n 3", "@0A 10,20", "list", "clock 7",
          "@0i", "9", "0 3,600,0,600,-2,300,2,300", "key Y", "byte 13", "go on", "@0M 0,600,0,600,0,300,0,300", "@0f -1", "@0y 16,600,0,2,0,-1,-1"]

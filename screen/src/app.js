@@ -36,12 +36,14 @@ export class App {
         this.lastFrame = 0;
         this.lastTold = 0;
         this.credit = 0; // clock calls that the pace allows now
+        this.whenFresh = () => {}; // called before each fresh board
         this.whenIdle = null; // called once when nothing is left to do, or when it was given up
     }
 
     // A fresh board: nothing set, nothing stored, nothing done.
     switchOn() {
         this.breakOff();
+        this.whenFresh();
         this.session.begin();
         this.log.forget(0);
         this.plate.begin();
@@ -55,6 +57,7 @@ export class App {
     // cannot be done is answered with a sentence.
     act(text) {
         if (this.look !== null) return 'This looks back: go back to now first, or go on from here.';
+        if (text.startsWith('#')) return 'What begins with # is a note, and is not sent.';
         const item = { number: null, text, ...itemOf(text) };
         if (item.kind === 'wrong') return `${text}: ${item.fault}.`;
         this.breakOff();
@@ -62,6 +65,7 @@ export class App {
         else {
             this.player.add([item]);
             this.player.go(0);
+            if (!this.player.busy && this.session.runs()) this.player.runOn();
         }
         this.refresh();
         this.wake();
@@ -70,6 +74,7 @@ export class App {
 
     // What waits to be done is given up; lines of the program become the next ones again.
     breakOff() {
+        this.player.hold();
         this.program.giveBack(this.player.items);
         this.player.clear();
         const then = this.whenIdle;
@@ -77,13 +82,14 @@ export class App {
         if (then) then(false);
     }
 
-    // Items are done one after the other, behind what runs; then `whenIdle` is told whether all of it was done.
-    play(items, whenIdle = null) {
+    // Items are done one after the other, behind what runs and in front of another one (`behind`); then `whenIdle` is told whether all of it
+    // was done.
+    play(items, whenIdle = null, behind = null) {
         this.breakOff();
         this.paused = false;
         this.whenIdle = whenIdle;
         if (this.session.runs()) this.player.runOn();
-        this.player.add(items);
+        this.player.add(items, behind);
         this.refresh();
         this.wake();
     }

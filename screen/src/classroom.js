@@ -11,6 +11,7 @@ export class Classroom {
         this.app = app;
         this.module = module;
         this.box = byId('panel-lessons');
+        app.whenFresh = () => this.hideBeside();
         this.showAll();
     }
 
@@ -38,7 +39,6 @@ export class Classroom {
         this.index = index;
         this.lesson = lesson;
         this.beside = null;
-        this.hideBeside();
         this.app.switchOn();
         this.items = lesson.items();
         this.choices = lesson.choices.map(choice => this.choiceButton(choice));
@@ -80,10 +80,10 @@ export class Classroom {
     // The program runs, and when nothing more is to be done the answer is what came of it.
     async choose(choice) {
         for (const button of this.choices) button.disabled = true;
-        if (this.items.beside.length) await this.runBeside();
         const { lesson, items } = this;
         const isBegun = this.isBegun();
         if (!isBegun) this.app.switchOn();
+        if (items.beside.length) await this.runBeside();
         this.app.play(isBegun ? items.answering : [...items.before, ...items.answering], isDone => {
             if (isDone) this.showAnswer(lesson, choice);
             else this.showBroken();
@@ -116,8 +116,11 @@ export class Classroom {
         const { session } = this.app;
         const measured = lesson.measure(session, this.beside);
         for (const button of this.choices) {
-            button.classList.toggle('right', button.dataset.value === String(measured));
-            button.classList.toggle('wrong', button.dataset.value === String(choice.value) && choice.value !== measured);
+            const isRight = button.dataset.value === String(measured);
+            const isWrong = button.dataset.value === String(choice.value) && !isRight;
+            button.classList.toggle('right', isRight);
+            button.classList.toggle('wrong', isWrong);
+            if (isRight || isWrong) button.append(element('span', 'verdict', isRight ? 'what the board did' : 'your answer'));
         }
         const sentences = lesson.explain(choice.value, session, this.beside);
         this.answer.replaceChildren(...sentences.map(paragraph), ...this.ranBoth(), element('p', '', element('strong', '', ...pieces(lesson.short))));

@@ -28,7 +28,11 @@ function connectButtons(app) {
     for (const word of ['stop', 'start', 'break', 'reset']) onClick(word, () => complain(app.act(word)));
     onClick('clear', () => app.switchOn());
     onClick('save', () => saveFile(app));
-    onClick('print', () => printPaper(app));
+    onClick('print', () => {
+        fillPaper(app);
+        window.print();
+    });
+    window.addEventListener('beforeprint', () => fillPaper(app)); // the browser's own command
 }
 
 // So many lines of the program; none if a word of it is wrong.
@@ -39,7 +43,7 @@ function sendLines(app, most) {
     if (fault) return;
     const items = app.program.takeItems(most);
     if (most === 1 && app.paused) for (const item of items) app.send(item);
-    else app.play(items);
+    else app.play(items, null, app.program.items[app.program.next]);
 }
 
 function connectForms(app) {
@@ -86,6 +90,7 @@ function connectTabs() {
             byId(tab.getAttribute('aria-controls')).hidden = tab !== chosen;
         }
         byId('log-part').hidden = chosen.id === 'tab-card' || chosen.id === 'tab-sheet';
+        document.querySelector('main').classList.toggle('card', chosen.id === 'tab-card');
     };
     tabs.forEach((tab, i) => {
         tab.addEventListener('click', () => choose(tab));
@@ -106,10 +111,4 @@ function saveFile(app) {
     link.download = 'session.txt';
     link.click();
     setTimeout(() => URL.revokeObjectURL(link.href), 1000);
-}
-
-// The plate and the listing on one page for the examiner.
-function printPaper(app) {
-    fillPaper(app);
-    window.print();
 }

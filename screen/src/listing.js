@@ -31,6 +31,7 @@ export class Listing {
         const records = element('div', 'records');
         if (this.rows.length) records.append(drawWays(program.leads, this.rows.length), list);
         this.box.replaceChildren(records);
+        this.box.hidden = this.rows.length === 0;
         this.current = null;
     }
 

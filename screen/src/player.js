@@ -11,6 +11,7 @@ export class Player {
     // Nothing more is to be done.
     clear() {
         this.items = []; // those that are not begun
+        this.behind = null; // the item behind the last of them
         this.steps = []; // of the item that is begun
         this.left = 0; // clock calls that the run under way may still take
         this.isCounted = false; // whether a word of the program has counted them
@@ -18,9 +19,10 @@ export class Player {
         this.follows = false; // the next item follows the last one, with nothing that a person did in between
     }
 
-    // More items are to be done behind those that wait.
-    add(items) {
+    // More items are to be done behind those that wait, and in front of another one that is not.
+    add(items, behind = null) {
         this.items.push(...items);
+        this.behind = behind;
         this.endless = false;
     }
 
@@ -35,11 +37,17 @@ export class Player {
         this.endless = false;
     }
 
-    // What is begun is left as it stands; the items that wait stay.
+    // What is begun is left as it stands; the items that wait stay. Of a line that is sent in part the rest becomes the first of them.
     hold() {
+        const rest = this.steps.filter(step => step.byte !== undefined).map(step => step.byte);
         this.steps = [];
         this.left = 0;
         this.follows = false;
+        if (rest.length === 0) return;
+        const { number } = this.session.entry;
+        this.session.breakLine();
+        if (rest.length > 1) this.items.unshift(restOf(rest, number));
+        else this.items.unshift({ number, text: 'byte 13', kind: 'byte', value: 13 });
     }
 
     // Goes on by so many clock calls at most, and up to the end of an item: whether anything is left to do. Bytes need no clock calls.
@@ -59,7 +67,7 @@ export class Player {
         if (this.follows) this.session.open(item);
         else this.session.start(item);
         this.follows = true;
-        this.steps = stepsOf(item, this.session.entries.at(-2), this.items[0]);
+        this.steps = stepsOf(item, this.session.entries.at(-2), this.items[0] ?? this.behind);
     }
 
     // An item is done but for its clock calls: a person makes them.
@@ -84,7 +92,8 @@ export class Player {
     // Clock calls of the run under way. One without an end takes all that would follow with it.
     run(most) {
         const { session } = this;
-        const made = session.entry.kind === 'clock' && !this.isCounted ? session.clockCounted(most) : session.clock(most);
+        const isOwn = this.isCounted || session.entry.kind === 'text' || session.entry.kind === 'byte';
+        const made = isOwn ? session.clock(most) : session.clockCounted(most); // behind other words a file makes no clock calls
         this.left -= made;
         if (made < most) this.left = 0;
         else if (this.left === 0 && !this.isCounted && session.runs()) {
@@ -93,4 +102,10 @@ export class Player {
         }
         return made;
     }
+}
+
+// The rest of a line, whose last byte is its return, as a line of its own.
+function restOf(bytes, number) {
+    const text = new TextDecoder().decode(Uint8Array.from(bytes.slice(0, -1)));
+    return { number, text, kind: 'text', value: text };
 }

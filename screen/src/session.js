@@ -35,14 +35,16 @@ export class Session {
 
     // An item (script.js) is begun: what comes from now on goes to its entry, until the next one is begun.
     start(item) {
-        if (item.kind !== 'clock' || this.history.calls > this.entry?.sent) this.count();
+        this.count(item.kind === 'clock');
         this.open(item);
     }
 
-    // An entry: the item, its events, the clock calls made before it (`began`) and before its last byte (`sent`), and the board after it.
+    // An entry: the item, its events, the clock calls made before it (`began`) and before its last byte (`sent`), its bytes, and the board
+    // after it.
     open(item) {
         if (this.entry) this.entry.after = this.entry.after ?? this.summary();
-        this.entries.push({ ...item, events: [], began: this.history.calls, sent: this.history.calls, after: null });
+        const { calls } = this.history;
+        this.entries.push({ ...item, events: [], began: calls, sent: calls, bytes: [], after: null });
     }
 
     // A byte comes in. Its events are a reply, or what refused the call; beside a reply that names a record stands the program as it was before.
@@ -50,10 +52,12 @@ export class Session {
         const [a, b, c, d] = this.ports;
         const isLine = byte === 13 && this.board.get('job') === STORING;
         const stored = isLine ? { state: this.board.state().slice(), memory: this.board.memory() } : null;
-        const { reply, refusal } = this.history.receive(byte, (a | b << 8 | c << 16 | d << 24) >>> 0);
-        this.entry.sent = this.history.calls;
+        const { entry, history } = this;
+        entry.bytes.push({ byte, at: history.calls, events: entry.events.length, before: this.summary() });
+        const { reply, refusal } = history.receive(byte, (a | b << 8 | c << 16 | d << 24) >>> 0);
+        entry.sent = history.calls;
         if (!refusal && reply === '') return;
-        this.entry.events.push({ at: this.history.calls, reply, refusal, stored: reply.length === 6 ? stored : null });
+        entry.events.push({ at: history.calls, reply, refusal, stored: reply.length === 6 ? stored : null });
     }
 
     // Clock calls are made, so many at most, as long as there is something to do: how many it were. Their event is a range of the history.
@@ -65,11 +69,12 @@ export class Session {
         return history.calls - from;
     }
 
+    // A range that goes on is made longer, unless a byte has come in between.
     span(from, to) {
-        const { events } = this.entry;
+        const { events, sent } = this.entry;
         const last = events[events.length - 1];
         if (from === to) return;
-        if (last && last.to === from) last.to = to;
+        if (last && last.to === from && last.from >= sent) last.to = to;
         else events.push({ at: from, from, to });
     }
 
@@ -78,10 +83,11 @@ export class Session {
         this.entry.events.push({ at: this.history.calls, list: text, refusal });
     }
 
-    // If something runs while the next thing is begun, the person has counted the clock calls behind the last byte: they become an entry.
-    count() {
+    // If something runs while the next thing is begun, the person has counted the clock calls behind the last byte: they become an entry. So
+    // they do before clock calls that are counted (`isCounted`), which would else stand for them.
+    count(isCounted = false) {
         const { entry, history } = this;
-        if (!entry || entry.kind === 'clock' || !this.runs()) return;
+        if (!entry || entry.kind === 'clock' || !this.runs() && !(isCounted && history.calls > entry.sent)) return;
         const { sent } = entry;
         entry.events = entry.events.filter(event => event.to === undefined || event.from < sent);
         entry.after = this.summary(history.at(sent));
@@ -92,11 +98,24 @@ export class Session {
 
     // Clock calls that a person counts; those counted just before are put together with them. A single one counts also if nothing runs.
     clockCounted(most) {
-        this.count();
+        this.count(true);
         if (!this.entry || this.entry.kind !== 'clock') this.open(counted(0));
         const made = this.clock(most);
         Object.assign(this.entry, counted(this.entry.value + (most === 1 ? 1 : made)));
         return made;
+    }
+
+    // The line under way is given up before its last byte: each byte that was sent becomes an entry.
+    breakLine() {
+        const line = this.entries.pop();
+        line.bytes.forEach(({ byte, at, events }, i) => {
+            const next = line.bytes[i + 1];
+            const text = byte > 32 && byte < 127 ? 'key ' + String.fromCharCode(byte) : 'byte ' + byte;
+            const own = line.events.slice(events, next ? next.events : undefined);
+            const number = i === 0 ? line.number : null;
+            const entry = { number, text, kind: 'byte', value: byte, events: own, began: at, sent: at, bytes: [], after: next ? next.before : null };
+            this.entries.push(entry);
+        });
     }
 
     // What is told of a board behind an entry.
@@ -125,6 +144,9 @@ export class Session {
         entry.sent = Math.min(entry.sent, call);
         entry.after = null;
         if (entry.kind === 'clock') Object.assign(entry, counted(call - entry.began));
+        const { bytes } = entry;
+        entry.bytes = bytes.filter(({ at }) => at <= call);
+        if (entry.bytes.length < bytes.length) this.breakLine();
     }
 
     // The program that the check refused last, unless something was stored since: its bytes, and the place that the reply names.

@@ -58,7 +58,7 @@ export class View {
         const { session, log } = this.app;
         if (!session.entry) return 'Send a line, or choose an exercise and send all of it.';
         const { words, under } = log.teller.entry(session.entries.length - 1);
-        const last = under.length ? under[under.length - 1] : words;
+        const last = words !== '' || under.length === 0 ? words : under[under.length - 1];
         return last === '' ? '' : `${session.entry.text}: ${last}`;
     }
 

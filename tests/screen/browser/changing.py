@@ -11,8 +11,9 @@ def changing(page, tried):
     another(page, tried)
     fresh(page, tried)
     looked(page, tried)
+    typed(page, tried)
     lesson_again(page, tried)
-    return "another exercise, a fresh board, a look back and a lesson begun again, each in the midst of a run"
+    return "another exercise, a fresh board, a look back, words and lines, and a lesson begun again, each in the midst of a run"
 
 
 def begin(page, name, pace="50"):
@@ -68,6 +69,22 @@ def steady(page, tried):
         seen.add(tuple(page.driver.script(PLACES)))
         time.sleep(0.04)
     tried.same("places of Stop, Run and the slider in a run", len(seen), 1)
+
+
+def typed(page, tried):
+    """Whatever is sent that does not hold the table, it goes on moving."""
+    for text in ("@0P", "key Y", "ports 1 2 3 4", "list"):
+        page.click("clear")
+        page.choose("pace", "250")
+        page.line("@03")
+        page.quiet()
+        page.line("@0A 400,600,0,600")
+        page.driver.until(lambda: page.positions()["x"] > 10, "the table does not move")
+        page.line(text)
+        here = page.positions()["x"]
+        time.sleep(0.3)
+        tried.that(f"the table goes on behind {text}", page.positions()["x"] > here, here)
+    page.click("clear")
 
 
 def lesson_again(page, tried):

@@ -1,7 +1,7 @@
 """Moments at which what a person does is hard to write down as a file: each is done on the page, and ./exercise makes the same of its lines."""
 from told import done_alike, of_exercises
 
-LONG = "@0A 60,600,30,600"
+LONG = "@0A 400,600,200,600"
 
 
 def corners(page, tried):
@@ -30,6 +30,13 @@ def moving(page, *texts):
     lines(page, *texts[:-1])
     page.line(texts[-1])
     page.driver.until(lambda: page.positions()["x"] > 5, "the table does not move")
+
+
+def held(page, *texts):
+    """The same, and the clock is held in the midst of it."""
+    moving(page, *texts)
+    page.click("run")
+    page.driver.until(lambda: page.text("status-big") == "Under way", "the pause came too late")
 
 
 def clock_behind_a_run(page):
@@ -93,8 +100,7 @@ def dropped_in_a_run(page):
 
 def pause_and_a_line(page):
     """A pause, a line, clock calls by hand, and the rest."""
-    moving(page, "@03", LONG)
-    page.click("run")
+    held(page, "@03", LONG)
     page.line("@0P")
     page.click("clock")
     page.click("stop")
@@ -104,8 +110,7 @@ def pause_and_a_line(page):
 
 def pause_and_ports(page):
     """A pause, ports, and the rest without a line between."""
-    moving(page, "@03", LONG)
-    page.click("run")
+    held(page, "@03", LONG)
     page.line("ports 1 2 3 4")
     page.click("run")
     page.quiet()
@@ -114,12 +119,23 @@ def pause_and_ports(page):
 
 def pause_and_list(page):
     """A pause, a listing, and the rest without a line between."""
-    moving(page, "@03", LONG)
-    page.click("run")
+    held(page, "@03", LONG)
     page.line("list")
     page.click("run")
     page.quiet()
     lines(page, "@0P")
+
+
+def ports_and_the_rest(page):
+    """A pause, ports, and the rest, with nothing behind it."""
+    held(page, "@03", LONG)
+    page.line("ports 1 2 3 4")
+
+
+def list_and_the_rest(page):
+    """A pause, a listing, and the rest, with nothing behind it."""
+    held(page, "@03", LONG)
+    page.line("list")
 
 
 def break_and_clock(page):
@@ -142,4 +158,4 @@ def back_to_the_front(page):
 
 
 CORNERS = [clock_behind_a_run, clock_at_a_wait, ports_in_a_run, ports_and_a_stop, list_in_a_run, pause_in_a_line, dropped_in_a_run, pause_and_a_line,
-           pause_and_ports, pause_and_list, break_and_clock, back_to_the_front]
+           pause_and_ports, pause_and_list, ports_and_the_rest, list_and_the_rest, break_and_clock, back_to_the_front]

@@ -35,7 +35,8 @@ def endless(page, tried):
     paused = pausing(page, tried)
     frames = max(frame for _, frame in took)
     tried.that("no frame takes long", frames < 1000 * SOON, took)
-    return (f"100,000 clock calls in {', '.join(f'{one:.0f}' for one, _ in took)} ms, the longest frame {frames:.0f} ms, an answer in them within {1000 * slowest:.0f} ms, "
+    times = ", ".join(f"{one:.0f}" for one, _ in took)
+    return (f"100,000 clock calls in {times} ms, the longest frame {frames:.0f} ms, an answer in them within {1000 * slowest:.0f} ms, "
             f"paused after {paused:,}")
 
 

@@ -5,7 +5,8 @@ TABBED = """window.tabbed = [...document.querySelectorAll('a[href], button, inpu
     .filter(one => one.getAttribute('aria-selected') !== 'false' && !one.disabled && one.checkVisibility());
     return tabbed.map(one => one.id || one.textContent);"""
 FOCUS = """const one = document.activeElement, style = getComputedStyle(one);
-    return {at: tabbed.indexOf(one), isPage: one === document.body || one === document.documentElement, name: one.id || one.tagName + ' ' + one.textContent.slice(0, 30),
+    const isPage = one === document.body || one === document.documentElement;
+    return {at: tabbed.indexOf(one), isPage, name: one.id || one.tagName + ' ' + one.textContent.slice(0, 30),
         isSeen: style.outlineStyle !== 'none' && parseFloat(style.outlineWidth) >= 2};"""
 NAME = "const one = document.activeElement; return one.id || one.dataset.value || ''"
 

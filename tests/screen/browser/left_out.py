@@ -1,4 +1,4 @@
-"""What the page leaves out of the text of ./exercise on purpose, since it would have to know rules of the board for it (as tests/screen/told.mjs says)."""
+"""What the page leaves out of the text of ./exercise on purpose, as tests/screen/told.mjs says: it would have to know rules of the board for it."""
 import re
 
 SPECIAL = "|".join([
@@ -11,7 +11,8 @@ SPECIAL = "|".join([
     "only a is set: its number is 8", "a is named alone, by 8; x, y and z by 1 to 7",
 ])
 SPACES = "(?:a space stands at its end|a space stands before a comma|two spaces stand together)"
-GENERAL = {"1": "a number is out of range", "3": "these axes are not allowed", "7": "too few or too many numbers", "9": "outside the range of positions"}
+GENERAL = {"1": "a number is out of range", "3": "these axes are not allowed", "7": "too few or too many numbers",
+           "9": "outside the range of positions"}
 ENDINGS = {"9": "the next movement would leave the range of positions: the program ends",
            "3": "a plane needs an axis that is not set: the program ends",
            "1": "the directions of a circle do not fit its start: the program ends"}

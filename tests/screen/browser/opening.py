@@ -18,6 +18,7 @@ def opening(page, tried):
     for button in ("zoom-fit", "zoom-in", "zoom-out", "zoom-out"):
         page.click(button)
         pictures.append(page.plate())
-    tried.that("the plate shows the exercise, nearer and farther", len({*pictures}) == 4 and pictures[1] == pictures[3], [len(one) for one in pictures])
+    differ = len({*pictures}) == 4 and pictures[1] == pictures[3]
+    tried.that("the plate shows the exercise, nearer and farther", differ, [len(one) for one in pictures])
     size = os.path.getsize(page.file)
     return f"{size:,} bytes, begun after {statistics.median(times):.0f} ms (the median of {', '.join(map(str, times))})"

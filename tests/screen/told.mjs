@@ -4,7 +4,7 @@
 // The texts are the same byte for byte, but for what the page leaves out, since it would have to know rules of the board for it. So in the
 // text of ./exercise, before it is compared,
 // - the line between a refusal at the end line (as `Ga0003`) and "the store is empty now" is taken away: it works the fault out anew;
-// - behind 1, 3, 5, 7 and 9 the words in SPECIAL and SPACES, which are worked out from the refused line, become the general words of
+// - behind 1, 3, 5, 7 and 9 the words in left-out.txt and SPACES, which are worked out from the refused line, become the general words of
 //   tools/lib/replies.awk;
 // - at the end of a run the same words, with the record in front, become the general words of tools/lib/told.awk.
 // Of a session by buttons the lines have no numbers; so ` (line 13)` and the column of the numbers are taken away there.
@@ -23,16 +23,7 @@ import { dice, randomProgram } from './randoms.mjs';
 import { ROOT, moduleOf, readFile } from './root.mjs';
 
 const HERE = fileURLToPath(ROOT);
-const SPECIAL = [
-    'a plane is 0, 1 or 2', 'a direction is 0 or -1', 'the arc length is not from 0 to 8,388,607',
-    'the third number is not from -8,388,608 to 8,388,607', 'the start is not from -4,000,000 to 4,000,000',
-    'the start is the centre itself', 'the last two numbers are 1 or -1',
-    '(?:counter-)?clockwise from -?\\d+,-?\\d+ the directions are -?1,-?1', 'the plane of [xy] and [yz] needs an axis that is not set',
-    'the circle would leave the range of positions',
-    'A is set alone, or behind x, y and z: send @07, then @08', 'for four axes send @07, then @08',
-    'A is set alone, and a movement has two numbers then; for four axes send @07, then @08',
-    'only a is set: its number is 8', 'a is named alone, by 8; x, y and z by 1 to 7',
-].join('|');
+const SPECIAL = read('tests/screen/left-out.txt').split('\n').filter(line => line !== '' && !line.startsWith('#')).join('|');
 const SPACES = ': (?:a space stands at its end|a space stands before a comma|two spaces stand together)';
 
 class Difference extends Error {}

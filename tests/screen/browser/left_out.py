@@ -1,15 +1,11 @@
 """What the page leaves out of the text of ./exercise on purpose, as tests/screen/told.mjs says: it would have to know rules of the board for it."""
+import os
 import re
 
-SPECIAL = "|".join([
-    "a plane is 0, 1 or 2", "a direction is 0 or -1", "the arc length is not from 0 to 8,388,607",
-    "the third number is not from -8,388,608 to 8,388,607", "the start is not from -4,000,000 to 4,000,000", "the start is the centre itself",
-    "the last two numbers are 1 or -1", r"(?:counter-)?clockwise from -?\d+,-?\d+ the directions are -?1,-?1",
-    "the plane of [xy] and [yz] needs an axis that is not set", "the circle would leave the range of positions",
-    "A is set alone, or behind x, y and z: send @07, then @08", "for four axes send @07, then @08",
-    "A is set alone, and a movement has two numbers then; for four axes send @07, then @08",
-    "only a is set: its number is 8", "a is named alone, by 8; x, y and z by 1 to 7",
-])
+from page import ROOT
+
+with open(os.path.join(ROOT, "tests", "screen", "left-out.txt"), encoding="utf-8") as patterns:
+    SPECIAL = "|".join(line.rstrip("\n") for line in patterns if not line.startswith("#"))
 SPACES = "(?:a space stands at its end|a space stands before a comma|two spaces stand together)"
 GENERAL = {"1": "a number is out of range", "3": "these axes are not allowed", "7": "too few or too many numbers",
            "9": "outside the range of positions"}

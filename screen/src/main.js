@@ -12,13 +12,19 @@ function unpacked(text) {
     return WebAssembly.compile(Uint8Array.from(atob(text), letter => letter.charCodeAt(0)));
 }
 
-// `data` has the two modules in base64, the exercises and the card: screen/build puts them in.
+// Which board this is: an examiner can ask for it.
+function insideWords({ kit, boardSum, sheetSum }) {
+    return `Inside: the board with the SHA-256 sum ${boardSum} and the sheet with ${sheetSum}, proved and made with ${kit}.`;
+}
+
+// `data` has the kit, the two modules in base64 with their sums, the exercises and the card: screen/build puts them in.
 export async function beginPage(data) {
     try {
         const [boardModule, sheetModule] = await Promise.all([unpacked(data.board), unpacked(data.sheet)]);
         const app = await App.make(boardModule, data.exercises);
         connect(app);
         showCard(byId('panel-card'), data.card);
+        byId('inside').textContent = insideWords(data);
         showSheet(new Sheet(sheetModule, await Board.make(boardModule)));
         new Classroom(app, boardModule);
         app.program.take('drill-row');

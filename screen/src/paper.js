@@ -12,4 +12,5 @@ export function fillPaper(app) {
     setText(byId('paper-words'), `${stands}${app.plate.words()} Every position is in steps.`);
     const lines = view.program.lines.map((line, place) => `${String(place).padStart(4)}  ${line.slice(0, 1)} ${line.slice(1)}`);
     setText(byId('paper-listing'), lines.join('\n') || 'The store is empty.');
+    setText(byId('paper-inside'), byId('inside').textContent);
 }

@@ -120,7 +120,7 @@ export class App {
     clockOnce() {
         this.player.hold();
         this.paused = true;
-        this.session.clockCounted(1);
+        this.session.clockCounted(1, 1);
         this.refresh();
     }
 

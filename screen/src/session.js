@@ -96,12 +96,12 @@ export class Session {
         this.span(sent, history.calls);
     }
 
-    // Clock calls that a person counts; those counted just before are put together with them. A single one counts also if nothing runs.
-    clockCounted(most) {
+    // Clock calls that a person counts; those counted just before are put together with them. `least` are counted also if nothing runs.
+    clockCounted(most, least = 0) {
         this.count(true);
         if (!this.entry || this.entry.kind !== 'clock') this.open(counted(0));
         const made = this.clock(most);
-        Object.assign(this.entry, counted(this.entry.value + (most === 1 ? 1 : made)));
+        Object.assign(this.entry, counted(this.entry.value + Math.max(made, least)));
         return made;
     }
 

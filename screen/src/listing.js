@@ -9,9 +9,8 @@ const LANE = 11; // between two ways side by side
 const WAY_WORDS = { jump: 'jumps to', loop: 'goes back to', wait: 'waits, and jumps to' };
 
 export class Listing {
-    constructor(box, words) {
+    constructor(box) {
         this.box = box;
-        this.words = words;
         this.key = null;
         this.rows = [];
     }

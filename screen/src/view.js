@@ -4,7 +4,7 @@ import { byId, element, grouped, setText } from './dom.js';
 import { standOf } from './listing.js';
 import { programOf } from './records.js';
 import { LIMIT } from './session.js';
-import { axesWords, jobWords, planeWords, turnWords } from './words.js';
+import { axesWords, isRefusal, jobWords, planeWords, sentenceOf, turnWords, unfinishedSentence } from './words.js';
 
 const ACTIONS = ['send-all', 'send-line', 'clock', 'run', 'stop', 'start', 'break', 'reset', 'edit', 'rewind'];
 
@@ -49,17 +49,30 @@ export class View {
         if (player.endless) return ['runs', 'Not over', `Not over after ${grouped(LIMIT)} clock calls: no more lines are sent. Run goes on.`];
         if (shown.runs && paused) return ['runs', 'Under way', `${jobWords(job)}; Clock makes the next step, Run goes on.`];
         if (shown.runs) return ['runs', 'Running', `${jobWords(job)}.`];
-        if (job === STORING) return ['', 'Storing a program', `${board.get('records')} stored; the line 9 ends it, with a check.`];
+        const stored = `${board.get('records')} stored; the line 9 ends it, with a check.`;
+        if (job === STORING) return ['', 'Storing a program', this.refusalWords() || stored];
         return ['', 'Nothing runs', this.lastWords()];
     }
 
     // The end of what was said last.
     lastWords() {
         const { session, log } = this.app;
-        if (!session.entry) return 'Send a line, or choose an exercise and send all of it.';
-        const { words, under } = log.teller.entry(session.entries.length - 1);
+        const { entries, entry } = session;
+        if (!entry) return 'Send a line, or choose an exercise and send all of it.';
+        const refused = this.refusalWords();
+        if (refused) return refused;
+        const { words, under } = log.teller.entry(entries.length - 1);
         const last = words !== '' || under.length === 0 ? words : under[under.length - 1];
-        return last === '' ? '' : `${session.entry.text}: ${last}`;
+        return last === '' ? '' : `${entry.text}: ${last}`;
+    }
+
+    // The last thing's refusal at length, or nothing. While a program is stored a reply means something else.
+    refusalWords() {
+        const { entries, entry } = this.app.session;
+        const reply = entry?.events.findLast(event => event.reply)?.reply ?? '';
+        if (!isRefusal(reply)) return '';
+        const isStoring = entries[entries.length - 2]?.after?.job === STORING;
+        return `${entry.text}: ${reply}. ${reply === 'F' ? unfinishedSentence(entry.value) : sentenceOf(reply, isStoring)}`;
     }
 
     showPositions(board, { position, origin }) {

@@ -1,5 +1,5 @@
 // The words for what a board sends, does and is. They are tables: which of them holds is always said by the board.
-import { BREAK, DELAY, DIRECT, DONE, IDLE, MOVING, NOTHING, PAUSE, PULSE, READY, RESET, SEND, STOP, STORING, WAIT } from './board.js';
+import { BREAK, DELAY, DIRECT, IDLE, MOVING, READY, STORING, WAIT } from './board.js';
 
 // What a reply means that refuses a line; where there are two, the second is for a record while a program is stored.
 const REPLY_WORDS = {
@@ -33,10 +33,7 @@ const REPLY_SENTENCES = {
     W: 'Something stands stopped: only P, b and S are answered. Send @0S for the rest, or break to give it up.',
 };
 
-// What the check at the end line has found, by the letter behind G: in two or three words, of the record that it names, and at length.
-const FAULT_NAMES = {
-    a: 'target outside', b: 'loop starts too early', c: 'loops overlap', d: 'more than seven loops', e: 'jump across a loop',
-};
+// What the check at the end line has found, by the letter behind G: of the record that it names, and at length.
 const FAULT_WORDS = {
     a: 'it leads outside the program',
     b: 'its loop starts before the first record',
@@ -62,17 +59,7 @@ const JOB_WORDS = {
     [WAIT]: 'a program waits for a character',
 };
 
-const ANSWER_WORDS = {
-    [PULSE]: 'a pulse',
-    [PAUSE]: 'a pause',
-    [SEND]: 'a character is sent',
-    [DONE]: 'a record is done',
-    [NOTHING]: 'nothing to do',
-};
-
 const AXES_WORDS = { 0: 'no axes', 1: 'x', 3: 'x, y', 7: 'x, y, z', 8: 'a', 15: 'x, y, z, a' };
-
-const CONTROL_WORDS = { [STOP]: 'stop', [RESET]: 'reset', [BREAK]: 'break' };
 
 // How a program ends that does not reach its end, by the character that is sent.
 const ENDING_WORDS = {
@@ -106,11 +93,6 @@ export function meaningOf(reply, storing, lineOf = () => null) {
     return `${wordsIn(REPLY_WORDS, 'G', true)} at record ${place}${line === null ? '' : ` (line ${line})`}: ${FAULT_WORDS[reply[1]]}`;
 }
 
-// The shortest words for a refusal, where there is little room.
-export function shortMeaningOf(reply, storing) {
-    return namesFault(reply) ? FAULT_NAMES[reply[1]] : wordsIn(REPLY_WORDS, reply, storing);
-}
-
 // The same in full sentences, also for 0 and F.
 export function sentenceOf(reply, storing) {
     if (!namesFault(reply)) return wordsIn(REPLY_SENTENCES, reply, storing);
@@ -131,17 +113,8 @@ export function jobWords(job) {
     return JOB_WORDS[job] ?? '';
 }
 
-export function answerWords(answer) {
-    return ANSWER_WORDS[answer] ?? '';
-}
-
 export function axesWords(axes) {
     return AXES_WORDS[axes] ?? '';
-}
-
-// The name of a control code, or nothing.
-export function controlWords(byte) {
-    return CONTROL_WORDS[byte] ?? '';
 }
 
 // The character by which a run is over, in words.

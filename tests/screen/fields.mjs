@@ -36,8 +36,8 @@ function namedInPage() {
 const FIRST = { round: 'state.round', straight: 'state.straight', heard: 'heard', written: 'written', list: 'written', clock: 'clocked',
     show: 'shown', sign: 'clocked', position: 'shown.position', origin: 'shown.origin' };
 const WHOLE = { state: 'state', used: 'state.held.used', records: 'state.held.records', 'store axes': 'state.held.axes',
-    loops: 'state.loops.at', loop: 'state.loops.at[0]', depth: 'state.loops.depth', count: 'state.at', home: 'state.origin',
-    phase: 'state.straight.phase', first: 'state.straight.first', answer: 'clocked.kind', value: 'clocked.value', runs: 'shown.runs' };
+    loop: 'state.loops.at[0]', depth: 'state.loops.depth', count: 'state.at', home: 'state.origin',
+    answer: 'clocked.kind', value: 'clocked.value', runs: 'shown.runs' };
 
 function meant(name) {
     const [word, rest] = name.split(' ');

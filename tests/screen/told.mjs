@@ -18,7 +18,7 @@ import { Player } from '../../screen/src/player.js';
 import { itemOf, itemsOf } from '../../screen/src/script.js';
 import { Session } from '../../screen/src/session.js';
 import { Teller, toldText, widthOf } from '../../screen/src/told.js';
-import { isRefusal, meaningOf, shortMeaningOf } from '../../screen/src/words.js';
+import { isRefusal, meaningOf } from '../../screen/src/words.js';
 import { dice, randomProgram } from './randoms.mjs';
 import { ROOT, moduleOf, readFile } from './root.mjs';
 
@@ -51,7 +51,7 @@ function compareMeanings() {
     const letters = Array.from({ length: 94 }, (none, i) => String.fromCharCode(33 + i));
     const faults = [...'abcde'].flatMap(letter => [`G${letter}0000`, `G${letter}0013`]);
     const program = `BEGIN { line_of[13] = 7 }
-        { print refuses($1), meaning($1, 0) "|" meaning($1, 1) "|" (names_fault($1) ? fails($1) : "") }\n`;
+        { print refuses($1), (names_fault($1) ? fails($1) : meaning($1, 0) "|" meaning($1, 1)) }\n`;
     const file = path.join(fs.mkdtempSync(path.join(os.tmpdir(), 'told')), 'meanings.awk');
     fs.writeFileSync(file, program);
     const replies = [...letters, ...faults];
@@ -59,11 +59,10 @@ function compareMeanings() {
     fs.rmSync(path.dirname(file), { recursive: true });
     const ours = replies.map(reply => {
         const lineOf = place => (place === 13 ? 7 : null);
-        return `${Number(isRefusal(reply))} ${shortMeaningOf(reply, false)}|${shortMeaningOf(reply, true)}`
-            + `|${faults.includes(reply) ? meaningOf(reply, true, lineOf) : ''}\n`;
+        const words = faults.includes(reply) ? meaningOf(reply, true, lineOf) : `${meaningOf(reply, false)}|${meaningOf(reply, true)}`;
+        return `${Number(isRefusal(reply))} ${words}\n`;
     });
     same('the meanings of replies', awk, ours.join(''));
-    for (const reply of letters) same(`the meaning of ${reply}`, shortMeaningOf(reply, true), meaningOf(reply, true));
     return Object.fromEntries(awk.split('\n').slice(0, letters.length).map((line, i) => [letters[i], line.slice(2).split('|')[0]]));
 }
 

@@ -5,6 +5,11 @@ OUTSIDE = "@01\n@0i\n0 1,600\n3 0,9\n9\n@0S\n"
 WRONG_WORDS = {2: "@01\nclock x\n@0A 3,600\n", 1: "key YN\n@01\n", 3: "@01\n@0A 3,600\nports 1 2 3\n"}
 TYPED = ["@0A 10", "hello", "@03", "@0A 10", "@0A 10,600,0,20", "@0A10,600 ,0,600", "@0P ", "@0S", "@0y 8,600,0,0,0,1,1", "@0A 4,600,2,600", "@0P"]
 
+# What is said below the large words of a refusal; the words of one while storing are others. The other lines are taken.
+SAID = {"@0A 3,600": "4. No axes are set", "hello": "5. This is no line of the board", "@01": "", "@0A 3": "7. There are too few",
+        "@0A 3,20": "D. A speed is below", "@0S": "8. Nothing stands stopped", "@0i": "", "hallo": "5. This is no record", "3 0,9": "",
+        "9": "Ga0000. The check failed at record 0. It leads outside the program"}
+
 
 def lines(page, tried):
     page.open()
@@ -21,6 +26,7 @@ def lines(page, tried):
         wrong_word(page, tried, number, text)
     typed_word(page, tried)
     refused(page, tried)
+    said_large(page, tried)
     empty(page, tried)
     return f"{len(TYPED)} lines typed, {len(WRONG_WORDS) + 1} words that are wrong, a refused program, an empty one"
 
@@ -49,6 +55,16 @@ def refused(page, tried):
     page.own(OUTSIDE)
     page.all()
     compared(tried, "a refused program", page, OUTSIDE)
+
+
+def said_large(page, tried):
+    page.click("clear")
+    for line, words in SAID.items():
+        page.line(line)
+        page.quiet()
+        said = page.text("status-small")
+        if words:
+            tried.that(f"said large of {line}", said.startswith(f"{line}: {words}"), said)
 
 
 def empty(page, tried):

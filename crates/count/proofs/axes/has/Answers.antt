@@ -1,0 +1,6 @@
+-- `count::has` meets its contract. Assumes nothing.
+use borrow.Author.Rules.{rules}
+use Rattle.count.proofs.axes.has.Goals as goal
+
+pub returns : goal.returns
+returns c = rw (c.is_named.ensures, c.part_of.ensures.0)

@@ -6,7 +6,7 @@ use sheet::Axis;
 const MANY: usize = 1001;
 
 // The axis, or that it cannot be read, and where its fields end.
-#[derive(Drop)]
+#[derive(Clone, Copy)]
 struct AxisRead {
     pub right: bool,
     pub axis: Axis,
@@ -14,7 +14,7 @@ struct AxisRead {
 }
 
 // Whether every distance could be read, and how many there are, up to 1,001.
-#[derive(Drop)]
+#[derive(Clone, Copy)]
 struct Row {
     pub right: bool,
     pub count: usize,

@@ -3,7 +3,7 @@ ghost use Rattle.std.specs.Prelude.{◌≤◌, length};
 ghost use Rattle.ask.specs.work.Onward.{Onward};
 
 // The bits of a float, or that there are none, and where they end.
-#[derive(Drop)]
+#[derive(Clone, Copy)]
 pub(crate) struct BitsRead {
     pub right: bool,
     pub word: u64,
@@ -11,7 +11,7 @@ pub(crate) struct BitsRead {
 }
 
 // A whole number, or that there is none, and where it ends.
-#[derive(Drop)]
+#[derive(Clone, Copy)]
 pub(crate) struct WholeRead {
     pub right: bool,
     pub value: i64,
@@ -19,7 +19,7 @@ pub(crate) struct WholeRead {
 }
 
 // A number of 16 bits, or that there is none, and where it ends.
-#[derive(Drop)]
+#[derive(Clone, Copy)]
 pub(crate) struct NumberRead {
     pub right: bool,
     pub value: u16,
@@ -27,7 +27,7 @@ pub(crate) struct NumberRead {
 }
 
 // Whether the bytes could be read, and where they end.
-#[derive(Drop)]
+#[derive(Clone, Copy)]
 pub(crate) struct BytesRead {
     pub right: bool,
     pub at: usize,

@@ -7,7 +7,7 @@ use super::{fields, show};
 use record::Held;
 
 // A program, or that it cannot be read, and where its fields end.
-#[derive(Drop)]
+#[derive(Clone, Copy)]
 struct PartRead {
     pub right: bool,
     pub held: Held,

@@ -12,7 +12,7 @@ const LONGEST: usize = 70000;
 
 // Where the input has come to: how many bytes of a line are read (70,002 stands for more than the buffer's 70,001), and whether input may
 // follow and answers can be written.
-#[derive(Drop)]
+#[derive(Clone, Copy)]
 struct Place {
     pub len: usize,
     pub more: bool,

@@ -10,7 +10,7 @@ mod storing;
 use engine::{Answer, Engine};
 
 // The line being gathered: its bytes, the rest of the array 0, and whether more than 80 came.
-#[derive(Drop)]
+#[derive(Clone, Copy)]
 pub struct Line {
     pub bytes: [u8; 80],
     pub len: u8,
@@ -18,7 +18,7 @@ pub struct Line {
 }
 
 // The state of a board: what runs, whether it stands stopped, and the line.
-#[derive(Drop)]
+#[derive(Clone, Copy)]
 pub struct Board {
     pub engine: Engine,
     pub standing: bool,
@@ -26,7 +26,7 @@ pub struct Board {
 }
 
 // What receiving a byte comes to: the next state, the bytes of the reply, and the refusal's number or 0.
-#[derive(Drop)]
+#[derive(Clone, Copy)]
 pub struct Received {
     pub board: Board,
     pub len: usize,
@@ -34,7 +34,7 @@ pub struct Received {
 }
 
 // What a clock call comes to: the next state, its answer, and the refusal's number or 0.
-#[derive(Drop)]
+#[derive(Clone, Copy)]
 pub struct Ticked {
     pub board: Board,
     pub answer: Answer,
@@ -43,7 +43,7 @@ pub struct Ticked {
 
 // The positions or origins of the axes as numbers.
 #[repr(C)]
-#[derive(Drop)]
+#[derive(Clone, Copy)]
 pub struct Point {
     pub x: i32,
     pub y: i32,
@@ -53,7 +53,7 @@ pub struct Point {
 
 // A reply that is still to be written: none, one byte, 0 and the positions, 0 and a port's byte, or G with the letter and the place
 // of a fault.
-#[derive(Drop)]
+#[derive(Clone, Copy)]
 pub(crate) enum Saying {
     Silent,
     One(u8),
@@ -63,14 +63,14 @@ pub(crate) enum Saying {
 }
 
 // What a byte comes to, before its reply is written: the next state and the reply.
-#[derive(Drop)]
+#[derive(Clone, Copy)]
 pub(crate) struct Spoke {
     pub board: Board,
     pub say: Saying,
 }
 
 // What a received byte is taken for: one more of the line, its end, the character of a wait, nothing, or one of the control codes.
-#[derive(Drop)]
+#[derive(Clone, Copy)]
 pub(crate) enum Ear {
     Gather,
     Return,
@@ -82,14 +82,14 @@ pub(crate) enum Ear {
 }
 
 // A line with some bytes more, and how many.
-#[derive(Drop)]
+#[derive(Clone, Copy)]
 pub(crate) struct Lined {
     pub line: Line,
     pub count: usize,
 }
 
 // A board with some bytes more in its line, and how many.
-#[derive(Drop)]
+#[derive(Clone, Copy)]
 pub struct Taken {
     pub board: Board,
     pub count: usize,

@@ -24,7 +24,7 @@ const REPLY: usize = 32;
 
 // Where a script has come to: the board, the input ports, the bytes of the store, the entries of the table and the bytes of the reply
 // buffer that the next call is lent, the line being read and its number, whether a run is over, and whether input may follow.
-#[derive(Drop)]
+#[derive(Clone, Copy)]
 pub(crate) struct Play {
     pub board: Board,
     pub ports: [u8; 4],

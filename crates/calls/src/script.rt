@@ -4,7 +4,7 @@
 const WRONG: u64 = 9223372036854775808;
 
 // A number as far as it is read: whether it has a minus, its digits and its size. Eleven digits stand for what is no number.
-#[derive(Drop)]
+#[derive(Clone, Copy)]
 struct Number {
     pub minus: bool,
     pub digits: u8,
@@ -13,7 +13,7 @@ struct Number {
 
 // A line as far as it is read: the field being read as a number and with its bytes packed into a word, how many fields are closed (six stand
 // for more than five), the first two of them packed, and the numbers of the first five in two's complement.
-#[derive(Drop)]
+#[derive(Clone, Copy)]
 pub(crate) struct Row {
     pub number: Number,
     pub packed: u64,

@@ -8,21 +8,21 @@ use motion::Sign;
 pub use plan::{bend, direction_of, plane_of};
 
 // The plane of a circle, by its first and second axis.
-#[derive(Drop)]
+#[derive(Clone, Copy)]
 pub enum Plane {
     XY,
     XZ,
     YZ,
 }
 
-#[derive(Drop)]
+#[derive(Clone, Copy)]
 pub enum Direction {
     Clockwise,
     Counter,
 }
 
 // How circles go: their plane and direction.
-#[derive(Drop)]
+#[derive(Clone, Copy)]
 pub struct Circling {
     pub plane: Plane,
     pub direction: Direction,
@@ -30,21 +30,21 @@ pub struct Circling {
 
 // A point of a plane by its first and second axis, as counts.
 #[repr(C)]
-#[derive(Drop)]
+#[derive(Clone, Copy)]
 pub struct Pair {
     pub first: u32,
     pub second: u32,
 }
 
 // Which way the two axes of a plane go.
-#[derive(Drop)]
+#[derive(Clone, Copy)]
 pub struct Ways {
     pub first: Sign,
     pub second: Sign,
 }
 
 // An arc: how it goes, its centre, its start counted from there, its speed, its length in pulses and the pulses made.
-#[derive(Drop)]
+#[derive(Clone, Copy)]
 pub struct Arc {
     pub circling: Circling,
     pub centre: Pair,
@@ -55,7 +55,7 @@ pub struct Arc {
 }
 
 // A planned arc, or the character that refuses it.
-#[derive(Drop)]
+#[derive(Clone, Copy)]
 pub enum Bent {
     Going(Arc),
     Refused(u8),

@@ -24,7 +24,7 @@ const HALF: u32 = 8388608;
 const FULL: u32 = 16777216;
 
 // The axes: A is a turntable's.
-#[derive(Drop)]
+#[derive(Clone, Copy)]
 pub enum Axis {
     X,
     Y,
@@ -33,7 +33,7 @@ pub enum Axis {
 }
 
 // Where a number puts an axis: at a count, or outside 24 bits.
-#[derive(Drop)]
+#[derive(Clone, Copy)]
 pub enum Placed {
     At(u32),
     Outside,

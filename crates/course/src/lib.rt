@@ -13,7 +13,7 @@ pub use runs::run;
 use travel::Travel;
 
 // What a run comes to: the board after it, the clock calls used, whether the run is over, the bytes written, and the refusal's number or 0.
-#[derive(Drop)]
+#[derive(Clone, Copy)]
 pub struct Ran {
     pub board: Board,
     pub calls: u32,
@@ -23,7 +23,7 @@ pub struct Ran {
 }
 
 // A walk between two portions: the board, the clock calls used for the last byte, and whether its run is over.
-#[derive(Drop)]
+#[derive(Clone, Copy)]
 pub struct Walk {
     pub board: Board,
     pub calls: u32,
@@ -31,21 +31,21 @@ pub struct Walk {
 }
 
 // A portion of a walk: the walk after it, and the bytes written.
-#[derive(Drop)]
+#[derive(Clone, Copy)]
 pub struct Portion {
     pub walk: Walk,
     pub len: usize,
 }
 
 // A walk with some bytes of a line taken, and how many.
-#[derive(Drop)]
+#[derive(Clone, Copy)]
 pub struct Fed {
     pub walk: Walk,
     pub count: usize,
 }
 
 // What moves and the counters after some pulses, how many, and the bytes written.
-#[derive(Drop)]
+#[derive(Clone, Copy)]
 struct Glided {
     pub rest: Travel,
     pub at: Counters,
@@ -54,7 +54,7 @@ struct Glided {
 }
 
 // The engine after some clock calls, how many, and the bytes written.
-#[derive(Drop)]
+#[derive(Clone, Copy)]
 struct Went {
     pub engine: Engine,
     pub calls: u32,

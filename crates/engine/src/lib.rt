@@ -12,7 +12,7 @@ use record::Held;
 use travel::Travel;
 
 // What a clock call answers.
-#[derive(Drop)]
+#[derive(Clone, Copy)]
 pub enum Answer {
     Pulse(Signs, u16),
     Pause,
@@ -23,7 +23,7 @@ pub enum Answer {
 
 // What is under way: nothing; storing; a direct movement or circle; a program between records, in a movement or circle, in a delay with so
 // many pauses after the next one, or waiting for a character with its target.
-#[derive(Drop)]
+#[derive(Clone, Copy)]
 pub enum Job {
     Idle,
     Storing,
@@ -35,14 +35,14 @@ pub enum Job {
 }
 
 // A run: the job, the next record's place and the open loops.
-#[derive(Drop)]
+#[derive(Clone, Copy)]
 pub struct Run {
     pub job: Job,
     pub place: u16,
     pub loops: Loops,
 }
 
-#[derive(Drop)]
+#[derive(Clone, Copy)]
 pub struct Engine {
     pub axes: u8,
     pub at: Counters,
@@ -55,7 +55,7 @@ pub struct Engine {
 }
 
 // The engine after a clock call, and the answer.
-#[derive(Drop)]
+#[derive(Clone, Copy)]
 pub struct Told {
     pub engine: Engine,
     pub answer: Answer,
@@ -63,7 +63,7 @@ pub struct Told {
 
 // The engine after the line of a direct movement or circle, and its reply: what refuses it, 0 for one without a pulse, or none (0) for one
 // that runs.
-#[derive(Drop)]
+#[derive(Clone, Copy)]
 pub struct Begun {
     pub engine: Engine,
     pub reply: u8,
@@ -71,7 +71,7 @@ pub struct Begun {
 
 // What a clock call does, decided before it is done: nothing, since 103 refuses the state; nothing, since nothing runs; a pulse; a pause
 // with so many after it; the 0 after the last pulse; or the record at the place.
-#[derive(Drop)]
+#[derive(Clone, Copy)]
 pub enum Act {
     Wrong,
     Still,
@@ -82,7 +82,7 @@ pub enum Act {
 }
 
 // What moves, if something does.
-#[derive(Drop)]
+#[derive(Clone, Copy)]
 pub enum Under {
     Going(Travel),
     Nothing,

@@ -1,4 +1,6 @@
 // What a line says: its letter or code and its numbers, or that its shape is wrong.
+#![tactic(auto)]
+
 
 mod codes;
 mod letters;
@@ -8,7 +10,7 @@ pub use codes::stored_line;
 pub use letters::direct_line;
 
 // A line outside storing, by its letter; setting axes has none.
-#[derive(Drop)]
+#[derive(Clone, Copy)]
 pub enum Letter {
     Wrong,
     Axes,
@@ -29,7 +31,7 @@ pub enum Letter {
 }
 
 // A line outside storing: how many numbers it has, and the first eight of them as words.
-#[derive(Drop)]
+#[derive(Clone, Copy)]
 pub struct Direct {
     pub letter: Letter,
     pub count: usize,
@@ -37,7 +39,7 @@ pub struct Direct {
 }
 
 // A line while storing, by its code.
-#[derive(Drop)]
+#[derive(Clone, Copy)]
 pub enum Code {
     Wrong,
     Record(u8),
@@ -45,7 +47,7 @@ pub enum Code {
 }
 
 // A line while storing: how many numbers it has, and the first eight of them as words.
-#[derive(Drop)]
+#[derive(Clone, Copy)]
 pub struct Stored {
     pub code: Code,
     pub count: usize,

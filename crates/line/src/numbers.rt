@@ -5,7 +5,7 @@ ghost use Rattle.line.specs.Lines.{behind};
 ghost use Rattle.line.specs.work.Reading.{reading, item_from, spaced, items};
 
 // A number's word: the last of its line, or one with a comma behind it and the byte behind that comma.
-#[derive(Drop)]
+#[derive(Clone, Copy)]
 pub(crate) enum Item {
     Last(u32),
     More(u32, usize),
@@ -13,7 +13,7 @@ pub(crate) enum Item {
 }
 
 // The numbers of a line: how many, and the first eight of them as words.
-#[derive(Drop)]
+#[derive(Clone, Copy)]
 pub(crate) struct Items {
     pub right: bool,
     pub count: usize,

@@ -1,4 +1,6 @@
 // Movement: its plan, its pulses one by one, and what 103 asks of one under way.
+#![tactic(auto)]
+
 mod phase;
 mod pulse;
 mod route;
@@ -11,7 +13,7 @@ pub use steps::step_to;
 
 // The positions, origins or resting points of the four axes, as counts.
 #[repr(C)]
-#[derive(Drop)]
+#[derive(Clone, Copy)]
 pub struct Counters {
     pub x: u32,
     pub y: u32,
@@ -20,14 +22,14 @@ pub struct Counters {
 }
 
 // What a pulse does to an axis.
-#[derive(Drop)]
+#[derive(Clone, Copy)]
 pub enum Sign {
     Minus,
     Rest,
     Plus,
 }
 
-#[derive(Drop)]
+#[derive(Clone, Copy)]
 pub struct Signs {
     pub x: Sign,
     pub y: Sign,
@@ -36,7 +38,7 @@ pub struct Signs {
 }
 
 // The counters after one pulse, or that one of them would leave 24 bits.
-#[derive(Drop)]
+#[derive(Clone, Copy)]
 pub enum Moved {
     To(Counters),
     Outside,
@@ -44,7 +46,7 @@ pub enum Moved {
 
 // A movement: where it starts, its three resting points and speeds, the phase, and the pulses made in it.
 #[repr(C)]
-#[derive(Drop)]
+#[derive(Clone, Copy)]
 pub struct Move {
     pub start: Counters,
     pub first: Counters,
@@ -58,14 +60,14 @@ pub struct Move {
 }
 
 // A planned movement, or that one of its resting points lies outside 24 bits.
-#[derive(Drop)]
+#[derive(Clone, Copy)]
 pub enum Planned {
     Going(Move),
     Outside,
 }
 
 // One pulse: its signs and speed, the counters and the movement afterwards.
-#[derive(Drop)]
+#[derive(Clone, Copy)]
 pub struct Stepped {
     pub signs: Signs,
     pub speed: u16,
@@ -73,21 +75,21 @@ pub struct Stepped {
     pub rest: Move,
 }
 
-#[derive(Drop)]
+#[derive(Clone, Copy)]
 pub enum Next {
     Made(Stepped),
     Over,
 }
 
 // Where a movement stands: the phase, and the pulses made in it.
-#[derive(Drop)]
+#[derive(Clone, Copy)]
 pub struct Mark {
     pub phase: u8,
     pub made: u32,
 }
 
 // One pulse without the movement, of which it changes the mark alone: its signs and speed, the counters and the mark afterwards.
-#[derive(Drop)]
+#[derive(Clone, Copy)]
 pub struct Beat {
     pub signs: Signs,
     pub speed: u16,
@@ -95,14 +97,14 @@ pub struct Beat {
     pub mark: Mark,
 }
 
-#[derive(Drop)]
+#[derive(Clone, Copy)]
 pub enum Beaten {
     Made(Beat),
     Over,
 }
 
 // A movement under way at a clock call: 103 refuses it, its next pulse, or that none is left.
-#[derive(Drop)]
+#[derive(Clone, Copy)]
 pub enum Look {
     Wrong,
     Made(Beat),

@@ -7,7 +7,7 @@ use libc::{STDIN_FILENO, STDOUT_FILENO};
 use sheet::{Axis, Converted, Rate};
 
 // The board, the calls made, and a sum over what they came to.
-#[derive(Drop)]
+#[derive(Clone, Copy)]
 struct Pace {
     pub board: Board,
     pub calls: u64,

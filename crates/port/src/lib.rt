@@ -15,7 +15,7 @@ pub use store::{board_chain, board_fill, board_join};
 
 // An arc under way: its plane and direction by code.
 #[repr(C)]
-#[derive(Drop)]
+#[derive(Clone, Copy)]
 pub struct Round {
     pub centre: Pair,
     pub start: Pair,
@@ -31,7 +31,7 @@ pub struct Round {
 // pauses still to come at 5 and the target at 6, `byte` the character at 6. A plane is 0, 1 or 2, a direction 0 clockwise or 1 counter-clockwise, and
 // `over`, `standing` and `three` are 0 or 1.
 #[repr(C)]
-#[derive(Drop)]
+#[derive(Clone, Copy)]
 pub struct State {
     pub at: Counters,
     pub origin: Counters,
@@ -57,7 +57,7 @@ pub struct State {
 
 // What a byte comes to: the next state, the bytes of the reply, and the refusal's number or 0.
 #[repr(C)]
-#[derive(Drop)]
+#[derive(Clone, Copy)]
 pub struct Heard {
     pub state: State,
     pub len: usize,
@@ -67,7 +67,7 @@ pub struct Heard {
 // What a clock call comes to: the next state; the answer's kind, 1 a pulse, 2 a pause, 3 a byte to send, 4 a record done, 5 nothing; of a
 // pulse which way each axis goes, 1, 0 or -1; its speed, or the byte to send; and the refusal's number or 0.
 #[repr(C)]
-#[derive(Drop)]
+#[derive(Clone, Copy)]
 pub struct Clocked {
     pub state: State,
     pub kind: u8,
@@ -81,7 +81,7 @@ pub struct Clocked {
 
 // What listing comes to: the state as it was, the length of the text, and the refusal's number or 0.
 #[repr(C)]
-#[derive(Drop)]
+#[derive(Clone, Copy)]
 pub struct Written {
     pub state: State,
     pub len: u32,
@@ -91,7 +91,7 @@ pub struct Written {
 // What a host shows of a state: it as it was, its positions and origins as numbers, 1 if the next clock call has something to do, and 103
 // if the calls refuse it, or 0. The rest stands in the state itself.
 #[repr(C)]
-#[derive(Drop)]
+#[derive(Clone, Copy)]
 pub struct Shown {
     pub state: State,
     pub position: Point,

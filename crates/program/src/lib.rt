@@ -11,7 +11,7 @@ pub use ending::check;
 pub use running::{leap, onward};
 
 // What the check comes to: sound, the letter and place of the first fault, or that the store is not readable.
-#[derive(Drop)]
+#[derive(Clone, Copy)]
 pub enum Verdict {
     Sound,
     Fault(u8, u16),
@@ -19,7 +19,7 @@ pub enum Verdict {
 }
 
 // Whether a program is accepted; and of an accepted one, whether a jump or wait leads to its end place, and whether a range starts at place 0.
-#[derive(Drop)]
+#[derive(Clone, Copy)]
 pub struct Acceptance {
     pub accepted: bool,
     pub out: bool,
@@ -28,7 +28,7 @@ pub struct Acceptance {
 
 // An open loop: its place, and the goes back still to make.
 #[repr(C)]
-#[derive(Drop)]
+#[derive(Clone, Copy)]
 pub struct Loop {
     pub place: u16,
     pub left: u16,
@@ -36,14 +36,14 @@ pub struct Loop {
 
 // The open loops, the one opened last at depth - 1; the entries past it are 0.
 #[repr(C)]
-#[derive(Drop)]
+#[derive(Clone, Copy)]
 pub struct Loops {
     pub at: [Loop; 7],
     pub depth: u8,
 }
 
 // Where a record sends a run: to a place, into a wait, or nowhere (G).
-#[derive(Drop)]
+#[derive(Clone, Copy)]
 pub enum Going {
     To,
     Waits,
@@ -51,7 +51,7 @@ pub enum Going {
 }
 
 // The next place, a wait's target, and the open loops.
-#[derive(Drop)]
+#[derive(Clone, Copy)]
 pub struct Way {
     pub going: Going,
     pub place: u16,
@@ -60,7 +60,7 @@ pub struct Way {
 }
 
 // The same without the open loops: how many are open afterwards, and the one entry of theirs that can have changed.
-#[derive(Drop)]
+#[derive(Clone, Copy)]
 pub struct Lead {
     pub going: Going,
     pub place: u16,
@@ -71,7 +71,7 @@ pub struct Lead {
 }
 
 // Own place plus offset: a place from place 0 to the end place, or outside.
-#[derive(Drop)]
+#[derive(Clone, Copy)]
 pub(crate) enum Target {
     At(u16),
     Outside,

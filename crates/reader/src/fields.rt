@@ -10,21 +10,21 @@ ghost use Rattle.reader.specs.work.Sizes.{size_from, sized_whole};
 use super::{hex_number, hex_value, is_digit};
 
 // Whether a field is a whole number, and the number, or 0.
-#[derive(Drop)]
+#[derive(Clone, Copy)]
 pub struct Whole {
     pub right: bool,
     pub value: i64,
 }
 
 // Whether a field is the bits of a float, and the bits, or 0.
-#[derive(Drop)]
+#[derive(Clone, Copy)]
 pub struct Bits {
     pub right: bool,
     pub word: u64,
 }
 
 // Whether some bytes are digits, and what they come to, or 0.
-#[derive(Drop)]
+#[derive(Clone, Copy)]
 struct Size {
     pub right: bool,
     pub size: u64,

@@ -1,5 +1,7 @@
 // The numbers of a text, for the programs that run vectors: decimal ones one behind the other, whatever stands between them, and
 // hexadecimal ones at a place. And the fields of a line, for the program that answers questions.
+#![tactic(auto)]
+
 ghost use Rattle.std.specs.Prelude.{◌≡◌, ◌≤◌, length};
 ghost use Rattle.reader.specs.Reader.{is_digit, with_digit, number_at, words_at, behind_words, hex_value, hex_at};
 
@@ -8,7 +10,7 @@ mod fields;
 pub use fields::{Bits, Whole, field_end, float, magnitude, read_bits, read_bytes, read_whole};
 
 // A number of the text as a word of 32 bits, and where the text goes on.
-#[derive(Drop)]
+#[derive(Clone, Copy)]
 pub struct Number {
     pub word: u32,
     pub at: usize,

@@ -1,4 +1,6 @@
 // Records of the store: what is wrong with one, its bytes, its place, the table of the places, storing it, listing it.
+#![tactic(auto)]
+
 
 mod bytes;
 mod fault;
@@ -16,7 +18,7 @@ pub use table::{fetch, fill, find};
 
 // The store's part in use: its bytes, its records and the axes that it was written under.
 #[repr(C)]
-#[derive(Drop)]
+#[derive(Clone, Copy)]
 pub struct Held {
     pub used: u16,
     pub records: u16,
@@ -24,14 +26,14 @@ pub struct Held {
 }
 
 // A record: its code, and its numbers in the first `count` of the words; the words past them are 0.
-#[derive(Drop)]
+#[derive(Clone, Copy)]
 pub struct Record {
     pub code: u8,
     pub count: u8,
     pub words: [u32; 8],
 }
 
-#[derive(Drop)]
+#[derive(Clone, Copy)]
 pub enum Found {
     Right,
     End,
@@ -39,7 +41,7 @@ pub enum Found {
 }
 
 // What is found at a place or a byte: a record with the bytes that it takes, both 0 unless it is right.
-#[derive(Drop)]
+#[derive(Clone, Copy)]
 pub struct Fetched {
     pub found: Found,
     pub item: Record,
@@ -47,21 +49,21 @@ pub struct Fetched {
 }
 
 // The byte where a place starts, or that none is known.
-#[derive(Drop)]
+#[derive(Clone, Copy)]
 pub enum Spot {
     At(u16),
     Wrong,
 }
 
 // Whether a record was stored, and the part in use afterwards.
-#[derive(Drop)]
+#[derive(Clone, Copy)]
 pub struct Kept {
     pub stored: bool,
     pub held: Held,
 }
 
 // What listing comes to: the refusal, or 0 and the length of the text.
-#[derive(Drop)]
+#[derive(Clone, Copy)]
 pub struct Listed {
     pub refusal: u16,
     pub len: u32,

@@ -4,7 +4,7 @@ use libc::{STDIN_FILENO, STDOUT_FILENO};
 use record::{Held, Record};
 
 // The part in use of a store that was filled, and where the text goes on.
-#[derive(Drop)]
+#[derive(Clone, Copy)]
 struct Filled {
     held: Held,
     at: usize,

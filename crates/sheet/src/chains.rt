@@ -7,7 +7,7 @@ ghost use Rattle.sheet.specs.work.Links.{noted, link_of, fault_from, steps_from}
 use super::{Axis, Converted, axis_right, distance_steps, whole_steps};
 
 // The result at a sum, how far it is from the result before, and 203 if either is outside 24 bits.
-#[derive(Drop)]
+#[derive(Clone, Copy)]
 struct Link {
     pub refusal: u16,
     pub result: i32,

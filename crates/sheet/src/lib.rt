@@ -10,7 +10,7 @@ mod chains;
 pub use chains::chain;
 
 // What an axis is, each a 64-bit float.
-#[derive(Drop)]
+#[derive(Clone, Copy)]
 pub struct Axis {
     pub lead: f64,
     pub steps: f64,
@@ -18,7 +18,7 @@ pub struct Axis {
 }
 
 // A speed on the sheet: mm per second, mm per minute, or whole steps per second.
-#[derive(Drop)]
+#[derive(Clone, Copy)]
 pub enum Rate {
     PerSecond(f64),
     PerMinute(f64),
@@ -26,7 +26,7 @@ pub enum Rate {
 }
 
 // The refusal, or 0, and the value, which is 0 where there is a refusal.
-#[derive(Drop)]
+#[derive(Clone, Copy)]
 pub struct Converted {
     pub refusal: u16,
     pub value: i32,

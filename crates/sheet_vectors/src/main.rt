@@ -9,7 +9,7 @@ const WIDTH: usize = 69;
 
 // Where the input has come to: how many bytes of a line are read (71 stands for more than 70), the number of that line, and whether input
 // may follow.
-#[derive(Drop)]
+#[derive(Clone, Copy)]
 struct Place {
     pub len: usize,
     pub number: u64,

@@ -6,14 +6,14 @@ use circle::Arc;
 use motion::Move;
 pub use plans::{circle, plan};
 
-#[derive(Drop)]
+#[derive(Clone, Copy)]
 pub enum Travel {
     Straight(Move),
     Round(Arc),
 }
 
 // What is planned, or the character that refuses it.
-#[derive(Drop)]
+#[derive(Clone, Copy)]
 pub enum Planned {
     Going(Travel),
     Refused(u8),

@@ -5,7 +5,7 @@ use course::Walk;
 use libc::{STDIN_FILENO, STDOUT_FILENO};
 
 // Where a walk has come to: how much of the buffer waits to be written, whether every write went well, and whether input may follow.
-#[derive(Drop)]
+#[derive(Clone, Copy)]
 struct Stage {
     pub walk: Walk,
     pub at: usize,
@@ -14,7 +14,7 @@ struct Stage {
 }
 
 // How much of the buffer waits to be written, and whether every write went well: apart from the walk, which is large and would be copied.
-#[derive(Drop)]
+#[derive(Clone, Copy)]
 struct Pen {
     pub at: usize,
     pub fine: bool,

@@ -1,0 +1,63 @@
+-- `line::read_digits` meets its contract: the loop keeps what the whole text comes to, and the size below its power of ten. Assumes nothing.
+use Prim.Native.Nat.{◌≤◌, ◌<◌, ◌-◌, ◌^◌}
+use mathlib.Core.Path.{◌≡◌, sym, ◌∙◌}
+use native.Mathlib.Omega.{arith}
+use lib.ListN.{length, drop, drop_of_length-le}
+use Rattle.count.specs.Pick.{tests}
+use Rattle.count.proofs.laws.Lists.{next}
+use Rattle.line.specs.work.Reading.{reading}
+use Rattle.line.proofs.Digits.{eight, digit-more}
+use borrow.Author.Rules.{rules}
+use Rattle.line.proofs.numbers.read_digits.Goals as goal
+
+pub returns-then-digits-eq0 : goal.returns-then-digits-eq0
+unfolding reading
+returns-then-digits-eq0 c =
+    sym (c.loop-i.invariant.2 ∙ search (tests, next))
+
+pub returns-then-b-eq44 : goal.returns-then-b-eq44
+unfolding reading
+returns-then-b-eq44 c =
+    sym (c.loop-i.invariant.2 ∙ search (tests, next, c.word_of.ensures))
+
+pub returns-then-b-lt48 : goal.returns-then-b-lt48
+unfolding reading
+returns-then-b-lt48 c =
+    sym (c.loop-i.invariant.2 ∙ search (tests, next))
+
+pub returns-then-b-gt57 : goal.returns-then-b-gt57
+unfolding reading
+returns-then-b-gt57 c =
+    sym (c.loop-i.invariant.2 ∙ search (tests, next))
+
+pub returns-then-digits-ge8 : goal.returns-then-digits-ge8
+unfolding reading
+returns-then-digits-ge8 c =
+    sym (c.loop-i.invariant.2 ∙ search (tests, next))
+
+pub overflow_mul-size : goal.overflow_mul-size
+overflow_mul-size c =
+    omega (arith, eight c.loop-i.size c.loop-i.digits c.loop-i.invariant.1 c.loop-i.invariant.0)
+
+pub overflow_add-size : goal.overflow_add-size
+overflow_add-size c =
+    omega (arith, eight c.loop-i.size c.loop-i.digits c.loop-i.invariant.1 c.loop-i.invariant.0)
+
+pub loop-i-preserved : goal.loop-i-preserved
+unfolding reading
+loop-i-preserved c =
+    (
+      omega arith,
+      digit-more _ _ _ c.loop-i.invariant.1 (omega arith),
+      c.loop-i.invariant.2 ∙ search (tests, next, c.wide.ensures),
+    )
+
+pub returns-then-digits-eq0-2 : goal.returns-then-digits-eq0-2
+unfolding reading
+returns-then-digits-eq0-2 c =
+    sym (c.loop-i.invariant.2 ∙ search (tests, drop_of_length-le))
+
+pub returns : goal.returns
+unfolding reading
+returns c =
+    sym (c.loop-i.invariant.2 ∙ search (tests, drop_of_length-le, c.word_of-2.ensures))

@@ -1,0 +1,16 @@
+-- `motion::Move::speed_at` meets its contract. Assumes nothing.
+use borrow.Author.Tests.{ne_eqb}
+use Rattle.motion.specs.Next.{speed_at}
+use Rattle.motion.proofs.Move.speed_at.Goals as goal
+
+pub returns-in-0 : goal.returns-in-0
+unfolding speed_at
+returns-in-0 c = rw c.in-0.is
+
+pub returns-in-1 : goal.returns-in-1
+unfolding speed_at
+returns-in-1 c = rw c.in-1.is
+
+pub returns-in_default : goal.returns-in_default
+unfolding speed_at
+returns-in_default c = let k = c.in_default.in_default-own.rest in simp (ne_eqb _ _ k.1, ne_eqb _ _ k.0.1)

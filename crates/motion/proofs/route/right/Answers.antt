@@ -1,0 +1,6 @@
+-- `motion::route::right` meets its contract. Assumes nothing.
+use borrow.Author.Rules.{rules}
+use Rattle.motion.proofs.route.right.Goals as goal
+
+pub returns : goal.returns
+returns c = cc

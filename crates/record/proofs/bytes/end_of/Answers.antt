@@ -1,0 +1,12 @@
+-- `record::end_of` meets its contract. Assumes nothing.
+use mathlib.Core.Path.{sym, ap}
+use native.Mathlib.Omega.{arith}
+use lib.ListN.{length}
+use lib.Seq.{length-take-le, take_all}
+use Rattle.record.proofs.bytes.end_of.Goals as goal
+
+pub returns-then-n-store : goal.returns-then-n-store
+returns-then-n-store c = sym (length-take-le _ _ (omega arith))
+
+pub returns : goal.returns
+returns c = sym (ap length (take_all _ _ c.if-n-store.false))

@@ -1,0 +1,16 @@
+-- `record::put_head` meets its contract. Assumes nothing.
+use mathlib.Core.List.{[], ◌∷◌}
+use native.Mathlib.Omega.{arith}
+use lib.ListN.{length-set}
+use lib.Seq.{sets-eq}
+use borrow.Author.Rules.{rules}
+use Rattle.record.proofs.keep.put_head.Goals as goal
+
+pub bounds-s-1 : goal.bounds-s-1
+bounds-s-1 c = simp length-set (omega arith)
+
+pub bounds-s-2 : goal.bounds-s-2
+bounds-s-2 c = simp length-set (omega arith)
+
+pub returns : goal.returns
+returns c = sets-eq (_ ∷ _ ∷ _ ∷ _ ∷ []) c.args.s.now 0 c.requires.1

@@ -112,7 +112,7 @@ minus-wrong zero h = absurd (omega arith)
 minus-wrong (suc k) h = let l : 9223372036854775807 < k = omega arith in rw (lt-leb k 9223372036854775807 l)
 
 -- the tests of a whole number in the code's order
-abbrev bad_length : List ℕ → Bool
+abbrev pub bad_length : List ℕ → Bool
 bad_length s = ltb (length s) 1 || ltb 19 (length s)
 
 pub few : (s : List ℕ) → bad_length s ≡ false → (leb 1 (length s) ≡ true) × (leb (length s) 19 ≡ true)

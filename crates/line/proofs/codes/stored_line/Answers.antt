@@ -20,10 +20,10 @@ returns-in-Wrong c =
 pub returns-in-Record : goal.returns-in-Record
 returns-in-Record c =
     let l = c.args.line.now in
-    let g = c.in-Record.given in
+    let g = c.in-Record in
     c.with_code.ensures
-    ∙ rw (c.read_behind.ensures, g.1) (with-code-is (Record g.0.0) (behind (drop 1 l)))
-    ∙ sym (stored-first l c.if-line-eq0.false ∙ ap (λ (k : Code). by_code k (drop 1 l)) (sym c.code_of-code.ensures ∙ g.1))
+    ∙ rw (c.read_behind.ensures, g.is) (with-code-is (Record g.field-0) (behind (drop 1 l)))
+    ∙ sym (stored-first l c.if-line-eq0.false ∙ ap (λ (k : Code). by_code k (drop 1 l)) (sym c.code_of-code.ensures ∙ g.is))
 
 pub returns-in-End : goal.returns-in-End
 returns-in-End c =

@@ -26,7 +26,7 @@ returns-in_default-goal_z2 c = let a = c.args in let q = asked a.axes a.three a.
 
 pub route_of-requires : goal.route_of-requires
 unfolding goal_of first_speed later_speed
-route_of-requires c = let a = c.args in let q = asked a.axes a.three a.at a.origin a.absolute a.words in speeds-fit q (record { x = c.in-At.given.0.0; y = c.in-At-goal_on.given.0.0; z = c.in-At-goal_on-2.given.0.0; a = c.in-At-goal_on-3.given.0.0 }) c.requires c.goal_on-2.ensures c.in-At-goal_on.is
+route_of-requires c = let a = c.args in let q = asked a.axes a.three a.at a.origin a.absolute a.words in speeds-fit q (record { x = c.in-At.x; y = c.in-At-goal_on.y; z = c.in-At-goal_on-2.z; a = c.in-At-goal_on-3.a }) c.requires c.goal_on-2.ensures c.in-At-goal_on.is
 
 pub returns : goal.returns
 unfolding goal_of first_speed later_speed route

@@ -6,17 +6,7 @@ use borrow.Author.Tests.{not-true, not-false}
 use Rattle.reader.specs.Fields.{is_dash, are_pairs}
 use Rattle.reader.proofs.laws.Pairs.{pairs-room, bytes-none, bytes-wrong, bytes_read}
 use borrow.Author.Rules.{rules}
-use Rattle.reader.proofs.fields.read_bytes.Tie as tie
 use Rattle.reader.proofs.fields.read_bytes.Goals as goal
-
--- it is not `-`
-not-dash : (c : tie.Else-is_dash) → is_dash c.args.field.now ≡ false
-not-dash c = sym c.is_dash.ensures ∙ c.if-is_dash.false
-
--- it is pairs
-module _ (c : tie.Else-not-are_pairs) where
-  right : are_pairs c.args.field.now (length c.args.bytes.now) ≡ true
-  right = sym c.are_pairs.ensures ∙ c.if-not-are_pairs.false
 
 pub returns-then-is_dash : goal.returns-then-is_dash
 returns-then-is_dash c =
@@ -26,12 +16,12 @@ returns-then-is_dash c =
 pub returns-then-not-are_pairs : goal.returns-then-not-are_pairs
 returns-then-not-are_pairs c =
     let a = c.args in
-    bytes-wrong a.field.now a.bytes.now (not-dash c) (sym c.are_pairs.ensures ∙ c.if-not-are_pairs.true)
+    bytes-wrong a.field.now a.bytes.now (sym c.is_dash.ensures ∙ c.if-is_dash.false) (sym c.are_pairs.ensures ∙ c.if-not-are_pairs.true)
 
 pub put_pairs-requires : goal.put_pairs-requires
-put_pairs-requires c = pairs-room _ _ (right c)
+put_pairs-requires c = pairs-room _ _ (sym c.are_pairs.ensures ∙ c.if-not-are_pairs.false)
 
 pub returns : goal.returns
 returns c =
     let a = c.args in
-    bytes_read a.field.now a.bytes.now (not-dash c) (right c) c.put_pairs.ensures
+    bytes_read a.field.now a.bytes.now (sym c.is_dash.ensures ∙ c.if-is_dash.false) (sym c.are_pairs.ensures ∙ c.if-not-are_pairs.false) c.put_pairs.ensures

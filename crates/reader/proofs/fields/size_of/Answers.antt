@@ -9,16 +9,7 @@ use Rattle.reader.specs.Reader.{is_digit}
 use Rattle.reader.specs.work.Sizes.{size_from}
 use Rattle.reader.proofs.laws.Fields.{size_none, size-stops, size-goes, size_room, size-more}
 use borrow.Author.Rules.{rules}
-use Rattle.reader.proofs.fields.size_of.Tie as tie
 use Rattle.reader.proofs.fields.size_of.Goals as goal
-
--- the byte is a digit, and fewer than 19 are behind it
-module _ (c : tie.Else-not-is_digit invariant-loop decreases-loop) where
-  digit : is_digit (get_or c.args.digits.now c.loop-i.i 0) ≡ true
-  digit = sym c.is_digit.ensures ∙ c.if-not-is_digit.false
-
-  room : c.loop-i.size * 10 + 9 < 18446744073709551616
-  room = size_room c.loop-i.i c.loop-i.size (omega (arith, c.requires)) c.loop-i.invariant.1
 
 pub returns-then-not-is_digit : goal.returns-then-not-is_digit
 returns-then-not-is_digit c =
@@ -26,20 +17,20 @@ returns-then-not-is_digit c =
     sym (c.loop-i.invariant.2 ∙ size-stops t c.loop-i.i c.loop-i.size (omega arith) (sym c.is_digit.ensures ∙ c.if-not-is_digit.true))
 
 pub overflow_mul-size : goal.overflow_mul-size
-overflow_mul-size c = record { fits = omega (arith, room c) }
+overflow_mul-size c = record { fits = omega (arith, size_room c.loop-i.i c.loop-i.size (omega (arith, c.requires)) c.loop-i.invariant.1) }
 
 pub digit_value-requires : goal.digit_value-requires
-digit_value-requires c = digit c
+digit_value-requires c = sym c.is_digit.ensures ∙ c.if-not-is_digit.false
 
 pub overflow_add-size : goal.overflow_add-size
-overflow_add-size c = record { fits = omega (arith, room c, c.digit_value.ensures.1) }
+overflow_add-size c = record { fits = omega (arith, size_room c.loop-i.i c.loop-i.size (omega (arith, c.requires)) c.loop-i.invariant.1, c.digit_value.ensures.1) }
 
 pub loop-i-preserved : goal.loop-i-preserved
 loop-i-preserved c =
     let t = c.args.digits.now in (
       omega arith,
       size-more c.loop-i.i c.loop-i.size c.digit_value.result c.loop-i.invariant.1 c.digit_value.ensures.1,
-      c.loop-i.invariant.2 ∙ size-goes t c.loop-i.i c.loop-i.size (omega arith) (digit c) ∙ rw (← c.digit_value.ensures.0),
+      c.loop-i.invariant.2 ∙ size-goes t c.loop-i.i c.loop-i.size (omega arith) (sym c.is_digit.ensures ∙ c.if-not-is_digit.false) ∙ rw (← c.digit_value.ensures.0),
     )
 
 pub returns : goal.returns

@@ -18,7 +18,7 @@ use Rattle.circle.specs.declared.Ways.{Ways}
 use Rattle.circle.specs.declared.Arc.{Arc}
 use Rattle.circle.specs.Rule.{on_plane, on_axes, shifted, measure}
 use Rattle.circle.specs.Arc.{zero, counted_pair}
-use Rattle.circle.specs.Plan.{reaches, reach_of, hasRoom as hasSquare}
+use Rattle.circle.specs.Plan.{reaches, reach_of-both, has_room as has_square}
 use Rattle.circle.specs.Sound.{at_point, start_sound, point_sound, arc_under_way}
 use Rattle.circle.proofs.laws.Roots.{rooted}
 use Rattle.circle.proofs.laws.Square.{Lies}
@@ -27,15 +27,15 @@ use Rattle.circle.proofs.laws.Square.{Lies}
 
 -- a square around a centre, and a point of it
 pub record Lays (start centre p : Pair) : Type 0 where
-  pub first : Lies (reach_of start) centre.first p.first
-  pub second : Lies (reach_of start) centre.second p.second
+  pub first : Lies (reach_of-both start) centre.first p.first
+  pub second : Lies (reach_of-both start) centre.second p.second
   pub apart : 0 < far centre.first p.first + far centre.second p.second
 
 pub record Passed (a : Arc) (at : Counters) : Type 0 where
   pub position : counted at ≡ true
   pub speed : speed_right a.speed ≡ true
   pub start : start_sound a.start ≡ true
-  pub room : hasSquare a.centre a.start ≡ true
+  pub room : has_square a.centre a.start ≡ true
   pub point : point_sound a.start a.centre (on_plane a.circling.plane at) ≡ true
   pub made : a.made ≤ a.length
 
@@ -45,7 +45,7 @@ passed a at u =
     let t1 = counted at in
     let t2 = speed_right a.speed in
     let t3 = start_sound a.start in
-    let t4 = hasSquare a.centre a.start in
+    let t4 = has_square a.centre a.start in
     let t5 = point_sound a.start a.centre (on_plane a.circling.plane at) in
     let t6 = leb a.made a.length in
     let e5 = and_left (t1 && t2 && t3 && t4 && t5) t6 u in
@@ -86,10 +86,10 @@ apart_of a b c d h = by (eqb a c) (eqb b d) refl refl
     by true false e f = omega (arith, not_same b d f)
     by false t e f = omega (arith, not_same a c e)
 
-pub lays : (start centre p : Pair) → hasSquare centre start ≡ true → point_sound start centre p ≡ true → Lays start centre p
-unfolding hasSquare point_sound
+pub lays : (start centre p : Pair) → has_square centre start ≡ true → point_sound start centre p ≡ true → Lays start centre p
+unfolding has_square point_sound
 lays start centre p h q =
-    let r = reach_of start in
+    let r = reach_of-both start in
     let s1 = reaches r centre.first in
     let s2 = reaches r centre.second in
     let d1 = leb (far centre.first p.first) r in
@@ -113,11 +113,11 @@ point-of a b c d h = by (eqb a c) (eqb b d) refl refl
     by true false e f = refl
     by false t e f = refl
 
-pub point-sound : (start centre p : Pair) → far centre.first p.first ≤ reach_of start → far centre.second p.second ≤ reach_of start
+pub point-sound : (start centre p : Pair) → far centre.first p.first ≤ reach_of-both start → far centre.second p.second ≤ reach_of-both start
     → 0 < far centre.first p.first + far centre.second p.second → point_sound start centre p ≡ true
 unfolding point_sound
 point-sound start centre p h g o =
-    both (both (le-leb _ (reach_of start) h) (le-leb _ (reach_of start) g)) (point-of centre.first centre.second p.first p.second o)
+    both (both (le-leb _ (reach_of-both start) h) (le-leb _ (reach_of-both start) g)) (point-of centre.first centre.second p.first p.second o)
 
 -- ---- the axes of a plane and all axes
 
@@ -135,8 +135,8 @@ plane-steps YZ w at h g = both (both (both refl h) g) refl
 
 -- ---- numbers of 24 bits, and the radius
 
-pub reach-high : (start : Pair) → measure zero start < reach_of start * reach_of start
-unfolding reach_of
+pub reach-high : (start : Pair) → measure zero start < reach_of-both start * reach_of-both start
+unfolding reach_of-both
 reach-high start = (rooted (measure zero start)).high
 
 pub small-start : (s : Pair) → start_sound s ≡ true → counted_pair s ≡ true

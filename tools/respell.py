@@ -20,6 +20,7 @@ FACTS = [
     ("crates/promise/proofs/laws/KeepsPulses.antt", "hasRoom", "HasRoom"),
     ("crates/motion/specs/work/Room.antt", "room", "RoomFor"),
     ("crates/motion/proofs/", "room", "RoomFor"),
+    ("crates/motion/src/", "room", "RoomFor"),
     ("crates/travel/proofs/laws/Whole.antt", "room", "RoomFor"),
     ("crates/motion/", "noFurther", "NoFurther"),
     ("crates/promise/", "after8", "AfterEight"),

@@ -18,7 +18,7 @@ use Rattle.circle.specs.declared.Ways.{Ways}
 use Rattle.circle.specs.declared.Arc.{Arc}
 use Rattle.circle.specs.Rule.{on_plane, on_axes, shifted, measure}
 use Rattle.circle.specs.Arc.{zero, counted_pair}
-use Rattle.circle.specs.Plan.{reaches, reach_of-both, has_room as has_square}
+use Rattle.circle.specs.Plan.{reaches, reach_of, has_room as has_square}
 use Rattle.circle.specs.Sound.{at_point, start_sound, point_sound, arc_under_way}
 use Rattle.circle.proofs.laws.Roots.{rooted}
 use Rattle.circle.proofs.laws.Square.{Lies}
@@ -27,8 +27,8 @@ use Rattle.circle.proofs.laws.Square.{Lies}
 
 -- a square around a centre, and a point of it
 pub record Lays (start centre p : Pair) : Type 0 where
-  pub first : Lies (reach_of-both start) centre.first p.first
-  pub second : Lies (reach_of-both start) centre.second p.second
+  pub first : Lies (reach_of start) centre.first p.first
+  pub second : Lies (reach_of start) centre.second p.second
   pub apart : 0 < far centre.first p.first + far centre.second p.second
 
 pub record Passed (a : Arc) (at : Counters) : Type 0 where
@@ -89,7 +89,7 @@ apart_of a b c d h = by (eqb a c) (eqb b d) refl refl
 pub lays : (start centre p : Pair) → has_square centre start ≡ true → point_sound start centre p ≡ true → Lays start centre p
 unfolding has_square point_sound
 lays start centre p h q =
-    let r = reach_of-both start in
+    let r = reach_of start in
     let s1 = reaches r centre.first in
     let s2 = reaches r centre.second in
     let d1 = leb (far centre.first p.first) r in
@@ -113,11 +113,11 @@ point-of a b c d h = by (eqb a c) (eqb b d) refl refl
     by true false e f = refl
     by false t e f = refl
 
-pub point-sound : (start centre p : Pair) → far centre.first p.first ≤ reach_of-both start → far centre.second p.second ≤ reach_of-both start
+pub point-sound : (start centre p : Pair) → far centre.first p.first ≤ reach_of start → far centre.second p.second ≤ reach_of start
     → 0 < far centre.first p.first + far centre.second p.second → point_sound start centre p ≡ true
 unfolding point_sound
 point-sound start centre p h g o =
-    both (both (le-leb _ (reach_of-both start) h) (le-leb _ (reach_of-both start) g)) (point-of centre.first centre.second p.first p.second o)
+    both (both (le-leb _ (reach_of start) h) (le-leb _ (reach_of start) g)) (point-of centre.first centre.second p.first p.second o)
 
 -- ---- the axes of a plane and all axes
 
@@ -135,8 +135,8 @@ plane-steps YZ w at h g = both (both (both refl h) g) refl
 
 -- ---- numbers of 24 bits, and the radius
 
-pub reach-high : (start : Pair) → measure zero start < reach_of-both start * reach_of-both start
-unfolding reach_of-both
+pub reach-high : (start : Pair) → measure zero start < reach_of start * reach_of start
+unfolding reach_of
 reach-high start = (rooted (measure zero start)).high
 
 pub small-start : (s : Pair) → start_sound s ≡ true → counted_pair s ≡ true

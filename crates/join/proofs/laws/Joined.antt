@@ -15,7 +15,7 @@ use Rattle.record.specs.declared.Held.{Held}
 use Rattle.record.specs.declared.Record.{Record}
 use Rattle.record.specs.Memory.{Memory, memory}
 use Rattle.record.specs.Bytes.{Below, Got, made}
-use Rattle.record.specs.Places.{in_use-joined, Records, records_of}
+use Rattle.record.specs.Places.{in_use, Records, records_of}
 use Rattle.record.specs.Places.Records.{are}
 use Rattle.record.specs.Table.{fetch_of, TableTrue, Filling, filling, fill_of}
 use Rattle.record.proofs.laws.Below.{below-append, below-take, below-drop}
@@ -59,17 +59,17 @@ module _ (a : Held) (m : Memory) (b : Held) (t : List ℕ) (p : Passed a m b t) 
   bytes = end_to_end a m.store b t
 
   -- each part in use is as long as it says
-  parts : (length (in_use-joined a m.store) ≡ a.used) × (length (in_use-joined b t) ≡ b.used)
+  parts : (length (in_use a m.store) ≡ a.used) × (length (in_use b t) ≡ b.used)
   parts =
       let u = (few a m b t p).1 in
       let g = long a m b t p in
       (length-take-le a.used m.store (omega (arith, g.0)), length-take-le b.used t (omega (arith, g.1)))
 
-  in_use-joined : in_use-joined (both a b) bytes ≡ in_use-joined a m.store ++ in_use-joined b t
+  in_use-joined : in_use (both a b) bytes ≡ in_use a m.store ++ in_use b t
   unfolding both end_to_end
   in_use-joined =
-      take_at (in_use-joined a m.store ++ in_use-joined b t) (drop (a.used + b.used) m.store) (a.used + b.used)
-      (length-append (in_use-joined a m.store) (in_use-joined b t) ∙ omega (arith, parts.0, parts.1))
+      take_at (in_use a m.store ++ in_use b t) (drop (a.used + b.used) m.store) (a.used + b.used)
+      (length-append (in_use a m.store) (in_use b t) ∙ omega (arith, parts.0, parts.1))
 
   module _ (c : Below 256 m.store) (d : Below 256 t) (l k : List Record) (reads : records_of (counted a b) m.store ≡ are l) (behind : records_of (counted b a) t ≡ are k) where
     -- THE LIST
@@ -93,16 +93,16 @@ module _ (a : Held) (m : Memory) (b : Held) (t : List ℕ) (p : Passed a m b t) 
   pub joined-long : length bytes ≡ 16384
   unfolding end_to_end
   joined-long =
-      let x = in_use-joined a m.store ++ in_use-joined b t in
+      let x = in_use a m.store ++ in_use b t in
       let y = drop (a.used + b.used) m.store in
-      let n : length x ≡ a.used + b.used = length-append (in_use-joined a m.store) (in_use-joined b t) ∙ omega (arith, parts.0, parts.1) in
+      let n : length x ≡ a.used + b.used = length-append (in_use a m.store) (in_use b t) ∙ omega (arith, parts.0, parts.1) in
       length-append x y ∙ omega (arith, n, length-drop (a.used + b.used) m.store, (long a m b t p).0, (few a m b t p).1)
 
   pub joined-below : Below 256 m.store → Below 256 t → Below 256 bytes
   unfolding end_to_end
   joined-below c d =
-      below-append 256 (omega arith) (in_use-joined a m.store ++ in_use-joined b t) (drop (a.used + b.used) m.store)
-      (below-append 256 (omega arith) (in_use-joined a m.store) (in_use-joined b t) (below-take 256 (omega arith) a.used m.store c) (below-take 256 (omega arith) b.used t d))
+      below-append 256 (omega arith) (in_use a m.store ++ in_use b t) (drop (a.used + b.used) m.store)
+      (below-append 256 (omega arith) (in_use a m.store) (in_use b t) (below-take 256 (omega arith) a.used m.store c) (below-take 256 (omega arith) b.used t d))
       (below-drop 256 (a.used + b.used) m.store c)
 
   module _ (c : Below 256 m.store) (d : Below 256 t) where

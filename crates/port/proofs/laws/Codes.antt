@@ -25,7 +25,7 @@ use Rattle.engine.specs.declared.Job.TheVariants as job
 use Rattle.engine.specs.work.Acts.{under_of}
 use Rattle.port.specs.declared.Round.{Round}
 use Rattle.port.specs.Code.{flag, direction_code, circling_of, arc_of, round_of, straight_in, round_in, kind_in, moved_by, straight_over, round_over, kind_over}
-use Rattle.port.specs.work.Work.{of_under, straight_under, round_under-over, kind_under}
+use Rattle.port.specs.work.Work.{of_under, straight_under, round_under, kind_under}
 
 -- ---- what holds of each code up to the last holds of all of them
 
@@ -125,8 +125,8 @@ pub straight-under : (j : Job) (old : Move) → straight_under (under_of j) old 
 unfolding straight_under
 straight-under j old = of-under (λ t. straight_in t old) old j
 
-pub round_under-over : (j : Job) (old : Round) → round_under-over (under_of j) old ≡ round_over j old
-unfolding round_under-over
+pub round_under-over : (j : Job) (old : Round) → round_under (under_of j) old ≡ round_over j old
+unfolding round_under
 round_under-over j old = of-under (λ t. round_in t old) old j
 
 pub kind-under : (j : Job) (old : ℕ) → kind_under (under_of j) old ≡ kind_over j old

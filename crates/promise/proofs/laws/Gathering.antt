@@ -21,7 +21,7 @@ use Rattle.promise.specs.Machine.{ours}
 use Rattle.promise.specs.Demands.{idles, stores, waits, ticks, Host, Sent, after, sent}
 use Rattle.promise.specs.Steps.{Each}
 use Rattle.promise.specs.Spaces.{Gathers}
-use Rattle.promise.proofs.laws.KeepsCalls.{is_right-both, right-store, right-table, right_is, keeps-quiet}
+use Rattle.promise.proofs.laws.KeepsCalls.{is_right, right-store, right-table, right_is, keeps-quiet}
 
 -- ---- one byte
 
@@ -41,7 +41,7 @@ hear-so v ports b l s n r = rw (le-ltb (length l.reply) 32 r, right-store l.memo
 
 -- what a byte comes to, refused or heard
 abbrev pub step : ℕ → List ℕ → Board → Memory → Said
-step v ports b mem = pick (is_right-both mem && sound b) (hearing v ports b mem) (said b [] mem)
+step v ports b mem = pick (is_right mem && sound b) (hearing v ports b mem) (said b [] mem)
 
 module _ (host : Host) (i v : ℕ) (l : List ℕ) (b : Board) (mem : Memory) where
   abbrev went : Outcome → Sent ours

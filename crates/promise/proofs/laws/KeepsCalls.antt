@@ -35,8 +35,8 @@ use Rattle.promise.specs.Demands.{is_idle, is_waiting, RefusedCall, Quiet, ticks
 
 -- ---- a memory as every call asks for it, as the calls test it
 
-abbrev pub is_right-both : Memory → Bool
-is_right-both mem = store_fits mem && table_fits mem
+abbrev pub is_right : Memory → Bool
+is_right mem = store_fits mem && table_fits mem
 
 pub right-store : (mem : Memory) → RightMemory mem → store_fits mem ≡ true
 right-store mem h = eq-eqb (length mem.store) 16384 h.0
@@ -47,10 +47,10 @@ right-table mem h = eq-eqb (length mem.table) 1000 h.1
 pub fits-right : (mem : Memory) → store_fits mem ≡ true → table_fits mem ≡ true → RightMemory mem
 fits-right mem g h = (eqb-true (length mem.store) 16384 g, eqb-true (length mem.table) 1000 h)
 
-pub is_right-both : (mem : Memory) → is_right-both mem ≡ true → RightMemory mem
+pub is_right-both : (mem : Memory) → is_right mem ≡ true → RightMemory mem
 is_right-both mem h = let d = and_parts (store_fits mem) (table_fits mem) h in fits-right mem d.0 d.1
 
-pub right_is : (mem : Memory) → RightMemory mem → is_right-both mem ≡ true
+pub right_is : (mem : Memory) → RightMemory mem → is_right mem ≡ true
 right_is mem h = both (right-store mem h) (right-table mem h)
 
 -- ---- a received byte: refused, or heard

@@ -27,7 +27,7 @@ use Rattle.line.specs.declared.Code.{Code}
 use Rattle.line.specs.declared.Code.TheVariants as code
 use Rattle.line.specs.declared.Stored.{Stored}
 use Rattle.line.specs.Numbers.{Numbers, are, wrong}
-use Rattle.line.specs.Lines.{direct_of, stored_of, stored, code_of, by_code-each, behind}
+use Rattle.line.specs.Lines.{direct_of, stored_of, stored, code_of, by_code, behind}
 use Rattle.engine.specs.declared.Job.{Job}
 use Rattle.engine.specs.declared.Job.TheVariants as job
 use Rattle.engine.specs.declared.Engine.{Engine}
@@ -179,12 +179,12 @@ not_end : (k : Numbers) (c : ℕ) → (stored (code.Record c) k).code ≡ code.E
 not_end (are l) c h = let z : ◌≡◌ {A = ℕ} 0 1 = cc in omega arith
 not_end wrong c h = let z : ◌≡◌ {A = ℕ} 0 1 = cc in omega arith
 
-one_end : (c : ℕ) (k : Code) → code_of c ≡ k → (by_code-each k []).code ≡ code.End → eqb c 57 ≡ true
+one_end : (c : ℕ) (k : Code) → code_of c ≡ k → (by_code k []).code ≡ code.End → eqb c 57 ≡ true
 one_end c code.Wrong e h = let z : ◌≡◌ {A = ℕ} 0 1 = cc in absurd (omega arith)
 one_end c (code.Record n) e h = absurd (not_end (behind []) n h)
 one_end c code.End e h = end-byte c e
 
-two-end : (d : ℕ) (s : List ℕ) (k : Code) → (by_code-each k (d ∷ s)).code ≡ code.End → ⊥
+two-end : (d : ℕ) (s : List ℕ) (k : Code) → (by_code k (d ∷ s)).code ≡ code.End → ⊥
 two-end d s code.Wrong h = let z : ◌≡◌ {A = ℕ} 0 1 = cc in omega arith
 two-end d s (code.Record n) h = not_end (behind (d ∷ s)) n h
 two-end d s code.End h = let z : ◌≡◌ {A = ℕ} 0 1 = cc in omega arith

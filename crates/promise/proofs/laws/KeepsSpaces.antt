@@ -35,7 +35,7 @@ use Rattle.promise.specs.Machine.{ours}
 use Rattle.promise.specs.Demands.{is_idle, idles, stores, ticks, Host, Sent, after, sent}
 use Rattle.promise.specs.Steps.{Each}
 use Rattle.promise.specs.Spaces.{Gathers, IsLine, NoneBegun, Between, no-calls, at_rest, silence, sending, SameOutcome, SpacesChangeNothing}
-use Rattle.promise.proofs.laws.KeepsCalls.{is_right-both, is_right-both}
+use Rattle.promise.proofs.laws.KeepsCalls.{is_right, is_right-both}
 use Rattle.promise.proofs.laws.Gathering.{ticks-quiet, step, goes, one-step, hear-plain, gathered_all, unanswered, heard-step, gather-bytes}
 
 -- ---- what a line and its return come to, and that two lines come to the same
@@ -206,13 +206,13 @@ first-same (a ∷ t) (b ∷ u) e = first_alike a b t u e
 
 -- bytes that are dropped, or refused
 dropped : (b : Board) (mem : Memory) → ear_of b ≡ drops → (v : ℕ) (ports : List ℕ) → v ≤ 252 → step v ports b mem ≡ said b [] mem
-dropped b mem e v ports h = by (is_right-both mem && sound b)
+dropped b mem e v ports h = by (is_right mem && sound b)
   where
     by : (c : Bool) → pick c (hearing v ports b mem) (said b [] mem) ≡ said b [] mem
     by true = hear-plain v ports b mem h ∙ rw e
     by false = refl
 
-module _ (host : Host) (b : Board) (mem : Memory) (between : Between host b) (ear : ear_of b ≡ waits) (right : is_right-both mem && sound b ≡ true) where
+module _ (host : Host) (b : Board) (mem : Memory) (between : Between host b) (ear : ear_of b ≡ waits) (right : is_right mem && sound b ≡ true) where
   abbrev woken : ℕ → Board
   woken v = board (heard v b.engine) b.standing b.line
 
@@ -243,7 +243,7 @@ module _ (host : Host) (b : Board) (mem : Memory) (between : Between host b) (ea
 -- ---- THE THEOREM OF 02 §8
 
 pub keeps-spaces : SpacesChangeNothing ours
-keeps-spaces g h t u b mem lt lu alike begun bg bh ports = by (is_right-both mem && sound b) refl (ear_of b) refl
+keeps-spaces g h t u b mem lt lu alike begun bg bh ports = by (is_right mem && sound b) refl (ear_of b) refl
   where
     quiet : ((v : ℕ) (ports : List ℕ) → v ≤ 252 → step v ports b mem ≡ said b [] mem)
         → SameOutcome ours t u (sending ours g t b mem) (sending ours h u b mem)
@@ -252,13 +252,13 @@ keeps-spaces g h t u b mem lt lu alike begun bg bh ports = by (is_right-both mem
         (quiet_line g b mem (λ i. calm g b mem bg i b.line) n t 0 lt.bytes)
         (quiet_line h b mem (λ i. calm h b mem bh i b.line) n u 0 lu.bytes)
 
-    by : (c : Bool) → is_right-both mem && sound b ≡ c → (k : Ear) → ear_of b ≡ k
+    by : (c : Bool) → is_right mem && sound b ≡ c → (k : Ear) → ear_of b ≡ k
         → SameOutcome ours t u (sending ours g t b mem) (sending ours h u b mem)
     by false e k f = quiet (λ v ports q. rw e)
     by true e drops f = quiet (dropped b mem f)
     by true e gathers f =
-        let n = is_right-both mem (and_left (is_right-both mem) (sound b) e) in
-        let s = and_right (is_right-both mem) (sound b) e in
+        let n = is_right-both mem (and_left (is_right mem) (sound b) e) in
+        let s = and_right (is_right mem) (sound b) e in
         let x = said_by b mem (g.ports (length t)) t in
         same g h t u b mem x (gathered-line g b mem bg f s n t lt begun)
         (gathered-line h b mem bh f s n u lu begun ∙ ap (ended u) (rw (← ports) (sym (said-alike b mem (g.ports (length t)) t u alike))))

@@ -36,7 +36,7 @@ use Rattle.line.specs.declared.Code.{Code}
 use Rattle.line.specs.declared.Code.TheVariants as code
 use Rattle.line.specs.declared.Stored.{Stored}
 use Rattle.line.specs.Numbers.{Numbers, are, wrong}
-use Rattle.line.specs.Lines.{stored, by_code-each, stored_of, behind, code_of, direct_of}
+use Rattle.line.specs.Lines.{stored, by_code, stored_of, behind, code_of, direct_of}
 use Rattle.engine.specs.declared.Engine.{Engine}
 use Rattle.engine.specs.declared.Job.{Job}
 use Rattle.engine.specs.declared.Job.TheVariants as job
@@ -72,7 +72,7 @@ stored-shaped : (k : Code) (n : Numbers) → Shaped (stored k n)
 stored-shaped k (are l) = record { numbers = l; count = refl; words = refl }
 stored-shaped k wrong = record { numbers = []; count = refl; words = refl }
 
-by-shaped : (k : Code) (s : List ℕ) → Shaped (by_code-each k s)
+by-shaped : (k : Code) (s : List ℕ) → Shaped (by_code k s)
 by-shaped code.Wrong s = stored-shaped code.Wrong wrong
 by-shaped (code.Record c) s = stored-shaped (code.Record c) (behind s)
 by-shaped code.End [] = stored-shaped code.End (are [])

@@ -15,7 +15,7 @@ use Rattle.record.specs.Bytes.{encode, numbers_of}
 use Rattle.record.specs.Memory.{Memory, RightMemory}
 use Rattle.record.specs.Places.{records_from, records_of, encode_all}
 use Rattle.record.specs.Places.Records.{are}
-use Rattle.record.specs.Keep.{longer, has_room-held, store_of}
+use Rattle.record.specs.Keep.{longer, has_room, store_of}
 use Rattle.record.specs.Listing.{numbers_text, line_text, list_text, Telling, telling, list_of}
 use Rattle.record.specs.Bytes.{Below}
 use Rattle.record.proofs.laws.Right.{RightOne, take-pad}
@@ -87,7 +87,7 @@ module _ (axes : ℕ) (h : Held) (mem : Memory) where
       ∙ ap (λ (x : Bool). pick x (said (board (resting_with axes h) false no_line) (48 ∷ []) mem) (said (board (resting_with axes nothing_held) false no_line) (71 ∷ named_fault (verdict_of h mem.store)) mem)) s
 
   -- room for one record more
-  room-stored : (r : Record) → has_room-held h (length (encode r)) (length mem.store) (length mem.table) ≡ true
+  room-stored : (r : Record) → has_room h (length (encode r)) (length mem.store) (length mem.table) ≡ true
       → ((store_of h r mem).kept.stored ≡ true) × ((store_of h r mem).kept.held ≡ longer h (length (encode r)))
   unfolding store_of
   room-stored r p = (rw p, rw p)
@@ -121,8 +121,8 @@ unfolding list_text line_text
 text-so r rest = append_assoc (r.code ∷ numbers_text (numbers_of r)) (13 ∷ []) (list_text rest)
 
 has_room-held : (axes : ℕ) (done : List Record) (r : Record) (mem : Memory) → RightMemory mem → length done + 1 ≤ 1000
-    → length (encode_all done) + length (encode r) ≤ 16384 → has_room-held (held_by axes done) (length (encode r)) (length mem.store) (length mem.table) ≡ true
-unfolding has_room-held
+    → length (encode_all done) + length (encode r) ≤ 16384 → has_room (held_by axes done) (length (encode r)) (length mem.store) (length mem.table) ≡ true
+unfolding has_room
 has_room-held axes done r mem n m u = rw (n.0, n.1, le-leb (length done + 1) 1000 m, le-leb (length (encode_all done) + length (encode r)) 16384 u)
 
 -- ---- all records and the end line

@@ -20,7 +20,7 @@ use Rattle.board.specs.declared.Board.{Board}
 use Rattle.board.specs.State.{board, no_line, text_of, gathered, sound, Said, said}
 use Rattle.board.specs.Direct.{reply_of, first, direct_said}
 use Rattle.board.specs.Storing.{stored_said}
-use Rattle.board.specs.Receive.{holds_by-still, ear_of, is_storing, stopped, hearing, returned, gathering}
+use Rattle.board.specs.Receive.{holds_by, ear_of, is_storing, stopped, hearing, returned, gathering}
 use Rattle.board.specs.Calls.{lent, Outcome, answered, receiving}
 use Rattle.promise.specs.Machine.{ours}
 use Rattle.promise.specs.Steps.{reached}
@@ -45,7 +45,7 @@ comes v ports reply (b, mem) q r c h =
 
 -- ---- where a stop holds
 
-holds_by-still : (s : Bool) (j : Job) → not s && not (is_waiting j || rests_by j) && not (delays_by j) ≡ holds_by-still j && not s
+holds_by-still : (s : Bool) (j : Job) → not s && not (is_waiting j || rests_by j) && not (delays_by j) ≡ holds_by j && not s
 holds_by-still true job.Idle = refl
 holds_by-still true job.Storing = refl
 holds_by-still true (job.Direct m) = refl

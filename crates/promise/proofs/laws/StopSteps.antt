@@ -29,7 +29,7 @@ use Rattle.board.specs.Calls.{lent, Outcome, refused, answered, receiving, clock
 use Rattle.promise.specs.Machine.{ours}
 use Rattle.promise.specs.Demands.{is_waiting}
 use Rattle.promise.specs.Stop.{Step, receive, call, Lending, own, other, Elsewhere, rightly, rests_by, counts, takes, spoken, ahead, answer_of}
-use Rattle.promise.proofs.laws.KeepsCalls.{is_right-both, tried_by, elsewhere-byte, elsewhere-call}
+use Rattle.promise.proofs.laws.KeepsCalls.{is_right, tried_by, elsewhere-byte, elsewhere-call}
 use Rattle.promise.proofs.laws.StopBoard.{twin_board, Clear, Fit, clear_of, left, held-byte}
 use Rattle.promise.proofs.laws.StopQuiet.{twin-of, quiet-byte}
 
@@ -51,7 +51,7 @@ act_of (call d) = tick
 
 -- a call is refused or not by the engine and the memory alone, where no line is over 80 bytes
 abbrev pub right : Engine → Memory → Bool
-right e mem = is_right-both mem && sound_of e
+right e mem = is_right mem && sound_of e
 
 abbrev pub told_of : Board → Memory → Told
 told_of b mem = ticked pulse_of (fetch_of b.engine.held mem) b.engine

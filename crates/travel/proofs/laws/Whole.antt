@@ -22,7 +22,7 @@ use Rattle.motion.specs.Next.{pulse_of as straight_pulse}
 use Rattle.motion.specs.Axes.{on, shows}
 use Rattle.motion.specs.work.Room.{RoomFor, HasRoom}
 use Rattle.motion.proofs.laws.Points.{on-moved}
-use Rattle.motion.proofs.laws.Whole.{over-left as straight-over, none_left as straight_none, value-moved, pulses_of as straight_pulses, pulse_then as straight_then-is}
+use Rattle.motion.proofs.laws.Whole.{over-left as straight-over, none_left as straight_none, value-moved, pulses_of as straight_pulses, pulse_then as straight_then}
 use Rattle.circle.specs.declared.Arc.{Arc}
 use Rattle.circle.specs.Arc.{arc_beat}
 use Rattle.circle.proofs.laws.Beats.{over-left as arc-over, none_left as arc-none}
@@ -181,7 +181,7 @@ abbrev pub straight_step : StraightStepped → Stepped
 straight_step s = record { signs = s.signs; speed = s.speed; at = s.at; rest = travel.Straight s.rest }
 
 straight_then-is : (k : ℕ) → ((m : Move) (at : Counters) → pulses_of k (travel.Straight m) at ≡ map straight_step (straight_pulses k m at)) → (n : StraightNext)
-    → pulse_then (pulses_of k) (straight_next n) ≡ map straight_step (straight_then-is (straight_pulses k) n)
+    → pulse_then (pulses_of k) (straight_next n) ≡ map straight_step (straight_then (straight_pulses k) n)
 straight_then-is k rec (straight.Made s) = ap (λ (l : List Stepped). straight_step s ∷ l) (rec s.rest s.at)
 straight_then-is k rec straight.Over = refl
 

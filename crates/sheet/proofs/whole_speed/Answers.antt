@@ -5,9 +5,6 @@ use Rattle.sheet.specs.Sheet.{whole_speed}
 use Rattle.sheet.proofs.Range.{speed-fit}
 use Rattle.sheet.proofs.whole_speed.Goals as goal
 
-pub overflow_cast-result : goal.overflow_cast-result
-overflow_cast-result c = rw (to_z-of_z w64 c.args.n c.ranges.n) (speed-fit c.args.n (rw (to_z-of_z w64 c.args.n c.ranges.n) at c.if-n.true))
-
 pub returns-then-n : goal.returns-then-n
 unfolding whole_speed
 returns-then-n c =

@@ -5,9 +5,6 @@ use Rattle.sheet.specs.Sheet.{whole_steps}
 use Rattle.sheet.proofs.Range.{steps-fit}
 use Rattle.sheet.proofs.whole_steps.Goals as goal
 
-pub overflow_cast-result : goal.overflow_cast-result
-overflow_cast-result c = rw (to_z-of_z w64 c.args.n c.ranges.n) (steps-fit c.args.n (rw (to_z-of_z w64 c.args.n c.ranges.n) at c.if-n.true))
-
 pub returns-then-n : goal.returns-then-n
 unfolding whole_steps
 returns-then-n c =

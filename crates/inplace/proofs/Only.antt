@@ -68,7 +68,7 @@ chain-distances s = s.1.1.1.1.0
 pub chain-one : (κs : _) (a : _) (r r' : _) (s s' : _) → chain.Post κs a r s → chain.Post κs a r' s' → (r ≡ r') × ((chain-distances s).now ≡ (chain-distances s').now)
 chain-one κs a r r' s s' p q = (ap (λ (x : Chained). x.refusal) (p ∙ sym q), ap (λ (x : Chained). x.steps) (p ∙ sym q))
 
--- ---- a struct that is lent. Such a function has no `Reads`, so the clause is read where it stands: what shows the `ensures` at two
+-- ---- a struct that is lent: the clause is read where it stands, inside the logic: what shows the `ensures` at two
 -- choices of the last values shows that they are one.
 
 -- the first, `at`

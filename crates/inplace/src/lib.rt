@@ -60,13 +60,7 @@ pub fn board_show_in(at: &mut Shown)
     *at = port::board_show(state);
 }
 
-pub fn board_fill_in(
-    used: u16,
-    records: u16,
-    axes: u8,
-    store: &[u8],
-    table: &mut [u16],
-) -> u16
+pub fn board_fill_in(used: u16, records: u16, axes: u8, store: &[u8], table: &mut [u16]) -> u16
     ensures { filling result table.new ≡ fill_of (held used records axes) (memory store.now table.old) }
 {
     port::board_fill(used, records, axes, store, table)

@@ -1,6 +1,7 @@
 // `chain LEAD STEPS GEAR n t1 .. tm`: a chain of distances (02, §2) with an output of n numbers.
 use super::{fields, show};
 use sheet::Axis;
+use std::io;
 
 // One more than a chain may have. As many distances stand for more, and so long an output for a longer one: either is refused 105.
 const MANY: usize = 1001;
@@ -76,39 +77,46 @@ fn output(n: i64) -> usize {
 }
 
 // A refusal, or 0, and the first `n` steps, which are within what is lent.
-fn show_first(refusal: u16, steps: &[i32], n: usize) -> bool {
+fn show_first(rt: &impl Print, refusal: u16, steps: &[i32], n: usize) -> io::Result<bool> {
     if steps.len() < n {
-        return false;
+        return Ok(false);
     }
-    show::chained(refusal, &steps[..n])
+    show::chained(rt, refusal, &steps[..n])
 }
 
 // The chain of the first `count` distances into the first `long` steps, and its answer: with a refusal no numbers. Both are within what is lent.
-fn work(axis: Axis, distances: &[i64], count: usize, steps: &mut [i32], long: usize) -> bool {
+fn work(
+    rt: &impl Print,
+    axis: Axis,
+    distances: &[i64],
+    count: usize,
+    steps: &mut [i32],
+    long: usize,
+) -> io::Result<bool> {
     if distances.len() < count {
-        return false;
+        return Ok(false);
     }
     if steps.len() < long {
-        return false;
+        return Ok(false);
     }
     let refusal = sheet::chain(axis, &distances[..count], &mut steps[..long]);
     if refusal != 0 {
-        return show_first(refusal, steps, 0);
+        return show_first(rt, refusal, steps, 0);
     }
-    show_first(0, steps, long)
+    show_first(rt, 0, steps, long)
 }
 
 // The answer to the question whose first word ends at a place of the line.
-pub(crate) fn answer(line: &[u8], from: usize) -> bool {
+pub(crate) fn answer(rt: &impl Print, line: &[u8], from: usize) -> io::Result<bool> {
     let read = read_axis(line, from);
     let n = fields::whole_behind(line, read.at);
     let mut distances = [0i64; 1001];
     let row = read_distances(line, n.at, &mut distances);
     let wanted = n.value;
     if !(read.right & n.right & row.right) | (wanted < 0) {
-        return show::unread();
+        return show::unread(rt);
     }
     let axis = read.axis;
     let mut steps = [0i32; 1001];
-    work(axis, &distances, row.count, &mut steps, output(wanted))
+    work(rt, axis, &distances, row.count, &mut steps, output(wanted))
 }

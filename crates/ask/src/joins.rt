@@ -5,6 +5,7 @@ ghost use Rattle.std.specs.Prelude.{◌≤◌, length};
 
 use super::{fields, show};
 use record::Held;
+use std::io;
 
 // A program, or that it cannot be read, and where its fields end.
 #[derive(Clone, Copy)]
@@ -48,45 +49,59 @@ fn written(table: &[u16]) -> usize
 }
 
 // The answer to two programs, the first in the store that becomes the joined one's.
-fn work(first: Held, store: &mut [u8], table: &mut [u16], second: Held, other: &[u8]) -> bool {
+fn work(
+    rt: &impl Print,
+    first: Held,
+    store: &mut [u8],
+    table: &mut [u16],
+    second: Held,
+    other: &[u8],
+) -> io::Result<bool> {
     let joined = join::join(first, &mut *store, &mut *table, second, other);
     if joined.refusal != 0 {
-        return show::refused(joined.refusal);
+        return show::refused(rt, joined.refusal);
     }
     let held = joined.held;
     let used = held.used as usize;
     if store.len() < used {
-        return false;
+        return Ok(false);
     }
     let n = written(&table[..]);
-    show::joined(held, &store[..used], &table[..n])
+    show::joined(rt, held, &store[..used], &table[..n])
 }
 
 // The answer to the two programs that stand behind a place of the line, with what is lent for them.
-fn ask(line: &[u8], from: usize, store: &mut [u8], table: &mut [u16], other: &mut [u8]) -> bool {
+fn ask(
+    rt: &impl Print,
+    line: &[u8],
+    from: usize,
+    store: &mut [u8],
+    table: &mut [u16],
+    other: &mut [u8],
+) -> io::Result<bool> {
     let first = read_part(line, from, &mut *store);
     let second = read_part(line, first.at, &mut *other);
     if !(first.right & second.right) | (second.at < line.len()) {
-        return show::unread();
+        return show::unread(rt);
     }
-    work(first.held, store, table, second.held, other)
+    work(rt, first.held, store, table, second.held, other)
 }
 
 // The answer to the question `join`, whose first word ends at a place of the line.
-pub(crate) fn answer(line: &[u8], from: usize) -> bool {
+pub(crate) fn answer(rt: &impl Print, line: &[u8], from: usize) -> io::Result<bool> {
     let mut store = [0u8; 16384];
     let mut table = [65535u16; 1000];
     let mut other = [0u8; 16384];
-    ask(line, from, &mut store, &mut table, &mut other)
+    ask(rt, line, from, &mut store, &mut table, &mut other)
 }
 
 // The answer to the question `lend`, whose first word ends at a place of the line.
-pub(crate) fn lend(line: &[u8], from: usize) -> bool {
+pub(crate) fn lend(rt: &impl Print, line: &[u8], from: usize) -> io::Result<bool> {
     let first = fields::number_behind(line, from, 16385);
     let second = fields::number_behind(line, first.at, 16385);
     let entries = fields::number_behind(line, second.at, 1001);
     if !(first.right & second.right & entries.right) {
-        return show::unread();
+        return show::unread(rt);
     }
     let mut store = [0u8; 16385];
     let mut table = [65535u16; 1001];
@@ -95,6 +110,7 @@ pub(crate) fn lend(line: &[u8], from: usize) -> bool {
     let many = entries.value as usize;
     let far = second.value as usize;
     ask(
+        rt,
         line,
         entries.at,
         &mut store[..long],

@@ -1,12 +1,13 @@
-// What is printed. Each function says whether its last write went well.
+// What is printed. Each function says whether what it prints had room.
 ghost use Rattle.std.specs.Prelude.{◌+◌, ◌*◌, ◌≤◌, length};
 
-use libc::STDOUT_FILENO;
 use record::Held;
+use std::io;
 
 // The answer to a line that cannot be read.
-pub(crate) fn unread() -> bool {
-    io::write_all(STDOUT_FILENO, b"?\n")
+pub(crate) fn unread(rt: &impl Print) -> io::Result<bool> {
+    println!(rt; "?")?;
+    Ok(true)
 }
 
 // A byte at a place of the text, if it has that place.
@@ -36,20 +37,21 @@ fn put_behind(text: &mut [u8], at: usize, before: u8, v: i32) -> usize
 }
 
 // The text without the space in front, and a line feed behind.
-fn write_line(text: &mut [u8], at: usize) -> bool {
+fn write_line(rt: &impl Print, text: &mut [u8], at: usize) -> io::Result<bool> {
     if at < 1 {
-        return false;
+        return Ok(false);
     }
     if text.len() <= at {
-        return false;
+        return Ok(false);
     }
     put_at(&mut *text, at, b'\n');
     let end = at + 1;
-    io::write_all(STDOUT_FILENO, &text[1..end])
+    rt.write_all(&text[1..end])?;
+    Ok(true)
 }
 
 // A refusal, or 0 and the numbers delivered. A chain has at most 1,000, of at most eleven bytes and a space before each.
-pub(crate) fn chained(refusal: u16, steps: &[i32]) -> bool {
+pub(crate) fn chained(rt: &impl Print, refusal: u16, steps: &[i32]) -> io::Result<bool> {
     let mut text = [0u8; 12100];
     let mut at = put_behind(&mut text, 0, b' ', refusal as i32);
     let mut i = 0;
@@ -58,7 +60,7 @@ pub(crate) fn chained(refusal: u16, steps: &[i32]) -> bool {
         at = next;
         i = i + 1;
     }
-    write_line(&mut text, at)
+    write_line(rt, &mut text, at)
 }
 
 // A digit of a byte in small letters.
@@ -137,21 +139,23 @@ fn put_entries(text: &mut [u8], from: usize, entries: &[u16]) -> usize
 }
 
 // The refusal of a join: its character, or the number of any other.
-pub(crate) fn refused(refusal: u16) -> bool {
-    if refusal == 51 {
-        return io::write_all(STDOUT_FILENO, b"3\n");
+pub(crate) fn refused(rt: &impl Print, refusal: u16) -> io::Result<bool> {
+    match refusal {
+        51 => println!(rt; "3")?,
+        71 => println!(rt; "G")?,
+        54 => println!(rt; "6")?,
+        _ => return chained(rt, refusal, &[]),
     }
-    if refusal == 71 {
-        return io::write_all(STDOUT_FILENO, b"G\n");
-    }
-    if refusal == 54 {
-        return io::write_all(STDOUT_FILENO, b"6\n");
-    }
-    chained(refusal, &[])
+    Ok(true)
 }
 
 // 0 and the joined program, whose bytes in use are lent, at most 16,384 of them, and entries of its table, at most 1,000.
-pub(crate) fn joined(held: Held, bytes: &[u8], entries: &[u16]) -> bool {
+pub(crate) fn joined(
+    rt: &impl Print,
+    held: Held,
+    bytes: &[u8],
+    entries: &[u16],
+) -> io::Result<bool> {
     let mut text = [0u8; 38848];
     let refusal = put_behind(&mut text, 0, b' ', 0);
     let used = put_behind(&mut text, refusal, b' ', held.used as i32);
@@ -159,5 +163,5 @@ pub(crate) fn joined(held: Held, bytes: &[u8], entries: &[u16]) -> bool {
     let axes = put_behind(&mut text, records, b' ', held.axes as i32);
     let part = put_bytes(&mut text, axes, bytes);
     let end = put_entries(&mut text, part, entries);
-    write_line(&mut text, end)
+    write_line(rt, &mut text, end)
 }

@@ -1,4 +1,6 @@
 // `calls`: drives a board call by call from a script on standard input (trial/README.md), and prints what each call answers.
+#![tactic(auto)]
+
 mod arcs;
 mod host;
 mod quiet;
@@ -8,11 +10,12 @@ mod table;
 
 use board::Board;
 use host::{board_with, byte_of, can_hold, half_of, kept_as, word_of};
-use libc::{STDIN_FILENO, STDOUT_FILENO};
 use quiet::run;
 use record::Held;
 use script::Row;
 use show::{show_heard, show_listing, show_mark, show_state, show_ticked, within};
+use std::io;
+use std::io::Read;
 use table::{enter, entries_of, fill, look};
 
 // The usual store, table and reply buffer.
@@ -58,56 +61,69 @@ pub(crate) fn called(play: Play, board: Board) -> Play {
 
 // A byte is received. The store is the first 16,384 bytes of the space. A store of another length is the first bytes of it too: a call
 // that refuses its store leaves it alone.
-fn hear(play: Play, byte: u8, reply: &mut [u8], space: &mut [u8], table: &mut [u16]) -> Play {
+fn hear(
+    rt: &impl Print,
+    play: Play,
+    byte: u8,
+    reply: &mut [u8],
+    space: &mut [u8],
+    table: &mut [u16],
+) -> io::Result<Play> {
     let board = play.board;
     let ports = play.ports;
     let n = within(play.store, space);
     let k = entries_of(play.table, table);
     let heard = board.receive(byte, ports, &mut *reply, &mut space[0..n], &mut table[0..k]);
-    show_heard(heard.refusal, reply, heard.len);
+    show_heard(rt, heard.refusal, reply, heard.len)?;
     let next = heard.board;
-    called(play, next)
+    Ok(called(play, next))
 }
 
-fn receive(play: Play, byte: u8, space: &mut [u8], table: &mut [u16]) -> Play {
+fn receive(
+    rt: &impl Print,
+    play: Play,
+    byte: u8,
+    space: &mut [u8],
+    table: &mut [u16],
+) -> io::Result<Play> {
     if play.reply == REPLY {
         let mut usual = [0u8; 32];
-        return hear(play, byte, &mut usual, space, table);
+        return hear(rt, play, byte, &mut usual, space, table);
     }
-    let mut other = io::large_buffer();
+    let mut other = [0u8; 65536];
     let n = within(play.reply, &other);
-    hear(play, byte, &mut other[0..n], space, table)
+    hear(rt, play, byte, &mut other[0..n], space, table)
 }
 
-fn clock(play: Play, space: &[u8], table: &[u16]) -> Play {
+fn clock(rt: &impl Print, play: Play, space: &[u8], table: &[u16]) -> io::Result<Play> {
     let board = play.board;
     let n = within(play.store, space);
     let k = entries_of(play.table, table);
     let ticked = board.clock(&space[0..n], &table[0..k]);
     let answer = ticked.answer;
-    show_ticked(ticked.refusal, answer);
+    show_ticked(rt, ticked.refusal, answer)?;
     let next = ticked.board;
-    called(play, next)
+    Ok(called(play, next))
 }
 
-fn clocks(start: Play, n: u32, space: &[u8], table: &[u16]) -> Play {
+fn clocks(rt: &impl Print, start: Play, n: u32, space: &[u8], table: &[u16]) -> io::Result<Play> {
     let mut play = start;
     let mut left = n;
     while 0 < left {
-        let next = clock(play, space, table);
+        let next = clock(rt, play, space, table)?;
         play = next;
         left = left - 1;
     }
-    play
+    Ok(play)
 }
 
-fn list(play: Play, space: &[u8]) -> Play {
+fn list(rt: &impl Print, play: Play, space: &[u8]) -> io::Result<Play> {
     let board = play.board;
     let n = within(play.store, space);
     let mut text = [0u8; 32768];
     let listed = board.list(&space[0..n], &mut text);
-    show_listing(listed.refusal, &text, listed.len as usize);
-    called(play, board)
+    show_listing(rt, listed.refusal, &text, listed.len as usize)?;
+    Ok(called(play, board))
 }
 
 // The host writes a byte of the store.
@@ -153,22 +169,21 @@ fn following(number: u64) -> u64 {
 }
 
 // A wrong line prints its number.
-fn wrong(play: Play) -> Play {
-    io::write_all(STDOUT_FILENO, b"? ");
-    io::print_decimal(STDOUT_FILENO, play.number);
-    io::write_all(STDOUT_FILENO, b"\n");
-    play
+fn wrong(rt: &impl Print, play: Play) -> io::Result<Play> {
+    let number = play.number;
+    println!(rt; "? {number}")?;
+    Ok(play)
 }
 
 // The host sets a field of the state by name.
-fn set_field(play: Play, name: u64, word: u64) -> Play {
+fn set_field(rt: &impl Print, play: Play, name: u64, word: u64) -> io::Result<Play> {
     let board = play.board;
     let engine = board.engine;
     let value = kept_as(name, word);
     if can_hold(name, value, engine.under_way()) {
-        return with_board(play, board_with(board, name, value));
+        return Ok(with_board(play, board_with(board, name, value)));
     }
-    wrong(play)
+    wrong(rt, play)
 }
 
 // No more is read, if the last run is not over.
@@ -179,118 +194,149 @@ fn ended(play: Play) -> Play {
 }
 
 // A line that makes no call and leaves store and table.
-fn prepare(play: Play, letter: u8, row: Row) -> Play {
+fn prepare(rt: &impl Print, play: Play, letter: u8, row: Row) -> io::Result<Play> {
     let words = row.words;
     let n = word_of(words[1]);
     match letter {
-        b'E' => ended(play),
-        b'H' => set_field(play, row.name, words[2]),
-        b'I' => set_ports(play, words),
-        b'K' => set_held(play, words),
-        b'M' => lending(play, n as usize, play.table, play.reply),
+        b'E' => Ok(ended(play)),
+        b'H' => set_field(rt, play, row.name, words[2]),
+        b'I' => Ok(set_ports(play, words)),
+        b'K' => Ok(set_held(play, words)),
+        b'M' => Ok(lending(play, n as usize, play.table, play.reply)),
         b'N' => {
-            show_mark(n);
-            play
+            show_mark(rt, n)?;
+            Ok(play)
         }
-        b'R' => lending(play, play.store, play.table, n as usize),
+        b'R' => Ok(lending(play, play.store, play.table, n as usize)),
         b'S' => {
-            show_state(play.board);
-            play
+            show_state(rt, play.board)?;
+            Ok(play)
         }
-        b'U' => lending(play, play.store, n as usize, play.reply),
-        _ => wrong(play),
+        b'U' => Ok(lending(play, play.store, n as usize, play.reply)),
+        _ => wrong(rt, play),
     }
 }
 
 // One line.
-fn act(play: Play, row: Row, space: &mut [u8], table: &mut [u16]) -> Play {
+fn act(
+    rt: &impl Print,
+    play: Play,
+    row: Row,
+    space: &mut [u8],
+    table: &mut [u16],
+) -> io::Result<Play> {
     let words = row.words;
     let n = word_of(words[1]);
     let letter = row.letter();
     match letter {
-        b'B' => receive(play, byte_of(words[1]), space, table),
-        b'C' => clocks(play, n, space, table),
-        b'F' => fill(play, space, table),
-        b'L' => list(play, space),
-        b'Q' => run(play, n, space, table),
-        b'T' => enter(play, table, n as usize, half_of(words[2])),
-        b'V' => look(play, table, n as usize),
-        b'W' => poke(play, space, n as usize, byte_of(words[2])),
-        _ => prepare(play, letter, row),
+        b'B' => receive(rt, play, byte_of(words[1]), space, table),
+        b'C' => clocks(rt, play, n, space, table),
+        b'F' => fill(rt, play, space, table),
+        b'L' => list(rt, play, space),
+        b'Q' => run(rt, play, n, space, table),
+        b'T' => Ok(enter(play, table, n as usize, half_of(words[2]))),
+        b'V' => look(rt, play, table, n as usize),
+        b'W' => Ok(poke(play, space, n as usize, byte_of(words[2]))),
+        _ => prepare(rt, play, letter, row),
     }
 }
 
 // The line that was read, and the next one begins.
-fn end_line(play: Play, space: &mut [u8], table: &mut [u16]) -> Play {
+fn end_line(rt: &impl Print, play: Play, space: &mut [u8], table: &mut [u16]) -> io::Result<Play> {
     let row = play.row;
-    let done = act(play, row.closed(), space, table);
+    let done = act(rt, play, row.closed(), space, table)?;
     let mut next = done;
     next.row = Row::new();
     next.number = following(done.number);
-    next
+    Ok(next)
 }
 
-fn take_byte(play: Play, b: u8, space: &mut [u8], table: &mut [u16]) -> Play {
+fn take_byte(
+    rt: &impl Print,
+    play: Play,
+    b: u8,
+    space: &mut [u8],
+    table: &mut [u16],
+) -> io::Result<Play> {
     if b == b'\n' {
-        return end_line(play, space, table);
+        return end_line(rt, play, space, table);
     }
     let row = play.row;
     let mut next = play;
     next.row = row.with_byte(b);
-    next
+    Ok(next)
 }
 
 // All bytes of a piece of input.
-fn take_all(start: Play, input: &[u8], space: &mut [u8], table: &mut [u16]) -> Play {
+fn take_all(
+    rt: &impl Print,
+    start: Play,
+    input: &[u8],
+    space: &mut [u8],
+    table: &mut [u16],
+) -> io::Result<Play> {
     let mut play = start;
     let mut i = 0;
     while i < input.len() {
         if !play.more {
-            return play;
+            return Ok(play);
         }
-        let next = take_byte(play, input[i], &mut *space, &mut *table);
+        let next = take_byte(rt, play, input[i], &mut *space, &mut *table)?;
         play = next;
         i = i + 1;
     }
-    play
+    Ok(play)
 }
 
 // One piece of input, or that no more follows.
-fn take_piece(play: Play, input: &mut [u8], space: &mut [u8], table: &mut [u16]) -> Play {
-    let got = libc::read(STDIN_FILENO, &mut *input);
-    let n = io::count(got, input);
+fn take_piece(
+    rt: &impl Print,
+    from: &mut impl Read,
+    play: Play,
+    input: &mut [u8],
+    space: &mut [u8],
+    table: &mut [u16],
+) -> io::Result<Play> {
+    let n = from.read(&mut *input)?;
     if n == 0 {
         let mut next = play;
         next.more = false;
-        return next;
+        return Ok(next);
     }
-    take_all(play, &input[..n], space, table)
+    take_all(rt, play, &input[..n], space, table)
 }
 
 // Everything that is read. A proved loop has to end, and nothing says that input does, so it counts its turns down from a number that no
 // run uses up.
-fn take_input(start: Play, space: &mut [u8], table: &mut [u16]) -> Play {
-    let mut input = io::large_buffer();
+fn take_input(
+    rt: &impl Print,
+    from: &mut impl Read,
+    start: Play,
+    space: &mut [u8],
+    table: &mut [u16],
+) -> io::Result<Play> {
+    let mut input = [0u8; 65536];
     let mut play = start;
     let mut turns = u64::MAX;
     while 0 < turns {
         if !play.more {
-            return play;
+            return Ok(play);
         }
-        let next = take_piece(play, &mut input, &mut *space, &mut *table);
+        let next = take_piece(rt, &mut *from, play, &mut input, &mut *space, &mut *table)?;
         play = next;
         turns = turns - 1;
     }
-    play
+    Ok(play)
 }
 
 // A last line without a line feed.
-fn finish(play: Play, space: &mut [u8], table: &mut [u16]) {
+fn finish(rt: &impl Print, play: Play, space: &mut [u8], table: &mut [u16]) -> io::Result<()> {
     let row = play.row;
     if (row.fields == 0) & (row.packed == 0) {
-        return;
+        return Ok(());
     }
-    end_line(play, space, table);
+    end_line(rt, play, space, table)?;
+    Ok(())
 }
 
 fn start() -> Play {
@@ -309,9 +355,9 @@ fn start() -> Play {
     }
 }
 
-fn main() {
-    let mut space = io::large_buffer();
+fn main(rt: HostRuntime) -> io::Result<()> {
+    let mut space = [0u8; 65536];
     let mut table = [0u16; 2000];
-    let end = take_input(start(), &mut space, &mut table);
-    finish(end, &mut space, &mut table);
+    let end = take_input(&rt, &mut rt.stdin(), start(), &mut space, &mut table)?;
+    finish(&rt, end, &mut space, &mut table)
 }

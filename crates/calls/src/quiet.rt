@@ -4,7 +4,7 @@ use crate::table::entries_of;
 use crate::{Play, called};
 use board::Board;
 use engine::{Answer, Under};
-use libc::STDOUT_FILENO;
+use std::io;
 
 fn is_nothing(answer: Answer) -> bool {
     match answer {
@@ -35,49 +35,55 @@ fn is_first(under: Under) -> bool {
 }
 
 // What the board is at after a call: its job, the next record's place before the call and after it, and the origin.
-fn show_place(from: u16, board: Board) -> bool {
+fn show_place(rt: &impl Print, from: u16, board: Board) -> io::Result<()> {
     let e = board.engine;
     let run = e.run;
-    io::write_all(STDOUT_FILENO, b"T");
+    print!(rt; "T")?;
     let job = run.job;
-    show_job(job);
-    show_named(b" from ", from as u32);
-    show_named(b" place ", run.place as u32);
-    show_point(b" origin", e.origin);
-    io::write_all(STDOUT_FILENO, b"\n")
+    show_job(rt, job)?;
+    show_named(rt, b" from ", from as u32)?;
+    show_named(rt, b" place ", run.place as u32)?;
+    show_point(rt, b" origin", e.origin)?;
+    println!(rt;)
 }
 
-fn show_answered(answer: Answer, from: u16, board: Board) -> bool {
+fn show_answered(rt: &impl Print, answer: Answer, from: u16, board: Board) -> io::Result<()> {
     let e = board.engine;
     let first = is_first(e.under_way());
     let pulse = is_pulse(answer);
-    show_ticked(0, answer);
+    show_ticked(rt, 0, answer)?;
     if pulse & !first {
-        return true;
+        return Ok(());
     }
-    show_place(from, board)
+    show_place(rt, from, board)
 }
 
 // A call of a run: its refusal, or its answer with what the board is at. The nothing at the end is not printed.
-fn show_run(refusal: u16, answer: Answer, from: u16, board: Board) -> bool {
+fn show_run(
+    rt: &impl Print,
+    refusal: u16,
+    answer: Answer,
+    from: u16,
+    board: Board,
+) -> io::Result<()> {
     if refusal != 0 {
-        return show_ticked(refusal, answer);
+        return show_ticked(rt, refusal, answer);
     }
     if is_nothing(answer) {
-        return true;
+        return Ok(());
     }
-    show_answered(answer, from, board)
+    show_answered(rt, answer, from, board)
 }
 
-fn show_over(over: bool) -> bool {
+fn show_over(rt: &impl Print, over: bool) -> io::Result<()> {
     if over {
-        return io::write_all(STDOUT_FILENO, b"Q over\n");
+        return println!(rt; "Q over");
     }
-    io::write_all(STDOUT_FILENO, b"Q more\n")
+    println!(rt; "Q more")
 }
 
 // One call of a run, and whether the run is over with it.
-fn step(play: Play, space: &[u8], table: &[u16]) -> Play {
+fn step(rt: &impl Print, play: Play, space: &[u8], table: &[u16]) -> io::Result<Play> {
     let board = play.board;
     let engine = board.engine;
     let before = engine.run;
@@ -87,10 +93,10 @@ fn step(play: Play, space: &[u8], table: &[u16]) -> Play {
     let answer = ticked.answer;
     let next = ticked.board;
     let over = is_nothing(answer);
-    show_run(ticked.refusal, answer, before.place, next);
+    show_run(rt, ticked.refusal, answer, before.place, next)?;
     let mut done = called(play, next);
     done.over = over;
-    done
+    Ok(done)
 }
 
 // Whether a run that was not over in its calls is over now.
@@ -107,23 +113,29 @@ fn looked(play: Play, space: &[u8], table: &[u16]) -> Play {
 }
 
 // Clock calls until one answers nothing, at most so many.
-fn steps(start: Play, n: u32, space: &[u8], table: &[u16]) -> Play {
+fn steps(rt: &impl Print, start: Play, n: u32, space: &[u8], table: &[u16]) -> io::Result<Play> {
     let mut play = start;
     let mut left = n;
     while 0 < left {
-        let next = step(play, space, table);
+        let next = step(rt, play, space, table)?;
         play = next;
         if play.over {
-            return play;
+            return Ok(play);
         }
         left = left - 1;
     }
-    looked(play, space, table)
+    Ok(looked(play, space, table))
 }
 
 // The calls of `Q`, and whether they were enough.
-pub(crate) fn run(play: Play, n: u32, space: &[u8], table: &[u16]) -> Play {
-    let done = steps(play, n, space, table);
-    show_over(done.over);
-    done
+pub(crate) fn run(
+    rt: &impl Print,
+    play: Play,
+    n: u32,
+    space: &[u8],
+    table: &[u16],
+) -> io::Result<Play> {
+    let done = steps(rt, play, n, space, table)?;
+    show_over(rt, done.over)?;
+    Ok(done)
 }

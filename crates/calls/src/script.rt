@@ -5,7 +5,7 @@ const WRONG: u64 = 9223372036854775808;
 
 // A number as far as it is read: whether it has a minus, its digits and its size. Eleven digits stand for what is no number.
 #[derive(Clone, Copy)]
-struct Number {
+pub(crate) struct Number {
     pub minus: bool,
     pub digits: u8,
     pub size: u64,

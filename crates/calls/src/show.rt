@@ -1,12 +1,12 @@
-// What is printed. Each function says whether its last write went well.
+// What is printed.
 ghost use Rattle.std.specs.Prelude.{◌≤◌, length};
 
 use board::Board;
 use circle::{Circling, Direction, Plane};
 use engine::{Answer, Engine, Job};
-use libc::STDOUT_FILENO;
 use motion::{Counters, Sign, Signs};
 use record::Held;
+use std::io;
 
 // No more than the buffer holds.
 pub(crate) fn within(n: usize, buf: &[u8]) -> usize
@@ -19,42 +19,42 @@ pub(crate) fn within(n: usize, buf: &[u8]) -> usize
 }
 
 // Writes out the first `n` bytes.
-fn show_first(buf: &[u8], n: usize) -> bool {
+fn show_first(rt: &impl Print, buf: &[u8], n: usize) -> io::Result<()> {
     let k = within(n, buf);
-    io::write_all(STDOUT_FILENO, &buf[0..k])
+    rt.write_all(&buf[0..k])
 }
 
 // A text, and a number with the line feed behind it.
-fn show_with(before: &[u8], n: u32) -> bool {
+fn show_with(rt: &impl Print, before: &[u8], n: u32) -> io::Result<()> {
     let mut text = [b'\n'; 12];
     let k = count::put_word(&mut text, n);
-    io::write_all(STDOUT_FILENO, before);
+    rt.write_all(before)?;
     if k < 12 {
-        return show_first(&text, k + 1);
+        show_first(rt, &text, k + 1)?;
     }
-    false
+    Ok(())
 }
 
 // A name and a number behind it.
-pub(crate) fn show_named(name: &[u8], n: u32) -> bool {
-    io::write_all(STDOUT_FILENO, name);
-    io::print_decimal(STDOUT_FILENO, n as u64)
+pub(crate) fn show_named(rt: &impl Print, name: &[u8], n: u32) -> io::Result<()> {
+    rt.write_all(name)?;
+    print!(rt; "{n}")
 }
 
 // A space and the number of a count.
-fn show_count(c: u32) -> bool {
+fn show_count(rt: &impl Print, c: u32) -> io::Result<()> {
     if c < 8388608 {
-        return show_named(b" -", 8388608 - c);
+        return show_named(rt, b" -", 8388608 - c);
     }
-    show_named(b" ", c - 8388608)
+    show_named(rt, b" ", c - 8388608)
 }
 
-pub(crate) fn show_point(name: &[u8], c: Counters) -> bool {
-    io::write_all(STDOUT_FILENO, name);
-    show_count(c.x);
-    show_count(c.y);
-    show_count(c.z);
-    show_count(c.a)
+pub(crate) fn show_point(rt: &impl Print, name: &[u8], c: Counters) -> io::Result<()> {
+    rt.write_all(name)?;
+    show_count(rt, c.x)?;
+    show_count(rt, c.y)?;
+    show_count(rt, c.z)?;
+    show_count(rt, c.a)
 }
 
 fn sign_byte(s: Sign) -> u8 {
@@ -65,7 +65,7 @@ fn sign_byte(s: Sign) -> u8 {
     }
 }
 
-fn show_pulse(signs: Signs, speed: u16) -> bool {
+fn show_pulse(rt: &impl Print, signs: Signs, speed: u16) -> io::Result<()> {
     let sx = signs.x;
     let sy = signs.y;
     let sz = signs.z;
@@ -77,44 +77,44 @@ fn show_pulse(signs: Signs, speed: u16) -> bool {
     let bytes = [
         b'C', b' ', b'P', b'u', b'l', b's', b'e', b' ', x, y, z, a, b' ',
     ];
-    show_with(&bytes, speed as u32)
+    show_with(rt, &bytes, speed as u32)
 }
 
-fn show_answer(answer: Answer) -> bool {
+fn show_answer(rt: &impl Print, answer: Answer) -> io::Result<()> {
     match answer {
-        Answer::Pulse(signs, speed) => show_pulse(signs, speed),
-        Answer::Pause => io::write_all(STDOUT_FILENO, b"C Pause\n"),
-        Answer::Send(b) => show_with(b"C Send ", b as u32),
-        Answer::Done => io::write_all(STDOUT_FILENO, b"C Done\n"),
-        Answer::Nothing => io::write_all(STDOUT_FILENO, b"C Nothing\n"),
+        Answer::Pulse(signs, speed) => show_pulse(rt, signs, speed),
+        Answer::Pause => println!(rt; "C Pause"),
+        Answer::Send(b) => show_with(rt, b"C Send ", b as u32),
+        Answer::Done => println!(rt; "C Done"),
+        Answer::Nothing => println!(rt; "C Nothing"),
     }
 }
 
 // A clock call: its refusal, or its answer.
-pub(crate) fn show_ticked(refusal: u16, answer: Answer) -> bool {
+pub(crate) fn show_ticked(rt: &impl Print, refusal: u16, answer: Answer) -> io::Result<()> {
     if refusal != 0 {
-        return show_with(b"C ", refusal as u32);
+        return show_with(rt, b"C ", refusal as u32);
     }
-    show_answer(answer)
+    show_answer(rt, answer)
 }
 
 // A mark.
-pub(crate) fn show_mark(n: u32) -> bool {
-    show_named(b"N ", n);
-    io::write_all(STDOUT_FILENO, b"\n")
+pub(crate) fn show_mark(rt: &impl Print, n: u32) -> io::Result<()> {
+    show_named(rt, b"N ", n)?;
+    println!(rt;)
 }
 
 // A byte received: its refusal, or its reply.
-pub(crate) fn show_heard(refusal: u16, reply: &[u8], n: usize) -> bool {
+pub(crate) fn show_heard(rt: &impl Print, refusal: u16, reply: &[u8], n: usize) -> io::Result<()> {
     if refusal != 0 {
-        return show_with(b"B ", refusal as u32);
+        return show_with(rt, b"B ", refusal as u32);
     }
     if n == 0 {
-        return io::write_all(STDOUT_FILENO, b"B -\n");
+        return println!(rt; "B -");
     }
-    io::write_all(STDOUT_FILENO, b"B ");
-    show_first(reply, n);
-    io::write_all(STDOUT_FILENO, b"\n")
+    print!(rt; "B ")?;
+    show_first(rt, reply, n)?;
+    println!(rt;)
 }
 
 fn put_byte(out: &mut [u8], at: usize, b: u8) -> usize {
@@ -152,44 +152,44 @@ fn put_listing(out: &mut [u8], text: &[u8]) -> usize {
 }
 
 // The lines of a listing, each behind `L `.
-fn show_lines(text: &[u8], n: usize) -> bool {
-    let mut out = io::large_buffer();
+fn show_lines(rt: &impl Print, text: &[u8], n: usize) -> io::Result<()> {
+    let mut out = [0u8; 65536];
     let k = within(n, text);
     let len = put_listing(&mut out, &text[0..k]);
-    show_first(&out, len)
+    show_first(rt, &out, len)
 }
 
 // A listing: its refusal, or its lines.
-pub(crate) fn show_listing(refusal: u16, text: &[u8], n: usize) -> bool {
+pub(crate) fn show_listing(rt: &impl Print, refusal: u16, text: &[u8], n: usize) -> io::Result<()> {
     match refusal {
-        0 => show_lines(text, n),
-        71 => io::write_all(STDOUT_FILENO, b"L G\n"),
-        _ => show_with(b"L ", refusal as u32),
+        0 => show_lines(rt, text, n),
+        71 => println!(rt; "L G"),
+        _ => show_with(rt, b"L ", refusal as u32),
     }
 }
 
 // A filling of the table: its refusal, or 0.
-pub(crate) fn show_filled(refusal: u16) -> bool {
+pub(crate) fn show_filled(rt: &impl Print, refusal: u16) -> io::Result<()> {
     if refusal == 71 {
-        return io::write_all(STDOUT_FILENO, b"F G\n");
+        return println!(rt; "F G");
     }
-    show_with(b"F ", refusal as u32)
+    show_with(rt, b"F ", refusal as u32)
 }
 
 // An entry of the table.
-pub(crate) fn show_value(start: u16) -> bool {
-    show_with(b"V ", start as u32)
+pub(crate) fn show_value(rt: &impl Print, start: u16) -> io::Result<()> {
+    show_with(rt, b"V ", start as u32)
 }
 
-pub(crate) fn show_job(job: Job) -> bool {
+pub(crate) fn show_job(rt: &impl Print, job: Job) -> io::Result<()> {
     match job {
-        Job::Idle => io::write_all(STDOUT_FILENO, b" job Idle"),
-        Job::Storing => io::write_all(STDOUT_FILENO, b" job Storing"),
-        Job::Direct(_) => io::write_all(STDOUT_FILENO, b" job Direct"),
-        Job::Ready => io::write_all(STDOUT_FILENO, b" job Ready"),
-        Job::Moving(_) => io::write_all(STDOUT_FILENO, b" job Moving"),
-        Job::Delay(_) => io::write_all(STDOUT_FILENO, b" job Delay"),
-        Job::Wait(_, _) => io::write_all(STDOUT_FILENO, b" job Wait"),
+        Job::Idle => print!(rt; " job Idle"),
+        Job::Storing => print!(rt; " job Storing"),
+        Job::Direct(_) => print!(rt; " job Direct"),
+        Job::Ready => print!(rt; " job Ready"),
+        Job::Moving(_) => print!(rt; " job Moving"),
+        Job::Delay(_) => print!(rt; " job Delay"),
+        Job::Wait(_, _) => print!(rt; " job Wait"),
     }
 }
 
@@ -197,56 +197,56 @@ fn digit_of(b: bool) -> u32 {
     if b { 1 } else { 0 }
 }
 
-fn show_axes(e: Engine) -> bool {
-    show_named(b"S axes ", e.axes as u32);
-    show_point(b" position", e.at);
-    show_point(b" origin", e.origin)
+fn show_axes(rt: &impl Print, e: Engine) -> io::Result<()> {
+    show_named(rt, b"S axes ", e.axes as u32)?;
+    show_point(rt, b" position", e.at)?;
+    show_point(rt, b" origin", e.origin)
 }
 
-fn show_modes(e: Engine) -> bool {
-    show_named(b" three ", digit_of(e.three));
-    show_named(b" output ", e.output as u32)
+fn show_modes(rt: &impl Print, e: Engine) -> io::Result<()> {
+    show_named(rt, b" three ", digit_of(e.three))?;
+    show_named(rt, b" output ", e.output as u32)
 }
 
-fn show_held(held: Held) -> bool {
-    show_named(b" used ", held.used as u32);
-    show_named(b" records ", held.records as u32);
-    show_named(b" store_axes ", held.axes as u32)
+fn show_held(rt: &impl Print, held: Held) -> io::Result<()> {
+    show_named(rt, b" used ", held.used as u32)?;
+    show_named(rt, b" records ", held.records as u32)?;
+    show_named(rt, b" store_axes ", held.axes as u32)
 }
 
-fn show_plane(plane: Plane) -> bool {
+fn show_plane(rt: &impl Print, plane: Plane) -> io::Result<()> {
     match plane {
-        Plane::XY => io::write_all(STDOUT_FILENO, b" plane 0"),
-        Plane::XZ => io::write_all(STDOUT_FILENO, b" plane 1"),
-        Plane::YZ => io::write_all(STDOUT_FILENO, b" plane 2"),
+        Plane::XY => print!(rt; " plane 0"),
+        Plane::XZ => print!(rt; " plane 1"),
+        Plane::YZ => print!(rt; " plane 2"),
     }
 }
 
-fn show_direction(direction: Direction) -> bool {
+fn show_direction(rt: &impl Print, direction: Direction) -> io::Result<()> {
     match direction {
-        Direction::Clockwise => io::write_all(STDOUT_FILENO, b" direction 0\n"),
-        Direction::Counter => io::write_all(STDOUT_FILENO, b" direction -1\n"),
+        Direction::Clockwise => println!(rt; " direction 0"),
+        Direction::Counter => println!(rt; " direction -1"),
     }
 }
 
-fn show_circling(c: Circling) -> bool {
+fn show_circling(rt: &impl Print, c: Circling) -> io::Result<()> {
     let plane = c.plane;
     let direction = c.direction;
-    show_plane(plane);
-    show_direction(direction)
+    show_plane(rt, plane)?;
+    show_direction(rt, direction)
 }
 
 // The state as one line.
-pub(crate) fn show_state(board: Board) -> bool {
+pub(crate) fn show_state(rt: &impl Print, board: Board) -> io::Result<()> {
     let e = board.engine;
     let run = e.run;
     let job = run.job;
     let loops = run.loops;
-    show_axes(e);
-    show_modes(e);
-    show_held(e.held);
-    show_job(job);
-    show_named(b" standing ", digit_of(board.standing));
-    show_named(b" loops ", loops.depth as u32);
-    show_circling(e.circling)
+    show_axes(rt, e)?;
+    show_modes(rt, e)?;
+    show_held(rt, e.held)?;
+    show_job(rt, job)?;
+    show_named(rt, b" standing ", digit_of(board.standing))?;
+    show_named(rt, b" loops ", loops.depth as u32)?;
+    show_circling(rt, e.circling)
 }

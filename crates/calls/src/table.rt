@@ -4,6 +4,7 @@ ghost use Rattle.std.specs.Prelude.{◌≤◌, length};
 
 use crate::show::{show_filled, show_value, within};
 use crate::{Play, called};
+use std::io;
 
 // No more entries than there are.
 pub(crate) fn entries_of(n: usize, table: &[u16]) -> usize
@@ -24,20 +25,25 @@ pub(crate) fn enter(play: Play, table: &mut [u16], at: usize, start: u16) -> Pla
 }
 
 // The host reads an entry.
-pub(crate) fn look(play: Play, table: &[u16], at: usize) -> Play {
+pub(crate) fn look(rt: &impl Print, play: Play, table: &[u16], at: usize) -> io::Result<Play> {
     if at < table.len() {
-        show_value(table[at]);
+        show_value(rt, table[at])?;
     }
-    play
+    Ok(play)
 }
 
 // The table is filled from the store, for what the board says that it holds.
-pub(crate) fn fill(play: Play, space: &[u8], table: &mut [u16]) -> Play {
+pub(crate) fn fill(
+    rt: &impl Print,
+    play: Play,
+    space: &[u8],
+    table: &mut [u16],
+) -> io::Result<Play> {
     let board = play.board;
     let engine = board.engine;
     let n = within(play.store, space);
     let k = entries_of(play.table, table);
     let refusal = record::fill(&space[0..n], &mut table[0..k], engine.held);
-    show_filled(refusal);
-    called(play, board)
+    show_filled(rt, refusal)?;
+    Ok(called(play, board))
 }

@@ -1,11 +1,14 @@
 // Clock calls on programs of every kind. The first number says how many steps follow. Each is eleven numbers: its kind, then what it is
 // of; what a step prints stands at its function.
+#![tactic(auto)]
+
 use circle::{Circling, Direction, Plane};
 use engine::{Answer, Begun, Engine, Run};
-use libc::{STDIN_FILENO, STDOUT_FILENO};
 use motion::{Counters, Sign, Signs};
 use program::Loops;
 use record::{Held, Record};
+use std::io;
+use streams::read_full;
 
 fn byte_of(w: u32) -> u8 {
     if w < 256 { w as u8 } else { 255 }
@@ -15,37 +18,37 @@ fn half_of(w: u32) -> u16 {
     if w < 65536 { w as u16 } else { 65535 }
 }
 
-fn show_number(w: u32) {
-    io::print_decimal(STDOUT_FILENO, w as u64);
+fn show_number(rt: &impl Print, w: u32) -> io::Result<()> {
+    print!(rt; "{w}")
 }
 
-fn show_space() {
-    io::write_all(STDOUT_FILENO, b" ");
+fn show_space(rt: &impl Print) -> io::Result<()> {
+    print!(rt; " ")
 }
 
-fn show_bool(b: bool) {
+fn show_bool(rt: &impl Print, b: bool) -> io::Result<()> {
     if b {
-        io::write_all(STDOUT_FILENO, b" 1");
+        print!(rt; " 1")
     } else {
-        io::write_all(STDOUT_FILENO, b" 0");
+        print!(rt; " 0")
     }
 }
 
-fn show_count(c: u32) {
-    show_space();
+fn show_count(rt: &impl Print, c: u32) -> io::Result<()> {
+    show_space(rt)?;
     if c < 8388608 {
-        io::write_all(STDOUT_FILENO, b"-");
-        show_number(8388608 - c);
+        print!(rt; "-")?;
+        show_number(rt, 8388608 - c)
     } else {
-        show_number(c - 8388608);
+        show_number(rt, c - 8388608)
     }
 }
 
-fn show_point(c: Counters) {
-    show_count(c.x);
-    show_count(c.y);
-    show_count(c.z);
-    show_count(c.a);
+fn show_point(rt: &impl Print, c: Counters) -> io::Result<()> {
+    show_count(rt, c.x)?;
+    show_count(rt, c.y)?;
+    show_count(rt, c.z)?;
+    show_count(rt, c.a)
 }
 
 fn sign_byte(s: Sign) -> u8 {
@@ -56,7 +59,7 @@ fn sign_byte(s: Sign) -> u8 {
     }
 }
 
-fn show_pulse(signs: Signs, speed: u16) {
+fn show_pulse(rt: &impl Print, signs: Signs, speed: u16) -> io::Result<()> {
     let x = signs.x;
     let y = signs.y;
     let z = signs.z;
@@ -70,31 +73,25 @@ fn show_pulse(signs: Signs, speed: u16) {
         sign_byte(a),
         32,
     ];
-    io::write_all(STDOUT_FILENO, &bytes);
-    show_number(speed as u32);
-    io::write_all(STDOUT_FILENO, b"\n");
+    rt.write_all(&bytes)?;
+    show_number(rt, speed as u32)?;
+    println!(rt;)
 }
 
-fn show_send(b: u8) {
-    io::write_all(STDOUT_FILENO, b"S ");
-    show_number(b as u32);
-    io::write_all(STDOUT_FILENO, b"\n");
+fn show_send(rt: &impl Print, b: u8) -> io::Result<()> {
+    print!(rt; "S ")?;
+    show_number(rt, b as u32)?;
+    println!(rt;)
 }
 
 // A clock call's answer: P with signs and speed, W a pause, S and a byte, D done, N nothing.
-fn show_answer(answer: Answer) {
+fn show_answer(rt: &impl Print, answer: Answer) -> io::Result<()> {
     match answer {
-        Answer::Pulse(s, v) => show_pulse(s, v),
-        Answer::Pause => {
-            io::write_all(STDOUT_FILENO, b"W\n");
-        }
-        Answer::Send(b) => show_send(b),
-        Answer::Done => {
-            io::write_all(STDOUT_FILENO, b"D\n");
-        }
-        Answer::Nothing => {
-            io::write_all(STDOUT_FILENO, b"N\n");
-        }
+        Answer::Pulse(s, v) => show_pulse(rt, s, v),
+        Answer::Pause => println!(rt; "W"),
+        Answer::Send(b) => show_send(rt, b),
+        Answer::Done => println!(rt; "D"),
+        Answer::Nothing => println!(rt; "N"),
     }
 }
 
@@ -106,57 +103,59 @@ fn plane_byte(p: Plane) -> u8 {
     }
 }
 
-fn show_direction(d: Direction) {
+fn show_direction(rt: &impl Print, d: Direction) -> io::Result<()> {
     match d {
-        Direction::Clockwise => {
-            io::write_all(STDOUT_FILENO, b" 0");
-        }
-        Direction::Counter => {
-            io::write_all(STDOUT_FILENO, b" -1");
-        }
+        Direction::Clockwise => print!(rt; " 0"),
+        Direction::Counter => print!(rt; " -1"),
     }
 }
 
-fn show_circling(c: Circling) {
+fn show_circling(rt: &impl Print, c: Circling) -> io::Result<()> {
     let plane = c.plane;
     let bytes = [32, plane_byte(plane)];
-    io::write_all(STDOUT_FILENO, &bytes);
+    rt.write_all(&bytes)?;
     let direction = c.direction;
-    show_direction(direction);
+    show_direction(rt, direction)
 }
 
 // E, the positions, the origins, 3D, plane and direction, the part in use, whether it runs and whether it passes 103.
-fn show_engine(e: Engine) {
+fn show_engine(rt: &impl Print, e: Engine) -> io::Result<()> {
     let held = e.held;
-    io::write_all(STDOUT_FILENO, b"E");
-    show_point(e.at);
-    show_point(e.origin);
-    show_bool(e.three);
-    show_circling(e.circling);
-    show_space();
-    show_number(held.used as u32);
-    show_space();
-    show_number(held.records as u32);
-    show_space();
-    show_number(held.axes as u32);
-    show_bool(e.runs());
-    show_bool(e.sound());
-    io::write_all(STDOUT_FILENO, b"\n");
+    print!(rt; "E")?;
+    show_point(rt, e.at)?;
+    show_point(rt, e.origin)?;
+    show_bool(rt, e.three)?;
+    show_circling(rt, e.circling)?;
+    show_space(rt)?;
+    show_number(rt, held.used as u32)?;
+    show_space(rt)?;
+    show_number(rt, held.records as u32)?;
+    show_space(rt)?;
+    show_number(rt, held.axes as u32)?;
+    show_bool(rt, e.runs())?;
+    show_bool(rt, e.sound())?;
+    println!(rt;)
 }
 
 // So many clock calls.
-fn ticks(first: Engine, store: &[u8], table: &[u16], n: u32) -> Engine {
+fn ticks(
+    rt: &impl Print,
+    first: Engine,
+    store: &[u8],
+    table: &[u16],
+    n: u32,
+) -> io::Result<Engine> {
     let mut e = first;
     let mut left = n;
     while 0 < left {
         let t = e.tick(store, table);
         let answer = t.answer;
-        show_answer(answer);
+        show_answer(rt, answer)?;
         let next = t.engine;
         e = next;
         left = left - 1;
     }
-    e
+    Ok(e)
 }
 
 fn words_of(w: [u32; 11]) -> [u32; 8] {
@@ -164,11 +163,11 @@ fn words_of(w: [u32; 11]) -> [u32; 8] {
 }
 
 // A direct movement or circle: B and the reply.
-fn begun(b: Begun) -> Engine {
-    io::write_all(STDOUT_FILENO, b"B ");
-    show_number(b.reply as u32);
-    io::write_all(STDOUT_FILENO, b"\n");
-    b.engine
+fn begun(rt: &impl Print, b: Begun) -> io::Result<Engine> {
+    print!(rt; "B ")?;
+    show_number(rt, b.reply as u32)?;
+    println!(rt;)?;
+    Ok(b.engine)
 }
 
 // The part in use as a host sets it.
@@ -201,17 +200,23 @@ fn run_as(e: Engine, w: [u32; 11]) -> Engine {
 }
 
 // The steps that leave the store and its table as they are.
-fn act(e: Engine, store: &[u8], table: &[u16], w: [u32; 11]) -> Engine {
+fn act(
+    rt: &impl Print,
+    e: Engine,
+    store: &[u8],
+    table: &[u16],
+    w: [u32; 11],
+) -> io::Result<Engine> {
     let kind = w[0];
-    match kind {
+    let next = match kind {
         0 => Engine::fresh().set_axes(byte_of(w[1])),
         1 => e.store(),
         2 => e,
         3 => e.cease(),
         4 => e.start(),
-        5 => ticks(e, store, table, w[1]),
+        5 => ticks(rt, e, store, table, w[1])?,
         6 => e.hear(byte_of(w[1])),
-        7 => begun(e.begin(w[1] == 1, words_of(w))),
+        7 => begun(rt, e.begin(w[1] == 1, words_of(w)))?,
         8 => e,
         9 => e.set_held(held_as(w)),
         10 => run_as(e, w),
@@ -224,27 +229,34 @@ fn act(e: Engine, store: &[u8], table: &[u16], w: [u32; 11]) -> Engine {
         18 => e,
         19 => e.set_plane(w[1]),
         20 => e.set_direction(w[1]),
-        21 => begun(e.begin_circle(words_of(w))),
+        21 => begun(rt, e.begin_circle(words_of(w)))?,
         22 => e.set_axes(byte_of(w[1])),
         _ => {
-            show_engine(e);
+            show_engine(rt, e)?;
             e
         }
-    }
+    };
+    Ok(next)
 }
 
 // A record stored, where it is right under the store's axes and has room: K and whether.
-fn keep(e: Engine, store: &mut [u8], table: &mut [u16], w: [u32; 11]) -> Engine {
+fn keep(
+    rt: &impl Print,
+    e: Engine,
+    store: &mut [u8],
+    table: &mut [u16],
+    w: [u32; 11],
+) -> io::Result<Engine> {
     let item = Record {
         code: byte_of(w[1]),
         count: byte_of(w[2]),
         words: words_of(w),
     };
     let k = record::store_record(store, table, e.held, item);
-    io::write_all(STDOUT_FILENO, b"K");
-    show_bool(k.stored);
-    io::write_all(STDOUT_FILENO, b"\n");
-    e.set_held(k.held)
+    print!(rt; "K")?;
+    show_bool(rt, k.stored)?;
+    println!(rt;)?;
+    Ok(e.set_held(k.held))
 }
 
 // A byte of the store as a host sets it.
@@ -264,21 +276,27 @@ fn enter(table: &mut [u16], place: u32, at: u16) {
 }
 
 // The steps that write to the store or to its table.
-fn write(e: Engine, store: &mut [u8], table: &mut [u16], w: [u32; 11]) -> Engine {
+fn write(
+    rt: &impl Print,
+    e: Engine,
+    store: &mut [u8],
+    table: &mut [u16],
+    w: [u32; 11],
+) -> io::Result<Engine> {
     if w[0] == 2 {
-        return keep(e, store, table, w);
+        return keep(rt, e, store, table, w);
     }
     if w[0] == 18 {
         enter(table, w[1], half_of(w[2]));
-        return e;
+        return Ok(e);
     }
     if w[0] == 8 {
         poke(store, w[1], byte_of(w[2]));
     }
-    e
+    Ok(e)
 }
 
-fn run_all(text: &[u8]) {
+fn run_all(rt: &impl Print, text: &[u8]) -> io::Result<()> {
     let mut store: [u8; 16384] = [0; 16384];
     let mut table: [u16; 1000] = [0; 1000];
     let mut words: [u32; 11] = [0; 11];
@@ -288,16 +306,17 @@ fn run_all(text: &[u8]) {
     let mut at = first.at;
     while 0 < left {
         at = reader::next_numbers(text, at, &mut words);
-        let written = write(e, &mut store, &mut table, words);
-        let acted = act(written, &store, &table, words);
+        let written = write(rt, e, &mut store, &mut table, words)?;
+        let acted = act(rt, written, &store, &table, words)?;
         e = acted;
         left = left - 1;
     }
+    Ok(())
 }
 
-// `io::large_buffer` holds half of this, and the steps need more.
-fn main() {
+// At most 131,072 bytes are read: the steps need more than half of that.
+fn main(rt: HostRuntime) -> io::Result<()> {
     let mut text = [0u8; 131072];
-    let n = io::read_full(STDIN_FILENO, &mut text);
-    run_all(&text[..n]);
+    let n = read_full(&mut rt.stdin(), &mut text)?;
+    run_all(&rt, &text[..n])
 }

@@ -1,14 +1,16 @@
 // Reads lines, each `D ` or `S ` and a line's bytes as hexadecimal pairs, and prints what the line says: its letter or code as
 // the paper's number, how many numbers it has, and the first eight of them.
-ghost use Rattle.std.specs.Prelude.{◌≤◌, ◌<◌, length};
-ghost use Rattle.io.specs.Counts.{IsPrefixLen};
+#![tactic(auto)]
 
-use libc::{STDIN_FILENO, STDOUT_FILENO};
+ghost use Rattle.std.specs.Prelude.{◌≡◌, ◌≤◌, ◌<◌, length, take};
+
 use line::{Code, Direct, Letter, Stored};
+use std::io;
+use streams::read_full;
 
 // The bytes of the hexadecimal pairs from byte `at` on, as many as `out` holds; answers how many.
 fn bytes_of(s: &[u8], at: usize, out: &mut [u8]) -> usize
-    ensures { IsPrefixLen result out.new }
+    ensures { (result ≤ length out.new) × (result ≡ length (take result out.new)) }
 {
     let mut i = at;
     let mut n = 0;
@@ -56,43 +58,41 @@ fn code_number(code: Code) -> u64 {
 }
 
 // A space and the number of a word.
-fn print_word(w: u32) {
+fn print_word(rt: &impl Print, w: u32) -> io::Result<()> {
     let mut text = [0u8; 11];
     let n = count::put_word(&mut text, w);
-    io::write_all(STDOUT_FILENO, b" ");
+    print!(rt; " ")?;
     if n <= 11 {
-        io::write_all(STDOUT_FILENO, &text[..n]);
+        rt.write_all(&text[..n])?;
     }
+    Ok(())
 }
 
-fn print_row(number: u64, many: usize, words: [u32; 8]) {
-    io::print_decimal(STDOUT_FILENO, number);
-    io::write_all(STDOUT_FILENO, b" ");
-    io::print_decimal(STDOUT_FILENO, many as u64);
+fn print_row(rt: &impl Print, number: u64, many: usize, words: [u32; 8]) -> io::Result<()> {
+    print!(rt; "{number} {many}")?;
     for i in 0..8 {
-        print_word(words[i]);
+        print_word(rt, words[i])?;
     }
-    io::write_all(STDOUT_FILENO, b"\n");
+    println!(rt;)
 }
 
 // One input line.
-fn show(s: &[u8]) {
+fn show(rt: &impl Print, s: &[u8]) -> io::Result<()> {
     if s.len() < 2 {
-        return;
+        return Ok(());
     }
-    let mut bytes = io::buffer();
+    let mut bytes = [0u8; 4096];
     let n = bytes_of(s, 2, &mut bytes);
     if s[0] == 68 {
         let d = line::direct_line(&bytes[..n]);
         let letter = d.letter;
         let words = d.words;
-        print_row(letter_number(letter), d.count, words);
-        return;
+        return print_row(rt, letter_number(letter), d.count, words);
     }
     let t = line::stored_line(&bytes[..n]);
     let code = t.code;
     let words = t.words;
-    print_row(code_number(code), t.count, words);
+    print_row(rt, code_number(code), t.count, words)
 }
 
 // The byte of the first line feed from `at` on, or the length.
@@ -110,17 +110,18 @@ fn line_end(s: &[u8], at: usize) -> usize
     i
 }
 
-fn show_all(s: &[u8]) {
+fn show_all(rt: &impl Print, s: &[u8]) -> io::Result<()> {
     let mut at = 0;
     while at < s.len() {
         let end = line_end(s, at);
-        show(&s[at..end]);
+        show(rt, &s[at..end])?;
         at = end + 1;
     }
+    Ok(())
 }
 
-fn main() {
-    let mut input = io::large_buffer();
-    let n = io::read_full(STDIN_FILENO, &mut input);
-    show_all(&input[..n]);
+fn main(rt: HostRuntime) -> io::Result<()> {
+    let mut input = [0u8; 65536];
+    let n = read_full(&mut rt.stdin(), &mut input)?;
+    show_all(&rt, &input[..n])
 }

@@ -1,21 +1,21 @@
 // The pulses of a circle.
 use super::{beside_of, narrow, point, show_count, show_number, show_point, show_signs, show_two};
 use circle::{Arc, Bent, Circling};
-use libc::STDOUT_FILENO;
 use motion::{Beat, Beaten, Counters};
+use std::io;
 
-fn show_sound(a: Arc, at: Counters) {
+fn show_sound(rt: &impl Print, a: Arc, at: Counters) -> io::Result<()> {
     let beside = beside_of(at);
-    show_two(a.sound(at), a.sound(beside));
+    show_two(rt, a.sound(at), a.sound(beside))
 }
 
-fn show_beat(b: Beat) {
+fn show_beat(rt: &impl Print, b: Beat) -> io::Result<()> {
     let signs = b.signs;
-    show_signs(signs, b.speed);
+    show_signs(rt, signs, b.speed)
 }
 
 // All pulses of an arc, of which the first and the last few are printed.
-fn run_arc(start: Arc, from: Counters, few: u32) {
+fn run_arc(rt: &impl Print, start: Arc, from: Counters, few: u32) -> io::Result<()> {
     let total = start.left();
     let mut a = start;
     let mut at = from;
@@ -23,10 +23,10 @@ fn run_arc(start: Arc, from: Counters, few: u32) {
     while 0 < left {
         let next = a.beat(at);
         let Beaten::Made(b) = next else {
-            return;
+            return Ok(());
         };
         if (left <= few) | (total - left < few) {
-            show_beat(b);
+            show_beat(rt, b)?;
         }
         let mark = b.mark;
         let rest = a.with_made(mark.made);
@@ -35,29 +35,29 @@ fn run_arc(start: Arc, from: Counters, few: u32) {
         at = there;
         left = left - 1;
     }
-    show_sound(a, at);
-    io::write_all(STDOUT_FILENO, b"E");
-    show_point(at);
+    show_sound(rt, a, at)?;
+    print!(rt; "E")?;
+    show_point(rt, at)
 }
 
-fn show_going(a: Arc, at: Counters, few: u32) {
+fn show_going(rt: &impl Print, a: Arc, at: Counters, few: u32) -> io::Result<()> {
     let centre = a.centre;
-    io::write_all(STDOUT_FILENO, b"N ");
-    show_number(a.left());
-    io::write_all(STDOUT_FILENO, b"\nC");
-    show_count(centre.first);
-    show_count(centre.second);
-    io::write_all(STDOUT_FILENO, b"\n");
-    show_sound(a, at);
-    run_arc(a, at, few);
+    print!(rt; "N ")?;
+    show_number(rt, a.left())?;
+    print!(rt; "\nC")?;
+    show_count(rt, centre.first)?;
+    show_count(rt, centre.second)?;
+    println!(rt;)?;
+    show_sound(rt, a, at)?;
+    run_arc(rt, a, at, few)
 }
 
-fn show_refused(b: u8) {
+fn show_refused(rt: &impl Print, b: u8) -> io::Result<()> {
     let bytes = [b, 10];
-    io::write_all(STDOUT_FILENO, &bytes);
+    rt.write_all(&bytes)
 }
 
-pub(crate) fn show_arc(words: [u32; 20]) {
+pub(crate) fn show_arc(rt: &impl Print, words: [u32; 20]) -> io::Result<()> {
     let at = point(words[3], words[4], words[5], words[6]);
     let plane = circle::plane_of(words[7]);
     let direction = circle::direction_of(words[8]);
@@ -66,7 +66,7 @@ pub(crate) fn show_arc(words: [u32; 20]) {
     ];
     let bent = circle::bend(narrow(words[0]), Circling { plane, direction }, at, given);
     match bent {
-        Bent::Going(a) => show_going(a, at, words[19]),
-        Bent::Refused(b) => show_refused(b),
+        Bent::Going(a) => show_going(rt, a, at, words[19]),
+        Bent::Refused(b) => show_refused(rt, b),
     }
 }

@@ -1,11 +1,14 @@
 // The pulses of the movements and circles on standard input. The first number says how many follow. Each is the axes, 3D, absolute, the
 // positions, the origins, the eight numbers, and how many of its first and last pulses to print. A circle has 2 for absolute, and its plane
 // and direction for the first two origins.
+#![tactic(auto)]
+
 mod arcs;
 
 use arcs::show_arc;
-use libc::{STDIN_FILENO, STDOUT_FILENO};
 use motion::{Counters, Move, Next, Planned, Sign, Signs, Stepped};
+use std::io;
+use streams::read_full;
 
 fn narrow(w: u32) -> u8 {
     if w < 256 { w as u8 } else { 0 }
@@ -36,29 +39,29 @@ fn sign_byte(s: Sign) -> u8 {
     }
 }
 
-fn show_number(w: u32) {
-    io::print_decimal(STDOUT_FILENO, w as u64);
+fn show_number(rt: &impl Print, w: u32) -> io::Result<()> {
+    print!(rt; "{w}")
 }
 
-fn show_count(c: u32) {
-    io::write_all(STDOUT_FILENO, b" ");
+fn show_count(rt: &impl Print, c: u32) -> io::Result<()> {
+    print!(rt; " ")?;
     if c < 8388608 {
-        io::write_all(STDOUT_FILENO, b"-");
-        show_number(8388608 - c);
+        print!(rt; "-")?;
+        show_number(rt, 8388608 - c)
     } else {
-        show_number(c - 8388608);
+        show_number(rt, c - 8388608)
     }
 }
 
-fn show_point(c: Counters) {
-    show_count(c.x);
-    show_count(c.y);
-    show_count(c.z);
-    show_count(c.a);
-    io::write_all(STDOUT_FILENO, b"\n");
+fn show_point(rt: &impl Print, c: Counters) -> io::Result<()> {
+    show_count(rt, c.x)?;
+    show_count(rt, c.y)?;
+    show_count(rt, c.z)?;
+    show_count(rt, c.a)?;
+    println!(rt;)
 }
 
-fn show_signs(signs: Signs, speed: u16) {
+fn show_signs(rt: &impl Print, signs: Signs, speed: u16) -> io::Result<()> {
     let x = signs.x;
     let y = signs.y;
     let z = signs.z;
@@ -72,14 +75,14 @@ fn show_signs(signs: Signs, speed: u16) {
         sign_byte(a),
         32,
     ];
-    io::write_all(STDOUT_FILENO, &bytes);
-    show_number(speed as u32);
-    io::write_all(STDOUT_FILENO, b"\n");
+    rt.write_all(&bytes)?;
+    show_number(rt, speed as u32)?;
+    println!(rt;)
 }
 
-fn show_pulse(s: Stepped) {
+fn show_pulse(rt: &impl Print, s: Stepped) -> io::Result<()> {
     let signs = s.signs;
-    show_signs(signs, s.speed);
+    show_signs(rt, signs, s.speed)
 }
 
 // One count beside.
@@ -92,27 +95,27 @@ fn beside_of(at: Counters) -> Counters {
     }
 }
 
-fn show_two(here: bool, beside: bool) {
+fn show_two(rt: &impl Print, here: bool, beside: bool) -> io::Result<()> {
     if here {
-        io::write_all(STDOUT_FILENO, b"S 1");
+        print!(rt; "S 1")?;
     } else {
-        io::write_all(STDOUT_FILENO, b"S 0");
+        print!(rt; "S 0")?;
     }
     if beside {
-        io::write_all(STDOUT_FILENO, b" 1\n");
+        println!(rt; " 1")
     } else {
-        io::write_all(STDOUT_FILENO, b" 0\n");
+        println!(rt; " 0")
     }
 }
 
 // Whether the movement passes the test of 103 here, and one count beside.
-fn show_sound(m: Move, at: Counters) {
+fn show_sound(rt: &impl Print, m: Move, at: Counters) -> io::Result<()> {
     let beside = beside_of(at);
-    show_two(m.sound(at), m.sound(beside));
+    show_two(rt, m.sound(at), m.sound(beside))
 }
 
 // All pulses of a movement, of which the first and the last few are printed.
-fn run(start: Move, from: Counters, few: u32) {
+fn run(rt: &impl Print, start: Move, from: Counters, few: u32) -> io::Result<()> {
     let total = start.left();
     let mut m = start;
     let mut at = from;
@@ -120,10 +123,10 @@ fn run(start: Move, from: Counters, few: u32) {
     while 0 < left {
         let next = m.next(at);
         let Next::Made(s) = next else {
-            return;
+            return Ok(());
         };
         if (left <= few) | (total - left < few) {
-            show_pulse(s);
+            show_pulse(rt, s)?;
         }
         let rest = s.rest;
         let there = s.at;
@@ -131,14 +134,14 @@ fn run(start: Move, from: Counters, few: u32) {
         at = there;
         left = left - 1;
     }
-    show_sound(m, at);
-    io::write_all(STDOUT_FILENO, b"E");
-    show_point(at);
-    io::write_all(STDOUT_FILENO, b"R");
-    show_point(m.resting());
+    show_sound(rt, m, at)?;
+    print!(rt; "E")?;
+    show_point(rt, at)?;
+    print!(rt; "R")?;
+    show_point(rt, m.resting())
 }
 
-fn show_straight(words: [u32; 20]) {
+fn show_straight(rt: &impl Print, words: [u32; 20]) -> io::Result<()> {
     let at = point(words[3], words[4], words[5], words[6]);
     let origin = point(words[7], words[8], words[9], words[10]);
     let given = [
@@ -153,38 +156,38 @@ fn show_straight(words: [u32; 20]) {
         given,
     );
     let Planned::Going(m) = planned else {
-        io::write_all(STDOUT_FILENO, b"9\n");
-        return;
+        return println!(rt; "9");
     };
-    io::write_all(STDOUT_FILENO, b"N ");
-    show_number(m.left());
-    io::write_all(STDOUT_FILENO, b"\n");
-    show_sound(m, at);
-    run(m, at, words[19]);
+    print!(rt; "N ")?;
+    show_number(rt, m.left())?;
+    println!(rt;)?;
+    show_sound(rt, m, at)?;
+    run(rt, m, at, words[19])
 }
 
-fn show(words: [u32; 20]) {
+fn show(rt: &impl Print, words: [u32; 20]) -> io::Result<()> {
     if words[2] == 2 {
-        show_arc(words);
+        show_arc(rt, words)
     } else {
-        show_straight(words);
+        show_straight(rt, words)
     }
 }
 
-fn show_all(text: &[u8]) {
+fn show_all(rt: &impl Print, text: &[u8]) -> io::Result<()> {
     let mut words: [u32; 20] = [0; 20];
     let first = reader::next_number(text, 0);
     let mut left = first.word;
     let mut at = first.at;
     while 0 < left {
         at = reader::next_numbers(text, at, &mut words);
-        show(words);
+        show(rt, words)?;
         left = left - 1;
     }
+    Ok(())
 }
 
-fn main() {
-    let mut text = io::large_buffer();
-    let n = io::read_full(STDIN_FILENO, &mut text);
-    show_all(&text[..n]);
+fn main(rt: HostRuntime) -> io::Result<()> {
+    let mut text = [0u8; 65536];
+    let n = read_full(&mut rt.stdin(), &mut text)?;
+    show_all(&rt, &text[..n])
 }

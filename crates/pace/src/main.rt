@@ -1,10 +1,13 @@
 // `pace`: makes the calls that its input asks for and counts them, so that `bench/run` can measure the calls alone. It reads at most
 // 65,536 bytes. Byte 0 asks for a listing, byte 1 for 1,000 conversions of the sheet, and byte 2 puts the board back to storing the program
 // that it holds, so that its end line can follow once more; any other is received, and clock calls follow it until one answers nothing.
+#![tactic(auto)]
+
 use board::Board;
 use engine::Answer;
-use libc::{STDIN_FILENO, STDOUT_FILENO};
 use sheet::{Axis, Converted, Rate};
+use std::io;
+use streams::read_full;
 
 // The board, the calls made, and a sum over what they came to.
 #[derive(Clone, Copy)]
@@ -26,7 +29,7 @@ fn weight(answer: Answer) -> u64 {
 }
 
 fn plus(a: u64, b: u64) -> u64 {
-    std::num::wrapping_add_u64(a, b)
+    a.wrapping_add(b)
 }
 
 // Clock calls until one answers nothing, at most 100,000.
@@ -157,24 +160,24 @@ fn take_all(
     pace
 }
 
-fn show(n: u64, last: &[u8]) {
-    io::print_decimal(STDOUT_FILENO, n);
-    io::write_all(STDOUT_FILENO, last);
+fn show(rt: &impl Print, n: u64, last: &[u8]) -> io::Result<()> {
+    print!(rt; "{n}")?;
+    rt.write_all(last)
 }
 
-fn main() {
+fn main(rt: HostRuntime) -> io::Result<()> {
     let mut store = [0u8; 16384];
     let mut table = [0u16; 1000];
-    let mut text = io::large_buffer();
+    let mut text = [0u8; 65536];
     let board = Board::fresh();
     let start = Pace {
         board,
         calls: 0,
         sum: 0,
     };
-    let mut input = io::large_buffer();
-    let n = io::read_full(STDIN_FILENO, &mut input);
+    let mut input = [0u8; 65536];
+    let n = read_full(&mut rt.stdin(), &mut input)?;
     let end = take_all(start, &input[..n], &mut store, &mut table, &mut text);
-    show(end.calls, b" ");
-    show(end.sum, b"\n");
+    show(&rt, end.calls, b" ")?;
+    show(&rt, end.sum, b"\n")
 }

@@ -1,8 +1,12 @@
 // Checks and runs the programs of its standard input (tests/vectors/programs.py). A program is a line of 18 bytes, `used records axes
 // bytes` in hexadecimal digits, and a line of the store's bytes, two digits each. Writes the verdict, and the places of its first 40 records.
-use libc::{STDIN_FILENO, STDOUT_FILENO};
+#![tactic(auto)]
+
 use program::{Going, Loop, Loops, Verdict, Way};
 use record::Held;
+use std::io;
+use std::io::Read;
+use streams::read_full;
 
 // The two digits that start at a place of the text.
 fn byte(text: &[u8], at: usize) -> u8 {
@@ -15,38 +19,35 @@ fn number(text: &[u8], at: usize) -> u16 {
 }
 
 // The byte of the next two digits.
-fn read_byte() -> u8 {
+fn read_byte(from: &mut impl Read) -> io::Result<u8> {
     let mut pair = [0u8; 2];
-    io::read_full(STDIN_FILENO, &mut pair);
-    byte(&pair, 0)
+    read_full(from, &mut pair)?;
+    Ok(byte(&pair, 0))
 }
 
 // Reads a byte for each place of the store.
-fn fill(store: &mut [u8]) {
+fn fill(from: &mut impl Read, store: &mut [u8]) -> io::Result<()> {
     let mut i = 0usize;
     while i < store.len() {
-        store[i] = read_byte();
+        store[i] = read_byte(&mut *from)?;
         i += 1;
     }
+    Ok(())
 }
 
-fn put(n: u16) {
-    io::print_decimal(STDOUT_FILENO, n as u64);
+fn put(rt: &impl Print, n: u16) -> io::Result<()> {
+    print!(rt; "{n}")
 }
 
-fn show(v: Verdict) {
+fn show(rt: &impl Print, v: Verdict) -> io::Result<()> {
     match v {
-        Verdict::Sound => {
-            io::write_all(STDOUT_FILENO, b"0");
-        }
+        Verdict::Sound => print!(rt; "0"),
         Verdict::Fault(letter, place) => {
             let text = [letter, b' '];
-            io::write_all(STDOUT_FILENO, &text);
-            put(place);
+            rt.write_all(&text)?;
+            put(rt, place)
         }
-        Verdict::Unreadable => {
-            io::write_all(STDOUT_FILENO, b"G");
-        }
+        Verdict::Unreadable => print!(rt; "G"),
     }
 }
 
@@ -83,7 +84,7 @@ fn no_loops() -> Loops {
 }
 
 // The places of a run's first records; the first wait hears another character, the second its own, and so on.
-fn run(store: &[u8], table: &[u16], held: Held) {
+fn run(rt: &impl Print, store: &[u8], table: &[u16], held: Held) -> io::Result<()> {
     let mut place = 0u16;
     let mut loops = no_loops();
     let mut heard = false;
@@ -92,22 +93,21 @@ fn run(store: &[u8], table: &[u16], held: Held) {
         left = left - 1;
         let f = record::fetch(store, table, held, place);
         if f.len == 0 {
-            io::write_all(STDOUT_FILENO, b" E");
-            return;
+            return print!(rt; " E");
         }
-        io::write_all(STDOUT_FILENO, b" ");
-        put(place);
+        print!(rt; " ")?;
+        put(rt, place)?;
         let w = program::onward(f.item, place, held.records, loops);
         let g = w.going;
         if is_wrong(g) {
-            io::write_all(STDOUT_FILENO, b" G");
-            return;
+            return print!(rt; " G");
         }
         place = next_place(w, heard);
         heard = heard ^ is_wait(g);
         let o = w.loops;
         loops = o;
     }
+    Ok(())
 }
 
 // Where each record starts, by walking from the front: `record::fill` takes whole stores of at most 1,000 records, and these are any.
@@ -122,31 +122,31 @@ fn walk(table: &mut [u16], store: &[u8], held: Held) {
     }
 }
 
-fn answer(store: &[u8], held: Held) {
-    show(program::check(store, held));
+fn answer(rt: &impl Print, store: &[u8], held: Held) -> io::Result<()> {
+    show(rt, program::check(store, held))?;
     if record::readable(store, held) {
         let mut table = [0u16; 1000];
         walk(&mut table, store, held);
-        io::write_all(STDOUT_FILENO, b":");
-        run(store, &table, held);
+        print!(rt; ":")?;
+        run(rt, store, &table, held)?;
     }
-    io::write_all(STDOUT_FILENO, b"\n");
+    println!(rt;)
 }
 
 // Reads a store and the end of its line, and writes the answer.
-fn on_part(store: &mut [u8], held: Held) {
-    fill(store);
+fn on_part(rt: &impl Print, from: &mut impl Read, store: &mut [u8], held: Held) -> io::Result<()> {
+    fill(&mut *from, store)?;
     let mut end = [0u8; 1];
-    io::read_full(STDIN_FILENO, &mut end);
-    answer(store, held);
+    read_full(from, &mut end)?;
+    answer(rt, store, held)
 }
 
 // Reads a program, writes its answer, and says whether there was one.
-fn one_program() -> bool {
+fn one_program(rt: &impl Print, from: &mut impl Read) -> io::Result<bool> {
     let mut line = [0u8; 18];
-    let n = io::read_full(STDIN_FILENO, &mut line);
+    let n = read_full(&mut *from, &mut line)?;
     if n < 18 {
-        return false;
+        return Ok(false);
     }
     let held = Held {
         used: number(&line, 0),
@@ -156,16 +156,18 @@ fn one_program() -> bool {
     let mut store = [0u8; 16384];
     let size = number(&line, 13) as usize;
     if 16384 < size {
-        return false;
+        return Ok(false);
     }
-    on_part(&mut store[..size], held);
-    true
+    on_part(rt, from, &mut store[..size], held)?;
+    Ok(true)
 }
 
 // Nothing says that the input ends, so the turns count down from a number that no run uses up.
-fn main() {
+fn main(rt: HostRuntime) -> io::Result<()> {
+    let mut from = rt.stdin();
     let mut turns = u64::MAX;
-    while turns > 0 && one_program() {
+    while turns > 0 && one_program(&rt, &mut from)? {
         turns -= 1;
     }
+    Ok(())
 }

@@ -1,7 +1,10 @@
 // The listings of the stores on standard input (tests/vectors/lists.py). The first number says how many stores follow. Each is its axes,
 // how many kinds of record follow, and eleven numbers for each: how often it is stored, its code, its count of numbers and eight words.
-use libc::{STDIN_FILENO, STDOUT_FILENO};
+#![tactic(auto)]
+
 use record::{Held, Record};
+use std::io;
+use streams::read_full;
 
 // The part in use of a store that was filled, and where the text goes on.
 #[derive(Clone, Copy)]
@@ -138,51 +141,48 @@ fn is_filled(store: &[u8], table: &[u16], held: Held) -> bool {
 }
 
 // The listing as it stands in the buffer, and a line feed.
-fn show_listing(text: &[u8], len: u32) {
+fn show_listing(rt: &impl Print, text: &[u8], len: u32) -> io::Result<()> {
     let n = len as usize;
     if n <= text.len() {
-        io::write_all(STDOUT_FILENO, &text[..n]);
+        rt.write_all(&text[..n])?;
     }
-    io::write_all(STDOUT_FILENO, b"\n");
+    println!(rt;)
 }
 
-fn show_refusal(refusal: u16) {
-    io::write_all(STDOUT_FILENO, b"refused ");
-    io::print_decimal(STDOUT_FILENO, refusal as u64);
-    io::write_all(STDOUT_FILENO, b"\n");
+fn show_refusal(rt: &impl Print, refusal: u16) -> io::Result<()> {
+    println!(rt; "refused {refusal}")
 }
 
-fn show_same(b: bool) {
+fn show_same(rt: &impl Print, b: bool) -> io::Result<()> {
     if b {
-        io::write_all(STDOUT_FILENO, b"same\n");
+        println!(rt; "same")
     } else {
-        io::write_all(STDOUT_FILENO, b"differs\n");
+        println!(rt; "differs")
     }
 }
 
 // Whether the records of a store, fetched and stored again, give the same bytes and the same table, which is the one that is filled too.
-fn show_again(store: &[u8], table: &[u16], held: Held) {
+fn show_again(rt: &impl Print, store: &[u8], table: &[u16], held: Held) -> io::Result<()> {
     let mut second: [u8; 16384] = [0; 16384];
     let mut other: [u16; 1000] = [0; 1000];
     let again = fill_again(&mut second, &mut other, store, table, held);
     let tables = same_entries(table, &other) & is_filled(store, table, held);
-    show_same(tables & same(store, held, &second, again));
+    show_same(rt, tables & same(store, held, &second, again))
 }
 
 // The listing of a store, or its refusal.
-fn show_store(store: &[u8], table: &[u16], held: Held) {
+fn show_store(rt: &impl Print, store: &[u8], table: &[u16], held: Held) -> io::Result<()> {
     let mut lines: [u8; 32768] = [0; 32768];
     let listed = record::list(store, held, &mut lines);
     if listed.refusal != 0 {
-        show_refusal(listed.refusal);
-        return;
+        return show_refusal(rt, listed.refusal);
     }
-    show_listing(&lines, listed.len);
-    show_again(store, table, held);
+    show_listing(rt, &lines, listed.len)?;
+    show_again(rt, store, table, held)
 }
 
 // One store of the text; answers where the text goes on.
-fn one_store(text: &[u8], from: usize) -> usize {
+fn one_store(rt: &impl Print, text: &[u8], from: usize) -> io::Result<usize> {
     let mut store: [u8; 16384] = [0; 16384];
     let mut table: [u16; 1000] = [0; 1000];
     let axes = reader::next_number(text, from);
@@ -195,22 +195,23 @@ fn one_store(text: &[u8], from: usize) -> usize {
         kinds.at,
         kinds.word,
     );
-    show_store(&store, &table, f.held);
-    f.at
+    show_store(rt, &store, &table, f.held)?;
+    Ok(f.at)
 }
 
-fn show_all(text: &[u8]) {
+fn show_all(rt: &impl Print, text: &[u8]) -> io::Result<()> {
     let first = reader::next_number(text, 0);
     let mut left = first.word;
     let mut at = first.at;
     while 0 < left {
-        at = one_store(text, at);
+        at = one_store(rt, text, at)?;
         left = left - 1;
     }
+    Ok(())
 }
 
-fn main() {
-    let mut text = io::large_buffer();
-    let n = io::read_full(STDIN_FILENO, &mut text);
-    show_all(&text[..n]);
+fn main(rt: HostRuntime) -> io::Result<()> {
+    let mut text = [0u8; 65536];
+    let n = read_full(&mut rt.stdin(), &mut text)?;
+    show_all(&rt, &text[..n])
 }

@@ -1,8 +1,11 @@
 // Runs the sheet on the vectors of its standard input, one to a line: a letter and four patterns of sixteen hexadecimal digits in small
 // letters, each behind one space (tests/vectors/sheet.py). Writes the refusal and the value of each. For a line that is none it writes
 // `? ` and the number of the line, from 1.
-use libc::{STDIN_FILENO, STDOUT_FILENO};
+#![tactic(auto)]
+
 use sheet::{Axis, Converted, Rate};
+use std::io;
+use std::io::Read;
 
 // The bytes of a right line.
 const WIDTH: usize = 69;
@@ -50,15 +53,15 @@ fn of_line(line: &[u8; 70]) -> Converted {
     converted(line[0], axis, word(line, 53))
 }
 
-fn show(c: Converted) {
-    io::print_decimal(STDOUT_FILENO, c.refusal as u64);
-    io::write_all(STDOUT_FILENO, b" ");
+fn show(rt: &impl Print, c: Converted) -> io::Result<()> {
+    let refusal = c.refusal;
+    print!(rt; "{refusal} ")?;
     let v = c.value;
     if v < 0 {
-        io::write_all(STDOUT_FILENO, b"-");
+        print!(rt; "-")?;
     }
-    io::print_decimal(STDOUT_FILENO, reader::magnitude(v) as u64);
-    io::write_all(STDOUT_FILENO, b"\n");
+    let size = reader::magnitude(v);
+    println!(rt; "{size}")
 }
 
 fn is_letter(b: u8) -> bool {
@@ -98,26 +101,25 @@ fn following(number: u64) -> u64 {
 }
 
 // A line of so many bytes is answered, and the next one begins.
-fn answer(place: Place, len: usize, line: &[u8; 70]) -> Place {
+fn answer(rt: &impl Print, place: Place, len: usize, line: &[u8; 70]) -> io::Result<Place> {
+    let number = place.number;
     if (len == WIDTH) & is_row(line) {
-        show(of_line(line));
+        show(rt, of_line(line))?;
     } else {
-        io::write_all(STDOUT_FILENO, b"? ");
-        io::print_decimal(STDOUT_FILENO, place.number);
-        io::write_all(STDOUT_FILENO, b"\n");
+        println!(rt; "? {number}")?;
     }
     let mut next = place;
     next.len = 0;
-    next.number = following(place.number);
-    next
+    next.number = following(number);
+    Ok(next)
 }
 
 // A line feed ends a line, and a carriage return before it is no part of the line.
-fn end_line(place: Place, line: &[u8; 70]) -> Place {
+fn end_line(rt: &impl Print, place: Place, line: &[u8; 70]) -> io::Result<Place> {
     if (place.len == 70) & (line[WIDTH] == b'\r') {
-        return answer(place, WIDTH, line);
+        return answer(rt, place, WIDTH, line);
     }
-    answer(place, place.len, line)
+    answer(rt, place, place.len, line)
 }
 
 // How many bytes are read with one more, which is kept if there is room.
@@ -129,66 +131,77 @@ fn keep(len: usize, b: u8, line: &mut [u8; 70]) -> usize {
     71
 }
 
-fn take_byte(place: Place, b: u8, line: &mut [u8; 70]) -> Place {
+fn take_byte(rt: &impl Print, place: Place, b: u8, line: &mut [u8; 70]) -> io::Result<Place> {
     if b == b'\n' {
-        return end_line(place, line);
+        return end_line(rt, place, line);
     }
     let len = keep(place.len, b, line);
     let mut next = place;
     next.len = len;
-    next
+    Ok(next)
 }
 
 // All bytes of a piece of input.
-fn take_all(start: Place, input: &[u8], line: &mut [u8; 70]) -> Place {
+fn take_all(rt: &impl Print, start: Place, input: &[u8], line: &mut [u8; 70]) -> io::Result<Place> {
     let mut place = start;
     let mut i = 0;
     while i < input.len() {
-        let next = take_byte(place, input[i], &mut *line);
+        let next = take_byte(rt, place, input[i], &mut *line)?;
         place = next;
         i = i + 1;
     }
-    place
+    Ok(place)
 }
 
 // One piece of input, or that no more follows.
-fn take_piece(place: Place, input: &mut [u8], line: &mut [u8; 70]) -> Place {
-    let got = libc::read(STDIN_FILENO, &mut *input);
-    let n = io::count(got, input);
+fn take_piece(
+    rt: &impl Print,
+    from: &mut impl Read,
+    place: Place,
+    input: &mut [u8],
+    line: &mut [u8; 70],
+) -> io::Result<Place> {
+    let n = from.read(&mut *input)?;
     if n == 0 {
         let mut next = place;
         next.more = false;
-        return next;
+        return Ok(next);
     }
-    take_all(place, &input[..n], line)
+    take_all(rt, place, &input[..n], line)
 }
 
 // Everything that is read. Nothing says that the input ends, so the turns count down from a number that no run uses up.
-fn take_input(start: Place, line: &mut [u8; 70]) -> Place {
-    let mut input = io::large_buffer();
+fn take_input(
+    rt: &impl Print,
+    from: &mut impl Read,
+    start: Place,
+    line: &mut [u8; 70],
+) -> io::Result<Place> {
+    let mut input = [0u8; 65536];
     let mut place = start;
     let mut turns = u64::MAX;
     while 0 < turns {
         if !place.more {
-            return place;
+            return Ok(place);
         }
-        let next = take_piece(place, &mut input, &mut *line);
+        let next = take_piece(rt, &mut *from, place, &mut input, &mut *line)?;
         place = next;
         turns = turns - 1;
     }
-    place
+    Ok(place)
 }
 
 // A last line without a line feed is one if it has a byte.
-fn main() {
+fn main(rt: HostRuntime) -> io::Result<()> {
     let mut line = [0u8; 70];
     let start = Place {
         len: 0,
         number: 1,
         more: true,
     };
-    let end = take_input(start, &mut line);
+    let end = take_input(&rt, &mut rt.stdin(), start, &mut line)?;
     if 0 < end.len {
-        answer(end, end.len, &line);
+        answer(&rt, end, end.len, &line)?;
     }
+    Ok(())
 }

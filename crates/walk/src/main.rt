@@ -1,23 +1,18 @@
 // `walk`: reads what is sent to a board, runs the board after each byte, and prints its replies and its pulses.
+#![tactic(auto)]
+
 ghost use Rattle.std.specs.Prelude.{◌≡◌, ◌+◌, min, length};
 
 use course::Walk;
-use libc::{STDIN_FILENO, STDOUT_FILENO};
+use std::io;
+use std::io::Read;
 
-// Where a walk has come to: how much of the buffer waits to be written, whether every write went well, and whether input may follow.
+// Where a walk has come to: how much of the buffer waits to be written, and whether input may follow.
 #[derive(Clone, Copy)]
 struct Stage {
     pub walk: Walk,
     pub at: usize,
-    pub fine: bool,
     pub more: bool,
-}
-
-// How much of the buffer waits to be written, and whether every write went well: apart from the walk, which is large and would be copied.
-#[derive(Clone, Copy)]
-struct Pen {
-    pub at: usize,
-    pub fine: bool,
 }
 
 // No more than the buffer holds. Where the walk has come to never says more.
@@ -41,172 +36,205 @@ fn past(at: usize, n: usize, buf: &[u8]) -> usize
     buf.len()
 }
 
-// Writes out the first `n` bytes, and says whether that went well.
-fn flush(n: usize, out: &[u8]) -> bool {
+// Writes out the first `n` bytes.
+fn flush(rt: &impl Print, n: usize, out: &[u8]) -> io::Result<()> {
     let at = within(n, out);
-    io::write_all(STDOUT_FILENO, &out[..at])
+    rt.write_all(&out[..at])
 }
 
-// Room for a portion: where fewer than 64 bytes are left, the buffer is written out first.
-fn with_room(at: usize, fine: bool, out: &[u8]) -> Pen {
+// Room for a portion: where fewer than 64 bytes are left, the buffer is written out first. Answers how much of it waits then.
+fn with_room(rt: &impl Print, at: usize, out: &[u8]) -> io::Result<usize> {
     let end = within(at, out);
     if 64 <= out.len() - end {
-        return Pen { at: end, fine };
+        return Ok(end);
     }
-    let written = flush(end, out);
-    Pen {
-        at: 0,
-        fine: fine & written,
-    }
+    flush(rt, end, out)?;
+    Ok(0)
 }
 
 // The next portion of a run.
-fn go_on(stage: Stage, store: &[u8], table: &[u16], out: &mut [u8]) -> Stage {
-    let pen = with_room(stage.at, stage.fine, out);
+fn go_on(
+    rt: &impl Print,
+    stage: Stage,
+    store: &[u8],
+    table: &[u16],
+    out: &mut [u8],
+) -> io::Result<Stage> {
+    let waits = with_room(rt, stage.at, out)?;
     let walk = stage.walk;
-    let at = within(pen.at, out);
+    let at = within(waits, out);
     let portion = walk.go_on(store, table, &mut out[at..]);
     let next = portion.walk;
     let end = past(at, portion.len, out);
-    Stage {
+    Ok(Stage {
         walk: next,
         at: end,
-        fine: pen.fine,
         more: stage.more,
-    }
+    })
 }
 
 // The run after a byte goes on, portion by portion, until it is over or has made its clock calls.
-fn finish_run(start: Stage, store: &[u8], table: &[u16], out: &mut [u8]) -> Stage {
+fn finish_run(
+    rt: &impl Print,
+    start: Stage,
+    store: &[u8],
+    table: &[u16],
+    out: &mut [u8],
+) -> io::Result<Stage> {
     let mut stage = start;
     let mut turns: u32 = 100000;
     while 0 < turns {
         let walk = stage.walk;
-        if walk.over | (100000 <= walk.calls) | !stage.fine {
-            return stage;
+        if walk.over | (100000 <= walk.calls) {
+            return Ok(stage);
         }
-        let next = go_on(stage, store, table, &mut *out);
+        let next = go_on(rt, stage, store, table, &mut *out)?;
         stage = next;
         turns = turns - 1;
     }
-    stage
+    Ok(stage)
 }
 
 // One byte and the first portion of its run.
-fn begin_run(stage: Stage, byte: u8, store: &mut [u8], table: &mut [u16], out: &mut [u8]) -> Stage {
-    let pen = with_room(stage.at, stage.fine, out);
+fn begin_run(
+    rt: &impl Print,
+    stage: Stage,
+    byte: u8,
+    store: &mut [u8],
+    table: &mut [u16],
+    out: &mut [u8],
+) -> io::Result<Stage> {
+    let waits = with_room(rt, stage.at, out)?;
     let walk = stage.walk;
-    let at = within(pen.at, out);
+    let at = within(waits, out);
     let portion = walk.next(byte, &mut *store, &mut *table, &mut out[at..]);
     let next = portion.walk;
     let end = past(at, portion.len, out);
-    Stage {
+    Ok(Stage {
         walk: next,
         at: end,
-        fine: pen.fine,
         more: stage.more,
-    }
+    })
 }
 
 // One byte with its whole run.
-fn take_byte(stage: Stage, byte: u8, store: &mut [u8], table: &mut [u16], out: &mut [u8]) -> Stage {
-    let begun = begin_run(stage, byte, &mut *store, &mut *table, &mut *out);
+fn take_byte(
+    rt: &impl Print,
+    stage: Stage,
+    byte: u8,
+    store: &mut [u8],
+    table: &mut [u16],
+    out: &mut [u8],
+) -> io::Result<Stage> {
+    let begun = begin_run(rt, stage, byte, &mut *store, &mut *table, &mut *out)?;
     let walk = begun.walk;
     if walk.over {
-        return begun;
+        return Ok(begun);
     }
-    finish_run(begun, store, table, out)
+    finish_run(rt, begun, store, table, out)
 }
 
-// All bytes of a piece of input, or those up to a run that is not over or a write that failed.
+// All bytes of a piece of input, or those up to a run that is not over.
 fn take_all(
+    rt: &impl Print,
     start: Stage,
     input: &[u8],
     store: &mut [u8],
     table: &mut [u16],
     out: &mut [u8],
-) -> Stage {
+) -> io::Result<Stage> {
     let mut stage = start;
     let mut i = 0;
     while i < input.len() {
         let walk = stage.walk;
-        if !walk.over | !stage.fine {
-            return stage;
+        if !walk.over {
+            return Ok(stage);
         }
         let fed = walk.feed(&input[i..]);
         let after = fed.walk;
         let part = Stage {
             walk: after,
             at: stage.at,
-            fine: true,
             more: stage.more,
         };
         let k = past(i, fed.count, input);
         if input.len() <= k {
-            return part;
+            return Ok(part);
         }
-        let next = take_byte(part, input[k], &mut *store, &mut *table, &mut *out);
+        let next = take_byte(rt, part, input[k], &mut *store, &mut *table, &mut *out)?;
         stage = next;
         i = k + 1;
     }
-    stage
+    Ok(stage)
 }
 
 // One piece of input, or that no more follows.
 fn take_piece(
+    rt: &impl Print,
+    from: &mut impl Read,
     stage: Stage,
     input: &mut [u8],
     store: &mut [u8],
     table: &mut [u16],
     out: &mut [u8],
-) -> Stage {
-    let got = libc::read(STDIN_FILENO, &mut *input);
-    let n = io::count(got, input);
+) -> io::Result<Stage> {
+    let n = from.read(&mut *input)?;
     if n == 0 {
         let walk = stage.walk;
-        return Stage {
+        return Ok(Stage {
             walk,
             at: stage.at,
-            fine: stage.fine,
             more: false,
-        };
+        });
     }
-    take_all(stage, &input[..n], store, table, out)
+    take_all(rt, stage, &input[..n], store, table, out)
 }
 
 // Everything that is read. A proved loop has to end, and nothing says that input does, so it counts its turns down from a number that no
 // run uses up.
-fn take_input(start: Stage, store: &mut [u8], table: &mut [u16], out: &mut [u8]) -> Stage {
-    let mut input = io::large_buffer();
+fn take_input(
+    rt: &impl Print,
+    from: &mut impl Read,
+    start: Stage,
+    store: &mut [u8],
+    table: &mut [u16],
+    out: &mut [u8],
+) -> io::Result<Stage> {
+    let mut input = [0u8; 65536];
     let mut stage = start;
     let mut turns = u64::MAX;
     while 0 < turns {
-        let next = take_piece(stage, &mut input, &mut *store, &mut *table, &mut *out);
+        let next = take_piece(
+            rt,
+            &mut *from,
+            stage,
+            &mut input,
+            &mut *store,
+            &mut *table,
+            &mut *out,
+        )?;
         stage = next;
         let walk = stage.walk;
-        if !stage.more | !stage.fine | !walk.over {
-            return stage;
+        if !stage.more | !walk.over {
+            return Ok(stage);
         }
         turns = turns - 1;
     }
-    stage
+    Ok(stage)
 }
 
 // The end of the output.
-fn finish(stage: Stage, out: &mut [u8]) {
-    let pen = with_room(stage.at, stage.fine, out);
-    if !pen.fine {
-        return;
-    }
+fn finish(rt: &impl Print, stage: Stage, out: &mut [u8]) -> io::Result<()> {
+    let waits = with_room(rt, stage.at, out)?;
     let last = stage.walk;
-    let from = within(pen.at, out);
+    let from = within(waits, out);
     let n = last.tail(&mut out[from..]);
     let end = past(from, n, out);
-    flush(end, out);
+    flush(rt, end, out)
 }
 
-fn main() {
-    let mut out = io::large_buffer();
+fn main(rt: HostRuntime) -> io::Result<()> {
+    let mut out = [0u8; 65536];
     let mut store = [0u8; 16384];
     let mut table = [0u16; 1000];
     let walk = Walk::new();
@@ -214,9 +242,15 @@ fn main() {
     let start = Stage {
         walk,
         at,
-        fine: true,
         more: true,
     };
-    let end = take_input(start, &mut store, &mut table, &mut out);
-    finish(end, &mut out);
+    let end = take_input(
+        &rt,
+        &mut rt.stdin(),
+        start,
+        &mut store,
+        &mut table,
+        &mut out,
+    )?;
+    finish(&rt, end, &mut out)
 }

@@ -14,6 +14,14 @@ NOT_OURS = {"mut_Tells"}
 # facts, which are types: the file or folder that each is used in, its old name and its new one
 FACTS = [
     ("crates/motion/", "hasRoom", "HasRoom"),
+    ("crates/circle/proofs/laws/Beats.antt", "hasRoom", "HasRoom"),
+    ("crates/travel/proofs/laws/Whole.antt", "hasRoom", "HasRoom"),
+    ("crates/travel/proofs/laws/Onward.antt", "hasRoom", "HasRoom"),
+    ("crates/promise/proofs/laws/KeepsPulses.antt", "hasRoom", "HasRoom"),
+    ("crates/motion/specs/work/Room.antt", "room", "RoomFor"),
+    ("crates/motion/proofs/", "room", "RoomFor"),
+    ("crates/motion/src/", "room", "RoomFor"),
+    ("crates/travel/proofs/laws/Whole.antt", "room", "RoomFor"),
     ("crates/motion/", "noFurther", "NoFurther"),
     ("crates/promise/", "after8", "AfterEight"),
     ("crates/board/proofs/laws/Fair.antt", "okay", "IsOkay"),
@@ -30,9 +38,11 @@ LEMMAS = [
     ("crates/promise/proofs/", "by_code", "by_code-each"),
     ("crates/record/proofs/", "by_code", "by_code-each"),
     ("crates/promise/proofs/laws/StopHolds.antt", "holds_by", "holds_by-still"),
+    ("crates/promise/proofs/laws/KeepsTrip.antt", "has_room", "has_room-held"),
+    ("crates/travel/proofs/laws/Whole.antt", "straight_then", "straight_then-is"),
 ]
 # where the plain rule gives a name that says less
-CHOSEN = {"upTo8": "up_to_8"}
+CHOSEN = {"upTo8": "up_to_8", "receiveM": "receive_contract", "clockM": "clock_contract"}
 
 EDGE = r"[^\s(){}\[\].,;λ→|∣]"
 
@@ -51,14 +61,26 @@ def read(path):
 
 
 def names():
-    found = set()
+    """The names that definitions and lemmas declare, and those that an import or a definition inside another gives: old and new."""
+    found, library = set(), set(NOT_OURS)
     for path in antt_files():
+        if path.endswith(("/Answers.antt", "/Invariants.antt")):
+            continue  # their names are of the check's making
         for line in read(path).split("\n"):
             m = DECLARED.match(line)
             if m and re.match(r"[a-z]", m.group(1)) and re.search(r"[A-Z]", m.group(1)) and ".Need-" not in m.group(1):
                 found.add(m.group(1))
-    found -= NOT_OURS | {old for _, old, _ in FACTS}
+            if line.startswith("use ") and not re.match(r"use Rattle\.(" + "|".join(crates()) + r")\.", line):
+                library |= set(re.findall(r"[^\s(){}\[\].,;]+", line)) - set(re.findall(r" as ([^\s(){}\[\].,;]+)", line))
+            if not line.lstrip().startswith("--"):
+                inner = re.split(r'"(?:[^"\\]|\\.)*"', line)
+                found |= set(re.findall("(?<!" + EDGE + r")([a-z][a-z0-9]*(?:[A-Z][a-z0-9]*)+(?:-[a-z0-9]+)*)(?!" + EDGE + ")", " ".join(inner)))
+    found -= library
     return {old: CHOSEN.get(old, snake(old)) for old in found}
+
+
+def crates():
+    return sorted(d.split("/")[1] for d in glob.glob("crates/*/"))
 
 
 def turner(table):
@@ -88,10 +110,13 @@ def main():
                 text = pattern.sub(to, text)
         token = lambda name: re.search("(?<!" + EDGE + ")" + re.escape(name) + "(?!" + EDGE + ")", text)
         # a function's own proof names the function's modules, and no definition, by its path
-        if path.endswith(".antt") and not path.endswith("/Proof.antt"):
+        if path.endswith(".antt") and not path.endswith(("/Proof.antt", "/Answers.antt")):
             for old, new in table.items():
                 if old in text and new in text and token(old) and token(new):
                     together.append(f"{path}: {old} and {new}")
+        for where, pattern, to in facts:
+            if path.startswith(where):
+                text = pattern.sub(to, text)
         if path.endswith(".rt"):
             parts = code_and_rest(text)
             new = "".join(p if i % 2 else turn(p) for i, p in enumerate(parts))
@@ -99,9 +124,6 @@ def main():
             new = re.sub(r"`[^`\n]+`", lambda m: turn(m.group(0)[1:-1]).join("``"), text)
         else:
             new = turn(text)
-        for where, pattern, to in facts:
-            if path.startswith(where):
-                new = pattern.sub(to, new)
         if new != was:
             out[path] = new
     if together:

@@ -1,4 +1,6 @@
 // The board: what it does with every byte, control code and clock call. It gathers lines, stops and goes on; what runs is the engine's.
+#![tactic(auto)]
+
 mod calls;
 mod effects;
 mod gather;

@@ -93,8 +93,8 @@ reaches reach c = leb reach c && ltb (c + reach) full
 unfoldable pub reach_of : Pair → ℕ
 reach_of start = root (measure arc.zero start) + 1
 
-unfoldable pub hasRoom : Pair → Pair → Bool
-hasRoom centre start = reaches (reach_of start) centre.first && reaches (reach_of start) centre.second
+unfoldable pub has_room : Pair → Pair → Bool
+has_room centre start = reaches (reach_of start) centre.first && reaches (reach_of start) centre.second
 
 -- ---- the plan
 
@@ -106,7 +106,7 @@ arc_from c centre start l = record { circling = c; centre = centre; start = star
 unfoldable pub going_by : Circling → Counters → Pair → List ℕ → Bent
 going_by c at start l =
     let centre = centre_of (on_plane c.plane at) start in
-    pick (not (counted at)) (Refused (ch "9")) (pick (hasRoom centre start) (Going (arc_from c centre start l)) (Refused (ch "9")))
+    pick (not (counted at)) (Refused (ch "9")) (pick (has_room centre start) (Going (arc_from c centre start l)) (Refused (ch "9")))
 
 -- 3, 1, D and 9 in this order. A line or record that comes here has passed some of them already.
 unfoldable pub bend_of : ℕ → Circling → Counters → List ℕ → Bent

@@ -12,7 +12,7 @@ use Rattle.circle.specs.declared.Pair.{Pair}
 use Rattle.circle.specs.declared.Arc.{Arc}
 use Rattle.circle.specs.Rule.{on_plane}
 use Rattle.circle.specs.Arc.{arc_beat}
-use Rattle.circle.specs.Plan.{reach_of, hasRoom}
+use Rattle.circle.specs.Plan.{reach_of, has_room}
 
 -- a point is at another
 abbrev pub at_point : Pair → Pair → Bool
@@ -30,7 +30,7 @@ point_sound start centre p =
 -- positions of 24 bits, as of every board; the speed, the start, 9's bounds within 24 bits, the point, and no pulse past its arc
 unfoldable pub arc_under_way : Arc → Counters → Bool
 arc_under_way a at =
-    counted at && speed_right a.speed && start_sound a.start && hasRoom a.centre a.start
+    counted at && speed_right a.speed && start_sound a.start && has_room a.centre a.start
     && point_sound a.start a.centre (on_plane a.circling.plane at) && leb a.made a.length
 
 -- together with the next pulse

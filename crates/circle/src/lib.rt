@@ -1,4 +1,6 @@
 // Circles: which way the axes of a plane go, the next pulse of an arc, its plan, and what 103 asks of one under way.
+#![tactic(auto)]
+
 mod beats;
 mod plan;
 mod rule;

@@ -2,7 +2,7 @@
 ghost use Rattle.std.specs.Prelude.{◌≡◌, true, ◌&&◌, ◌<◌, ◌+◌, leb};
 ghost use Rattle.motion.specs.Sound.{speed_right};
 ghost use Rattle.circle.specs.Rule.{on_plane};
-ghost use Rattle.circle.specs.Plan.{root, reaches, hasRoom};
+ghost use Rattle.circle.specs.Plan.{root, reaches, has_room};
 ghost use Rattle.circle.specs.Sound.{start_sound, point_sound, arc_under_way, arc_look};
 
 use super::beats::start_value;
@@ -41,7 +41,7 @@ fn reaches_by(n: u64, c: u32) -> bool
 // Whether the square around a centre, which an arc never leaves, lies within 24 bits.
 pub(crate) fn has_room(centre: Pair, start: Pair) -> bool
     requires { (start.first < 16777216) × (start.second < 16777216) }
-    ensures { result ≡ hasRoom centre start }
+    ensures { result ≡ has_room centre start }
 {
     let n = start_value(start);
     reaches_by(n, centre.first) & reaches_by(n, centre.second)
@@ -74,7 +74,7 @@ impl Arc {
     // What needs the start to be one that a line can send.
     fn placed(self, at: Counters) -> bool
         requires { start_sound self.start ≡ true }
-        ensures { result ≡ hasRoom self.centre self.start && point_sound self.start self.centre (on_plane self.circling.plane at) }
+        ensures { result ≡ has_room self.centre self.start && point_sound self.start self.centre (on_plane self.circling.plane at) }
     {
         let circling = self.circling;
         let plane = circling.plane;

@@ -16,7 +16,7 @@ use Rattle.motion.specs.declared.Beat.{Beat}
 use Rattle.motion.specs.declared.Beaten.{Beaten}
 use Rattle.motion.specs.declared.Beaten.TheVariants as beat
 use Rattle.motion.specs.work.Here.{within_of as straight_in}
-use Rattle.motion.specs.work.Beat.{beaten as straightBeaten}
+use Rattle.motion.specs.work.Beat.{beaten as straight_beaten}
 use Rattle.circle.specs.declared.Arc.{Arc}
 use Rattle.circle.specs.Arc.{arc_beat}
 use Rattle.travel.specs.declared.Travel.{Travel}
@@ -54,7 +54,7 @@ GKept turns limit m₀ at₀ out₀ n m at out k = Kept glides glide_on (glide_s
 
 -- ---- a pulse of either kind is one of what moves
 
-pub straight-beat : (m : Move) (at : Counters) {x : Beaten} → x ≡ straightBeaten (straight_in m at) → x ≡ beaten (within_of (travel.Straight m) at)
+pub straight-beat : (m : Move) (at : Counters) {x : Beaten} → x ≡ straight_beaten (straight_in m at) → x ≡ beaten (within_of (travel.Straight m) at)
 unfolding within_of
 straight-beat m at e = e ∙ straight-within m at
 

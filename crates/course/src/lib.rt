@@ -1,4 +1,6 @@
 // Runs of clock calls and what `walk` prints of them, in portions of any size.
+#![tactic(auto)]
+
 mod glide;
 mod going;
 mod lines;

@@ -1,4 +1,6 @@
 // What runs: the state of axes, store and run, and one clock call on it. It knows no line, no stop and no standing.
+#![tactic(auto)]
+
 mod circles;
 mod records;
 mod sound;

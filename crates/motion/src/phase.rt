@@ -4,7 +4,7 @@ ghost use Rattle.count.specs.Pick.{pick};
 ghost use Rattle.count.specs.Numbers.{far};
 ghost use Rattle.motion.specs.work.Here.{sign_here};
 ghost use Rattle.motion.specs.Phase.{pulses};
-ghost use Rattle.motion.specs.work.Room.{room};
+ghost use Rattle.motion.specs.work.Room.{RoomFor};
 
 use super::{Counters, Sign};
 
@@ -40,7 +40,7 @@ pub(crate) fn pulses_of(from: Counters, to: Counters) -> u32
 // two products as in the test of 103.
 pub(crate) fn sign_here(at: u32, from: u32, to: u32, k: u32, n: u32) -> Sign
     requires { (k < n) × (n < 16777216) × (far from to ≤ n) }
-    ensures { (result ≡ sign_here at from to k n) × room at result }
+    ensures { (result ≡ sign_here at from to k n) × RoomFor at result }
 {
     let d = count::distance(from, to) as u64;
     let s = count::distance(from, at) as u64;

@@ -6,14 +6,14 @@ ghost use Rattle.motion.specs.Phase.{moved, moved_all};
 ghost use Rattle.motion.specs.work.Here.{next_of, within_of};
 ghost use Rattle.motion.specs.work.Beat.{mark_of, at_mark, beat_of, beaten, next_back};
 ghost use Rattle.motion.specs.Next.{from_of, to_of, leg, speed_at, at_phase, skipped, settled, signs_by, stepped, left_of, after_of};
-ghost use Rattle.motion.specs.work.Room.{room, HasRoom, NoFurther};
+ghost use Rattle.motion.specs.work.Room.{RoomFor, HasRoom, NoFurther};
 
 use super::phase::{chosen, pulses_of, sign_here};
 use super::{Beat, Beaten, Counters, Mark, Move, Next, Sign, Signs, Stepped};
 
 // A count with one pulse's sign.
 fn moved_by(c: u32, s: Sign) -> u32
-    requires { room c s }
+    requires { RoomFor c s }
     ensures { result ≡ moved c s }
 {
     match s {

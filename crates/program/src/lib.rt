@@ -1,4 +1,6 @@
 // Programs: the check at the end line, and where a record sends a run.
+#![tactic(auto)]
+
 mod accepting;
 mod arrays;
 mod ending;

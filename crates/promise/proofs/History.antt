@@ -7,11 +7,11 @@ use contract.Lifetimes.{Lfts}
 use borrow.Fn.World.{ArgsD}
 use borrow.Fn.Kinds.{ended_of}
 use denote.Triple.Clauses.{AtExit}
-use Rattle.board.specs.contracts.Board.receive as receiveM
-use Rattle.board.proofs.Board.receive.Kinds as receiveKinds
+use Rattle.board.specs.contracts.Board.receive as receive_contract
+use Rattle.board.proofs.Board.receive.Kinds as receive_kinds
 use Rattle.board.proofs.Board.receive.Reads as receive
-use Rattle.board.specs.contracts.Board.clock as clockM
-use Rattle.board.proofs.Board.clock.Kinds as clockKinds
+use Rattle.board.specs.contracts.Board.clock as clock_contract
+use Rattle.board.proofs.Board.clock.Kinds as clock_kinds
 use Rattle.board.proofs.Board.clock.Reads as clock
 use Rattle.record.specs.Memory.{Memory}
 use Rattle.board.specs.declared.Board.{Board}
@@ -24,8 +24,8 @@ use Rattle.promise.specs.Machine.{Event, byte as heard, clock as timed}
 -- a result of `receive`, and what was lent afterwards
 pub record Hears (v : ℕ) (ports : List ℕ) (l : Lent) (b : Board) (o : Outcome) : Type 1 where
   pub κs : Lfts 3
-  pub args : ArgsD receiveM.signature κs
-  pub last : AtExit (ended_of 3 receiveKinds.ps receiveKinds.r) κs
+  pub args : ArgsD receive_contract.signature κs
+  pub last : AtExit (ended_of 3 receive_kinds.ps receive_kinds.r) κs
   pub self : args.0 ≡ b
   pub given : args.1.0 ≡ v
   pub inputs : args.1.1.0 ≡ ports
@@ -40,8 +40,8 @@ pub record Hears (v : ℕ) (ports : List ℕ) (l : Lent) (b : Board) (o : Outcom
 -- a result of `clock`
 pub record Ticks (mem : Memory) (b : Board) (t : Ticked) : Type 1 where
   pub κs : Lfts 2
-  pub args : ArgsD clockM.signature κs
-  pub last : AtExit (ended_of 2 clockKinds.ps clockKinds.r) κs
+  pub args : ArgsD clock_contract.signature κs
+  pub last : AtExit (ended_of 2 clock_kinds.ps clock_kinds.r) κs
   pub self : args.0 ≡ b
   pub store : args.1.0.now ≡ mem.store
   pub table : args.1.1.0.now ≡ mem.table

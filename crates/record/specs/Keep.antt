@@ -21,8 +21,8 @@ abbrev pub longer : Held → ℕ → Held
 longer h n = record { used = h.used + n; records = h.records + 1; axes = h.axes }
 
 -- there is room: at most 1,000 records and 16,384 bytes, and the lent store and table have them
-unfoldable pub hasRoom : Held → ℕ → ℕ → ℕ → Bool
-hasRoom h n size entries = leb (h.records + 1) most_records && leb (h.used + n) store_bytes && leb (h.used + n) size && leb (h.records + 1) entries
+unfoldable pub has_room : Held → ℕ → ℕ → ℕ → Bool
+has_room h n size entries = leb (h.records + 1) most_records && leb (h.used + n) store_bytes && leb (h.used + n) size && leb (h.records + 1) entries
 
 -- the store and the table with the record
 abbrev pub with_record : Held → Record → Memory → Memory
@@ -31,6 +31,6 @@ with_record h r m =
 
 unfoldable pub store_of : Held → Record → Memory → Storing
 store_of h r m =
-    pick (hasRoom h (length (encode r)) (length m.store) (length m.table))
+    pick (has_room h (length (encode r)) (length m.store) (length m.table))
     (storing (record { stored = true; held = longer h (length (encode r)) }) (with_record h r m))
     (storing (record { stored = false; held = h }) m)

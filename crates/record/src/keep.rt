@@ -2,7 +2,7 @@
 ghost use Rattle.std.specs.Prelude.{◌≡◌, ◌++◌, min, ◌+◌, ◌*◌, ◌≤◌, length, take, drop};
 ghost use Rattle.record.specs.Memory.{memory};
 ghost use Rattle.record.specs.Bytes.{bytes4, num_bytes};
-ghost use Rattle.record.specs.Keep.{storing, hasRoom, store_of};
+ghost use Rattle.record.specs.Keep.{storing, has_room, store_of};
 ghost use Rattle.record.specs.work.Put.{head_bytes};
 
 use super::{Held, Kept, Record};
@@ -63,7 +63,7 @@ pub(crate) fn few(count: u8) -> usize
 
 fn has_room(held: Held, n: usize, size: usize, entries: usize) -> bool
     requires { n ≤ 36 }
-    ensures { result ≡ hasRoom held n size entries }
+    ensures { result ≡ has_room held n size entries }
 {
     let end = (held.used as usize) + n;
     let records = (held.records as usize) + 1;

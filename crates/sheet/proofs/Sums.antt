@@ -8,7 +8,8 @@ use lib.Ieee.{binary64, in_float}
 use lib.IntN.{ℤ, pos, negsuc, neg_ℤ, sub_ℕ, ◌+ℤ◌, ◌-ℤ◌, +ℤ_assoc, +ℤ_comm, neg_ℤ-+ℤ, neg_ℤ-neg_ℤ}
 use lib.Signed.{le_z, non_neg, mag}
 use mir.Syntax.{w32, w64}
-use mir.Val.{SFits}
+use mir.Val.{SFits, to_z, of_z}
+use mir.ValLaws.{to_z-of_z}
 use borrow.Author.Tests.{leb-true, ltb-true, ltb-false, le-leb, lt-leb}
 use Rattle.count.specs.Numbers.{within}
 use Rattle.count.proofs.laws.Truth.{and_left}
@@ -85,6 +86,13 @@ low_fits s h = record { sfits = omega (arith, sum-size s h, minus-size (negsuc 9
 
 pub high_fits : (s : ℤ) → sum_right s ≡ true → SFits w64 (pos 1000000000 -ℤ s)
 high_fits s h = record { sfits = omega (arith, sum-size s h, minus-size (pos 1000000000) s) }
+
+-- a term that fits is read back as it is, and so is the sum with it where that is right
+pub made : (s t : ℤ) → SFits w64 t → s +ℤ to_z w64 (of_z w64 t) ≡ s +ℤ t
+made s t f = ap (λ (z : ℤ). s +ℤ z) (to_z-of_z w64 t f)
+
+pub made-is : (s t : ℤ) → SFits w64 t → sum_right (s +ℤ t) ≡ true → to_z w64 (of_z w64 (s +ℤ to_z w64 (of_z w64 t))) ≡ s +ℤ t
+made-is s t f h = ap (λ (z : ℤ). to_z w64 (of_z w64 z)) (made s t f) ∙ to_z-of_z w64 (s +ℤ t) (sum_fits (s +ℤ t) h)
 
 -- a float counts so far without a gap
 pub sum-exact : (t : ℤ) → sum_right t ≡ true → T (in_float binary64 t)

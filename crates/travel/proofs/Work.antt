@@ -8,9 +8,9 @@ use Rattle.motion.specs.declared.Look.{Look}
 use Rattle.motion.specs.declared.Look.TheVariants as look
 use Rattle.motion.specs.declared.Next.{Next as StraightNext}
 use Rattle.motion.specs.declared.Next.TheVariants as straight
-use Rattle.motion.specs.Sound.{under_way as straightUnderWay}
-use Rattle.motion.specs.work.Here.{next_of as straightOf}
-use Rattle.motion.specs.work.Beat.{looked_by as straightLooked, look_of as straightLook}
+use Rattle.motion.specs.Sound.{under_way as straight_under_way}
+use Rattle.motion.specs.work.Here.{next_of as straight_of}
+use Rattle.motion.specs.work.Beat.{looked_by as straight_looked, look_of as straight_look}
 use Rattle.circle.specs.declared.Arc.{Arc}
 use Rattle.circle.specs.Arc.{arc_beat}
 use Rattle.circle.specs.Sound.{arc_under_way, looked_arc, arc_look}
@@ -21,13 +21,13 @@ use Rattle.travel.specs.Sound.{under_way}
 use Rattle.travel.specs.work.Beat.{next_of, beaten, looked_by, look_of}
 use Rattle.travel.proofs.laws.Beats.{arc-beaten}
 
-straight-looked : (n : StraightNext) → straightLooked n ≡ looked_by (straight_next n)
+straight-looked : (n : StraightNext) → straight_looked n ≡ looked_by (straight_next n)
 straight-looked (straight.Made s) = refl
 straight-looked straight.Over = refl
 
-pub straight-look : (m : Move) (at : Counters) → straightLook m at ≡ look_of (travel.Straight m) at
-unfolding straightLook look_of under_way next_of
-straight-look m at = ap (λ (l : Look). pick (straightUnderWay m at) l look.Wrong) (straight-looked (straightOf m at))
+pub straight-look : (m : Move) (at : Counters) → straight_look m at ≡ look_of (travel.Straight m) at
+unfolding straight_look look_of under_way next_of
+straight-look m at = ap (λ (l : Look). pick (straight_under_way m at) l look.Wrong) (straight-looked (straight_of m at))
 
 arc-looked : (n : Next) → looked_arc (beaten n) ≡ looked_by n
 arc-looked (Made s) = refl

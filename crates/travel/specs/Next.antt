@@ -8,7 +8,7 @@ use Rattle.motion.specs.declared.Next.TheVariants as straight
 use Rattle.motion.specs.declared.Beaten.{Beaten}
 use Rattle.motion.specs.declared.Beaten.TheVariants as beat
 use Rattle.motion.specs.Phase.{signs_then}
-use Rattle.motion.specs.Next.{pulse_of as straightPulse, left_of as straightLeft}
+use Rattle.motion.specs.Next.{pulse_of as straight_pulse, left_of as straight_left}
 use Rattle.circle.specs.declared.Arc.{Arc}
 use Rattle.circle.specs.Arc.{arc_beat, with_made, arc_left}
 use Rattle.travel.specs.declared.Travel.{Travel}
@@ -36,12 +36,12 @@ arc_next a beat.Over = Over
 
 -- the next pulse: 01's formula for a straight movement, 02's rule for an arc
 unfoldable pub pulse_of : Travel → Counters → Next
-pulse_of (travel.Straight m) at = straight_next (straightPulse m at)
+pulse_of (travel.Straight m) at = straight_next (straight_pulse m at)
 pulse_of (travel.Round a) at = arc_next a (arc_beat a at)
 
 -- the pulses still to make
 unfoldable pub left_of : Travel → ℕ
-left_of (travel.Straight m) = straightLeft m
+left_of (travel.Straight m) = straight_left m
 left_of (travel.Round a) = arc_left a
 
 -- the clock's answers are 1, a pulse with its signs and speed, to 5, nothing

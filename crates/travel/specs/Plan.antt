@@ -5,7 +5,7 @@ use Rattle.count.specs.Paper.{Paper, says}
 use Rattle.motion.specs.declared.Counters.{Counters}
 use Rattle.motion.specs.declared.Planned.{Planned as StraightPlan}
 use Rattle.motion.specs.declared.Planned.TheVariants as straight
-use Rattle.motion.specs.Plan.{Asked, plan_of as straightPlan, planned_paper as straightPaper}
+use Rattle.motion.specs.Plan.{Asked, plan_of as straight_plan, planned_paper as straight_paper}
 use Rattle.circle.specs.declared.Circling.{Circling}
 use Rattle.circle.specs.declared.Bent.{Bent}
 use Rattle.circle.specs.declared.Bent.TheVariants as bent
@@ -21,7 +21,7 @@ straightly (straight.Going m) = Going (travel.Straight m)
 straightly straight.Outside = Refused (ch "9")
 
 unfoldable pub plan_of : Asked → Planned
-plan_of q = straightly (straightPlan q)
+plan_of q = straightly (straight_plan q)
 
 -- a circle 3, 1, D or 9
 abbrev pub roundly : Bent → Planned
@@ -38,7 +38,7 @@ refusal (Refused b) = b
 
 -- on paper as straight movements and circles are
 abbrev pub travel_paper : Travel → Paper
-travel_paper (travel.Straight m) = straightPaper (straight.Going m)
+travel_paper (travel.Straight m) = straight_paper (straight.Going m)
 travel_paper (travel.Round a) = bent_paper (bent.Going a)
 
 abbrev pub planned_paper : Planned → Paper

@@ -1,4 +1,6 @@
 // What moves is a kind: a straight movement or an arc, with one plan, one next pulse and one test of 103.
+#![tactic(auto)]
+
 mod plans;
 mod pulse;
 

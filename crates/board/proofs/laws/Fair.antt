@@ -18,7 +18,7 @@ use Rattle.record.specs.declared.Held.{Held}
 use Rattle.record.specs.declared.Record.{Record}
 use Rattle.record.specs.Memory.{Memory}
 use Rattle.record.specs.Bytes.{encode}
-use Rattle.record.specs.Keep.{storing, longer, hasRoom, store_of}
+use Rattle.record.specs.Keep.{storing, longer, has_room, store_of}
 use Rattle.record.proofs.laws.Put.{room-so}
 use Rattle.program.specs.declared.Verdict.{Verdict}
 use Rattle.program.specs.declared.Verdict.TheVariants as verdict
@@ -176,7 +176,7 @@ held_by false d n x y e h q f = rw q h
 pub stored-sound : (r : Record) (m : Memory) (e : Engine) → sound_of e ≡ true → sound_of (with_held e (store_of e.held r m).kept.held) ≡ true
 unfolding store_of
 stored-sound r m e h =
-    held_by (hasRoom e.held (length (encode r)) (length m.store) (length m.table)) e.held (length (encode r)) _ _ e h refl
+    held_by (has_room e.held (length (encode r)) (length m.store) (length m.table)) e.held (length (encode r)) _ _ e h refl
     (λ p. let z = room-so e.held (length (encode r)) (length m.store) (length m.table) p in (z.0, z.1))
 
 -- ---- every byte

@@ -16,7 +16,7 @@ use Rattle.record.specs.declared.Held.{Held}
 use Rattle.record.specs.declared.Record.{Record}
 use Rattle.record.specs.Memory.{Memory, RightMemory, store_fits, table_fits}
 use Rattle.record.specs.Bytes.{encode}
-use Rattle.record.specs.Keep.{storing, longer, hasRoom, with_record, store_of}
+use Rattle.record.specs.Keep.{storing, longer, has_room, with_record, store_of}
 use Rattle.record.specs.Table.{fetch_of}
 use Rattle.record.proofs.laws.Put.{room-so}
 use Rattle.engine.specs.State.{emptied, reset_of}
@@ -95,7 +95,7 @@ long-by false d r m f = (refl, refl)
 
 module _ (byte : ℕ) (ports : List ℕ) (b : Board) (m : Memory) (h : sound b ≡ true) where
   abbrev room : Record → Bool
-  room r = hasRoom b.engine.held (length (encode r)) (length m.store) (length m.table)
+  room r = has_room b.engine.held (length (encode r)) (length m.store) (length m.table)
 
   -- whatever byte comes, the bytes of the part in use stay
   front-so : (s : Said) → b.engine.held.used ≤ length m.store → Change byte b m s → take b.engine.held.used s.memory.store ≡ take b.engine.held.used m.store

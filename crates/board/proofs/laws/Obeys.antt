@@ -16,7 +16,7 @@ use Rattle.count.proofs.laws.Truth.{never, and_left, and_right}
 use Rattle.motion.specs.declared.Counters.{Counters}
 use Rattle.motion.specs.declared.Planned.{Planned as StraightPlan}
 use Rattle.motion.specs.declared.Planned.TheVariants as straight
-use Rattle.motion.specs.Plan.{Asked, asked, plan_of as straightPlan}
+use Rattle.motion.specs.Plan.{Asked, asked, plan_of as straight_plan}
 use Rattle.circle.specs.declared.Circling.{Circling}
 use Rattle.circle.specs.declared.Bent.{Bent}
 use Rattle.circle.specs.declared.Bent.TheVariants as bent
@@ -177,7 +177,7 @@ straight-by straight.Outside = refl
 
 plan-replies : (q : Asked) → eqb (refusal (plan_of q)) 0 ≡ false
 unfolding plan_of
-plan-replies q = straight-by (straightPlan q)
+plan-replies q = straight-by (straight_plan q)
 
 round_by : (p : Bent) → is_reply (bent_paper p).number ≡ true → eqb (refusal (roundly p)) 0 ≡ false
 round_by (bent.Going a) h = refl

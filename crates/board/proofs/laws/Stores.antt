@@ -16,7 +16,7 @@ use Rattle.record.specs.Bytes.{encode}
 use Rattle.record.specs.Fault.{is_code, count_right, axes_right, ranges_right, speeds_right, numbers_reply, fault_of}
 use Rattle.record.proofs.laws.Faultless.{fault-none}
 use Rattle.record.proofs.laws.Shapes.{Shape, one, two, seven, eight, shape, four as four-numbers}
-use Rattle.record.specs.Keep.{Storing, storing, longer, hasRoom, store_of}
+use Rattle.record.specs.Keep.{Storing, storing, longer, has_room, store_of}
 use Rattle.line.specs.declared.Code.{Code}
 use Rattle.line.specs.declared.Code.TheVariants as code
 use Rattle.line.specs.declared.Stored.{Stored}
@@ -79,7 +79,7 @@ kept_by false h r m l e p = ap (λ (y : Storing). y.memory) e
 
 pub not-kept : (h : Held) (r : Record) (m : Memory) {k : Kept} {x : Memory} → storing k x ≡ store_of h r m → k.stored ≡ false → x ≡ m
 unfolding store_of
-not-kept h r m e p = kept_by (hasRoom h (length (encode r)) (length m.store) (length m.table)) h r m _ e p
+not-kept h r m e p = kept_by (has_room h (length (encode r)) (length m.store) (length m.table)) h r m _ e p
 
 -- ---- a right record has at most eight numbers
 

@@ -18,7 +18,7 @@ use Rattle.circle.specs.declared.Ways.{Ways}
 use Rattle.circle.specs.declared.Arc.{Arc}
 use Rattle.circle.specs.Rule.{on_plane, on_axes, shifted, measure}
 use Rattle.circle.specs.Arc.{zero, counted_pair}
-use Rattle.circle.specs.Plan.{reaches, reach_of, hasRoom as hasSquare}
+use Rattle.circle.specs.Plan.{reaches, reach_of, has_room as has_square}
 use Rattle.circle.specs.Sound.{at_point, start_sound, point_sound, arc_under_way}
 use Rattle.circle.proofs.laws.Roots.{rooted}
 use Rattle.circle.proofs.laws.Square.{Lies}
@@ -35,7 +35,7 @@ pub record Passed (a : Arc) (at : Counters) : Type 0 where
   pub position : counted at ≡ true
   pub speed : speed_right a.speed ≡ true
   pub start : start_sound a.start ≡ true
-  pub room : hasSquare a.centre a.start ≡ true
+  pub room : has_square a.centre a.start ≡ true
   pub point : point_sound a.start a.centre (on_plane a.circling.plane at) ≡ true
   pub made : a.made ≤ a.length
 
@@ -45,7 +45,7 @@ passed a at u =
     let t1 = counted at in
     let t2 = speed_right a.speed in
     let t3 = start_sound a.start in
-    let t4 = hasSquare a.centre a.start in
+    let t4 = has_square a.centre a.start in
     let t5 = point_sound a.start a.centre (on_plane a.circling.plane at) in
     let t6 = leb a.made a.length in
     let e5 = and_left (t1 && t2 && t3 && t4 && t5) t6 u in
@@ -86,8 +86,8 @@ apart_of a b c d h = by (eqb a c) (eqb b d) refl refl
     by true false e f = omega (arith, not_same b d f)
     by false t e f = omega (arith, not_same a c e)
 
-pub lays : (start centre p : Pair) → hasSquare centre start ≡ true → point_sound start centre p ≡ true → Lays start centre p
-unfolding hasSquare point_sound
+pub lays : (start centre p : Pair) → has_square centre start ≡ true → point_sound start centre p ≡ true → Lays start centre p
+unfolding has_square point_sound
 lays start centre p h q =
     let r = reach_of start in
     let s1 = reaches r centre.first in

@@ -17,7 +17,7 @@ use Rattle.motion.specs.declared.Beaten.TheVariants as beat
 use Rattle.motion.specs.Phase.{moved_all}
 use Rattle.motion.specs.Sound.{speed_right, counted}
 use Rattle.motion.specs.Pulse.{have_steps, step_to}
-use Rattle.motion.specs.work.Room.{hasRoom}
+use Rattle.motion.specs.work.Room.{HasRoom}
 use Rattle.motion.proofs.laws.Passed.{in24-of, counted_of}
 use Rattle.motion.proofs.laws.Steps.{steps-room, steps-small, step-made}
 use Rattle.circle.specs.declared.Pair.{Pair}
@@ -62,7 +62,7 @@ module _ (a : Arc) (at : Counters) (u : arc_under_way a at ≡ true) where
   steps : have_steps at (arc_signs a at) ≡ true
   steps = rw (signs-are a at) (plane-steps a.circling.plane (move_at a at) at moves.first moves.second)
 
-  pub rooms : hasRoom at (arc_signs a at)
+  pub rooms : HasRoom at (arc_signs a at)
   rooms = steps-room at (arc_signs a at) steps
 
   pub small : counted (moved_all at (arc_signs a at)) ≡ true
@@ -124,7 +124,7 @@ beat-marked a at e =
 pub record Taken (a : Arc) (at : Counters) (b : Beat) : Type 0 where
   pub is : b ≡ the_beat a at
   pub there : b.at ≡ moved_all at b.signs
-  pub rooms : hasRoom at b.signs
+  pub rooms : HasRoom at b.signs
   pub speed : speed_right b.speed ≡ true
   pub sound : arc_under_way (with_made a b.mark.made) b.at ≡ true
   pub small : counted b.at ≡ true

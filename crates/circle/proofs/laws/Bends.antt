@@ -23,7 +23,7 @@ use Rattle.circle.specs.declared.Arc.{Arc}
 use Rattle.circle.specs.declared.Bent.TheVariants.{Going, Refused}
 use Rattle.circle.specs.Rule.{on_plane, measure}
 use Rattle.circle.specs.Arc.{zero}
-use Rattle.circle.specs.Plan.{plane_set, start_of, ways_fit, less, centre_of, reaches, reach_of, hasRoom, arc_from, going_by, bend_of}
+use Rattle.circle.specs.Plan.{plane_set, start_of, ways_fit, less, centre_of, reaches, reach_of, has_room, arc_from, going_by, bend_of}
 use Rattle.circle.specs.Sound.{start_sound, point_sound, arc_under_way}
 use Rattle.circle.proofs.laws.Roots.{square-up}
 use Rattle.circle.proofs.laws.Arcs.{passes, apart_of, point-sound, reach-high}
@@ -85,8 +85,8 @@ reach-some : (start : Pair) → 0 < reach_of start
 unfolding reach_of
 reach-some start = omega arith
 
-room-low : (centre start : Pair) → hasRoom centre start ≡ true → (reach_of start ≤ centre.first) × (reach_of start ≤ centre.second)
-unfolding hasRoom
+room-low : (centre start : Pair) → has_room centre start ≡ true → (reach_of start ≤ centre.first) × (reach_of start ≤ centre.second)
+unfolding has_room
 room-low centre start h =
     let r = reach_of start in
     let a = reaches r centre.first in
@@ -108,7 +108,7 @@ start-apart s h =
     let e = apart_of s.first s.second half half (and_right a o h) in
     omega arith
 
-module _ (at start : Pair) (s : start_sound start ≡ true) (h : hasRoom (centre_of at start) start ≡ true) where
+module _ (at start : Pair) (s : start_sound start ≡ true) (h : has_room (centre_of at start) start ≡ true) where
   low : (reach_of start ≤ less at.first start.first) × (reach_of start ≤ less at.second start.second)
   unfolding centre_of
   low = room-low (centre_of at start) start h
@@ -150,7 +150,7 @@ pub record Bends (axes : ℕ) (c : Circling) (at : Counters) (l : List ℕ) (a :
   pub fits : ways_fit c.direction l ≡ true
   pub speed : in_speed (nth l 1) ≡ true
   pub position : counted at ≡ true
-  pub room : hasRoom (centre_of (on_plane c.plane at) (start_of l)) (start_of l) ≡ true
+  pub room : has_room (centre_of (on_plane c.plane at) (start_of l)) (start_of l) ≡ true
   pub is : a ≡ arc_from c (centre_of (on_plane c.plane at) (start_of l)) (start_of l) l
 
 bends-by : (t1 t2 t3 t4 t5 t6 : Bool) (d a : Arc)
@@ -169,7 +169,7 @@ pub bends : (axes : ℕ) (c : Circling) (at : Counters) (l : List ℕ) {a : Arc}
 unfolding bend_of going_by
 bends axes c at l {a} e =
     let centre = centre_of (on_plane c.plane at) (start_of l) in
-    let p = bends-by (plane_set axes c.plane) (right_arc l) (ways_fit c.direction l) (in_speed (nth l 1)) (counted at) (hasRoom centre (start_of l))
+    let p = bends-by (plane_set axes c.plane) (right_arc l) (ways_fit c.direction l) (in_speed (nth l 1)) (counted at) (has_room centre (start_of l))
     (arc_from c centre (start_of l) l) a e in
     record { plane = p.0; right = p.1; fits = p.2; speed = p.3; position = p.4; room = p.5; is = p.6 }
 

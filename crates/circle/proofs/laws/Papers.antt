@@ -20,7 +20,7 @@ use Rattle.circle.specs.declared.Arc.{Arc}
 use Rattle.circle.specs.declared.Bent.{Bent}
 use Rattle.circle.specs.declared.Bent.TheVariants.{Going, Refused}
 use Rattle.circle.specs.Rule.{on_plane, plane_paper, direction_number, direction_paper}
-use Rattle.circle.specs.Plan.{plane_of, direction_of, plane_set, start_of, ways_fit, centre_of, hasRoom, arc_from, going_by, bend_of, bent_paper}
+use Rattle.circle.specs.Plan.{plane_of, direction_of, plane_set, start_of, ways_fit, centre_of, has_room, arc_from, going_by, bend_of, bent_paper}
 
 -- A PLANE is the number that was sent
 pub plane-paper : (w : ℕ) → w < 3 → plane_paper (plane_of w) ≡ says w []
@@ -39,10 +39,10 @@ direction-paper Counter = refl
 -- A CIRCLE'S REPLY, from the room on: 0 or 9
 pub going-number : (c : Circling) (at : Counters) (start : Pair) (l : List ℕ)
     → (bent_paper (going_by c at start l)).number
-    ≡ pick (counted at && hasRoom (centre_of (on_plane c.plane at) start) start) (ch "0") (ch "9")
+    ≡ pick (counted at && has_room (centre_of (on_plane c.plane at) start) start) (ch "0") (ch "9")
 unfolding going_by
 going-number c at start l =
-    by (counted at) (hasRoom (centre_of (on_plane c.plane at) start) start) (arc_from c (centre_of (on_plane c.plane at) start) start l)
+    by (counted at) (has_room (centre_of (on_plane c.plane at) start) start) (arc_from c (centre_of (on_plane c.plane at) start) start l)
   where
     by : (b d : Bool) (a : Arc) → (bent_paper (pick (not b) (Refused 57) (pick d (Going a) (Refused 57)))).number ≡ pick (b && d) 48 57
     by true true a = refl
@@ -67,11 +67,11 @@ bent-number true true true true b room e = e
 pub bend-number : (axes : ℕ) (c : Circling) (at : Counters) (l : List ℕ)
     → (bent_paper (bend_of axes c at l)).number
     ≡ replied (plane_set axes c.plane) (right_arc l) (ways_fit c.direction l) (in_speed (nth l 1))
-    (counted at && hasRoom (centre_of (on_plane c.plane at) (start_of l)) (start_of l))
+    (counted at && has_room (centre_of (on_plane c.plane at) (start_of l)) (start_of l))
 unfolding bend_of
 bend-number axes c at l =
     bent-number (plane_set axes c.plane) (right_arc l) (ways_fit c.direction l) (in_speed (nth l 1)) (going_by c at (start_of l) l)
-    (counted at && hasRoom (centre_of (on_plane c.plane at) (start_of l)) (start_of l)) (going-number c at (start_of l) l)
+    (counted at && has_room (centre_of (on_plane c.plane at) (start_of l)) (start_of l)) (going-number c at (start_of l) l)
 
 -- so it is one of these five
 abbrev pub is_reply : ℕ → Bool
@@ -89,4 +89,4 @@ pub bend-replies : (axes : ℕ) (c : Circling) (at : Counters) (l : List ℕ) �
 bend-replies axes c at l =
     ap is_reply (bend-number axes c at l)
     ∙ replied-one (plane_set axes c.plane) (right_arc l) (ways_fit c.direction l) (in_speed (nth l 1))
-    (counted at && hasRoom (centre_of (on_plane c.plane at) (start_of l)) (start_of l))
+    (counted at && has_room (centre_of (on_plane c.plane at) (start_of l)) (start_of l))

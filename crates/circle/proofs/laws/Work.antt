@@ -38,7 +38,7 @@ use Rattle.circle.specs.declared.Bent.{Bent}
 use Rattle.circle.specs.declared.Bent.TheVariants.{Going, Refused}
 use Rattle.circle.specs.Rule.{first_axis, second_axis, on_plane, rests, first_only, second_only, shifted, off, move_of}
 use Rattle.circle.specs.Arc.{arc_signs, counted_pair, beat_to, arc_beat, with_made}
-use Rattle.circle.specs.Plan.{plane_set, start_of, first_ways, ways_fit, centre_of, hasRoom, arc_from, going_by, bend_of}
+use Rattle.circle.specs.Plan.{plane_set, start_of, first_ways, ways_fit, centre_of, has_room, arc_from, going_by, bend_of}
 use Rattle.circle.specs.Sound.{start_sound, point_sound, arc_under_way, arc_look}
 
 -- ---- which axis moves
@@ -151,14 +151,14 @@ module _ (c : Circling) (at : Counters) (start : Pair) (l : List ℕ) where
   going-out h = rw h
 
   module _ (h : counted at ≡ true) {p q : Pair} (e : p ≡ on_plane c.plane at) (f : q ≡ centre_of p start) where
-    room : {b : Bool} → hasRoom q start ≡ b → hasRoom (centre_of (on_plane c.plane at) start) start ≡ b
+    room : {b : Bool} → has_room q start ≡ b → has_room (centre_of (on_plane c.plane at) start) start ≡ b
     room t = rw (← e, ← f) t
 
-    pub going_on : {a : Arc} → hasRoom q start ≡ true → a ≡ arc_from c q start l → Going a ≡ going_by c at start l
+    pub going_on : {a : Arc} → has_room q start ≡ true → a ≡ arc_from c q start l → Going a ≡ going_by c at start l
     unfolding going_by
     going_on t u = rw (h, room t, u, f, e)
 
-    pub going-none : hasRoom q start ≡ false → Refused 57 ≡ going_by c at start l
+    pub going-none : has_room q start ≡ false → Refused 57 ≡ going_by c at start l
     unfolding going_by
     going-none t = rw (h, room t)
 
@@ -212,7 +212,7 @@ module _ (a : Arc) (at : Counters) where
     under-start h = sym r ∙ and_right (x && y) z h
 
     pub under-by : {b : Bool} → x && y && z ≡ true
-        → b ≡ hasRoom a.centre a.start && point_sound a.start a.centre (on_plane a.circling.plane at)
+        → b ≡ has_room a.centre a.start && point_sound a.start a.centre (on_plane a.circling.plane at)
         → b && leb a.made a.length ≡ arc_under_way a at
     unfolding arc_under_way
     under-by h e = rw (three, h, e)

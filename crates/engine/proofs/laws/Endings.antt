@@ -11,13 +11,13 @@ use Rattle.count.specs.Ranges.{nth, in_speed, right_arc}
 use Rattle.motion.specs.declared.Counters.{Counters}
 use Rattle.motion.specs.declared.Planned.{Planned as StraightPlan}
 use Rattle.motion.specs.declared.Planned.TheVariants as straight
-use Rattle.motion.specs.Plan.{plan_of as straightPlan}
+use Rattle.motion.specs.Plan.{plan_of as straight_plan}
 use Rattle.motion.specs.Sound.{counted}
 use Rattle.circle.specs.declared.Circling.{Circling}
 use Rattle.circle.specs.declared.Bent.{Bent}
 use Rattle.circle.specs.declared.Bent.TheVariants as bent
 use Rattle.circle.specs.Rule.{on_plane}
-use Rattle.circle.specs.Plan.{plane_set, start_of, ways_fit, centre_of, hasRoom, bend_of, bent_paper}
+use Rattle.circle.specs.Plan.{plane_set, start_of, ways_fit, centre_of, has_room, bend_of, bent_paper}
 use Rattle.circle.proofs.laws.Papers.{replied, bend-number}
 use Rattle.travel.specs.declared.Planned.TheVariants as planned
 use Rattle.travel.specs.Plan.{straightly, plan_of, roundly, circle_of}
@@ -57,7 +57,7 @@ module _ (axes : ℕ) (c : Circling) (at : Counters) (l : List ℕ) where
   round-ends b h e =
       ap is_ending (bent-number (bend_of axes c at l) b e ∙ bend-number axes c at l)
       ∙ replied-ends (plane_set axes c.plane) (right_arc l) (ways_fit c.direction l) (in_speed (nth l 1))
-      (counted at && hasRoom (centre_of (on_plane c.plane at) (start_of l)) (start_of l)) h
+      (counted at && has_room (centre_of (on_plane c.plane at) (start_of l)) (start_of l)) h
 
 arc-speed : (axes code : ℕ) (l : List ℕ) → code ≡ 121 → speeds_right axes code l ≡ true → in_speed (nth l 1) ≡ true
 unfolding speeds_right
@@ -66,7 +66,7 @@ arc-speed axes code l e h = rw e at h
 module _ (axes : ℕ) (r : Record) (h : is_right axes r ≡ true) (e : Engine) (b : ℕ) (q : planned_by r e ≡ planned.Refused b) where
   pub refused-ends : Travels r.code → is_ending b ≡ true
   unfolding plan_of
-  refused-ends (inl p) = straight-ends (straightPlan (asked_by r e)) b (sym (straight-plan r e p) ∙ q)
+  refused-ends (inl p) = straight-ends (straight_plan (asked_by r e)) b (sym (straight-plan r e p) ∙ q)
   refused-ends (inr p) =
       round-ends e.held.axes e.circling e.at r.words b (arc-speed axes r.code r.words p (right-faultless axes r h).speeds-so)
       (sym (round-plan r e (ap is_movement p)) ∙ q)

@@ -23,7 +23,7 @@ use Rattle.motion.specs.Phase.{moved_all}
 use Rattle.motion.specs.Plan.{asked}
 use Rattle.motion.specs.Pulse.{have_steps, step_to}
 use Rattle.motion.specs.Sound.{counted}
-use Rattle.motion.specs.work.Here.{next_of as straightOf}
+use Rattle.motion.specs.work.Here.{next_of as straight_of}
 use Rattle.motion.specs.Next.{next_by, SignRule, settled, leg, stepped, signs_by, from_of, to_of}
 use Rattle.circle.specs.declared.Arc.{Arc}
 use Rattle.circle.specs.Arc.{arc_signs, counted_pair, beat_to, arc_beat}
@@ -90,7 +90,7 @@ module _ (a : Arc) (at : Counters) where
       round_by (ltb a.made a.length && (counted at && counted_pair a.centre && counted_pair a.start)) (have_steps at (arc_signs a at)) (arc_signs a at)
 
 next-adds : (m : Travel) (at : Counters) → Adds at (next_of m at)
-unfolding next_of straightOf
+unfolding next_of straight_of
 next-adds (travel.Straight m) at = straight-adds _ m at
 next-adds (travel.Round a) at = round-adds a at
 

@@ -24,7 +24,7 @@ use Rattle.motion.specs.work.Here.{next_of}
 use Rattle.motion.specs.Next.{from_of, to_of, leg, at_phase, settled, SignRule, signs_by, stepped, next_by, pulse_of, after_of, left_of}
 use Rattle.motion.specs.Sound.{speed_right, counted, under_way}
 use Rattle.motion.proofs.laws.Room.{room-here}
-use Rattle.motion.specs.work.Room.{room, HasRoom}
+use Rattle.motion.specs.work.Room.{RoomFor, HasRoom}
 use Rattle.motion.proofs.laws.Axis.{here-is-at, count_next, count_small}
 use Rattle.motion.proofs.laws.Points.{shows-pulse, on-moved}
 use Rattle.motion.proofs.laws.Pulses.{In24}
@@ -102,7 +102,7 @@ module _ (at k from to n : ℕ) (e : at ≡ count_after k from to n) (l : k < n)
   axis-next : moved at (sign_at k from to n) ≡ count_after (k + 1) from to n
   axis-next = rw e (count_next k from to n (omega arith) f)
 
-  axis-room : from < full → to < full → room at (sign_at k from to n)
+  axis-room : from < full → to < full → RoomFor at (sign_at k from to n)
   axis-room a b =
       let s : at < full = rw e (count_small k from to n f (omega arith) a b) in
       rw axis-agrees at (room-here at from to k n l f (omega arith) (omega arith) (omega arith))
@@ -130,10 +130,10 @@ module _ (m : Move) (at : Counters) (s : Stood m at) (l : m.made < leg m) where
   shown-on : (i : Axis) → shows i (pulse_by formula m at).signs ≡ sign_at m.made (on i (from_of m)) (on i (to_of m)) (leg m)
   shown-on = shows-pulse (λ (i : Axis). sign_at m.made (on i (from_of m)) (on i (to_of m)) (leg m))
 
-  -- every count has room for its sign
+  -- every count has RoomFor for its sign
   rooms : HasRoom at (pulse_by formula m at).signs
   rooms =
-      each_of (λ (i : Axis). room (on i at) (shows i (pulse_by formula m at).signs))
+      each_of (λ (i : Axis). RoomFor (on i at) (shows i (pulse_by formula m at).signs))
       (λ i. rw (shown-on i)
       (axis-room (on i at) m.made (on i (from_of m)) (on i (to_of m)) (leg m) (s.stands i) l (leg-on m r i) ((from_in m r).each i) ((to_in m r).each i)))
 

@@ -1,4 +1,4 @@
--- One pulse on the counters: where each has a step left, there is room for the sign, and the counters after it are of 24 bits. Assumes nothing.
+-- One pulse on the counters: where each has a step left, there is RoomFor for the sign, and the counters after it are of 24 bits. Assumes nothing.
 use mathlib.Core.Path.{◌≡◌, refl, sym}
 use mathlib.Core.Bool.{Bool, true, false, ◌&&◌}
 use Prim.Native.Nat.{ℕ, ◌+◌, ◌<◌}
@@ -16,7 +16,7 @@ use Rattle.motion.specs.declared.Moved.TheVariants.{To, Outside}
 use Rattle.motion.specs.Axes.{on, shows}
 use Rattle.motion.specs.Phase.{moved, moved_all}
 use Rattle.motion.specs.Pulse.{has_step, have_steps, step_to}
-use Rattle.motion.specs.work.Room.{room, HasRoom}
+use Rattle.motion.specs.work.Room.{RoomFor, HasRoom}
 use Rattle.motion.proofs.laws.Points.{on-moved}
 use Rattle.motion.proofs.laws.Pulses.{In24}
 
@@ -30,7 +30,7 @@ step-up c = by (ltb (c + 1) full) refl
 
 -- ---- one count
 
-pub step_room : (c : ℕ) (s : Sign) → has_step c s ≡ true → room c s
+pub step_room : (c : ℕ) (s : Sign) → has_step c s ≡ true → RoomFor c s
 step_room c Minus h = ltb-true 0 c h
 step_room c Rest h = omega arith
 step_room c Plus h = omega (arith, ltb-true (c + 1) full h)
@@ -47,7 +47,7 @@ module _ (c : Counters) (s : Signs) (h : have_steps c s ≡ true) where
   step-on = all-each (λ (i : Axis). has_step (on i c) (shows i s)) h
 
   pub steps-room : HasRoom c s
-  steps-room = each_of (λ (i : Axis). room (on i c) (shows i s)) (λ i. step_room (on i c) (shows i s) (step-on i))
+  steps-room = each_of (λ (i : Axis). RoomFor (on i c) (shows i s)) (λ i. step_room (on i c) (shows i s) (step-on i))
 
   pub steps-small : In24 c → In24 (moved_all c s)
   steps-small l = record { each = λ i. rw (on-moved c s i) (step_small (on i c) (shows i s) (step-on i) (l.each i)) }

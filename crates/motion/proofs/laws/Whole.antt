@@ -25,7 +25,7 @@ use Rattle.motion.specs.Plan.{Asked, plan_of}
 use Rattle.motion.specs.work.Here.{next_of}
 use Rattle.motion.specs.Next.{from_of, to_of, leg, settled, pulse_of, after_of, left_of}
 use Rattle.motion.specs.Sound.{counted, under_way}
-use Rattle.motion.specs.work.Room.{room, HasRoom}
+use Rattle.motion.specs.work.Room.{RoomFor, HasRoom}
 use Rattle.motion.proofs.laws.Axis.{count-first, count-last}
 use Rattle.motion.proofs.laws.Points.{on-moved, same_point}
 use Rattle.motion.proofs.laws.Pulses.{pulses-most}
@@ -47,7 +47,7 @@ at-resting-point m at u e =
     let p = passed m at u in
     same_point (λ i. axis-last (on i at) m.made (on i (from_of m)) (on i (to_of m)) (leg m) (p.stands i) e (leg-on m p.ranges i))
 
--- ---- no guard is met: the pulses of each phase are its greatest distance, and each count has room for its sign
+-- ---- no guard is met: the pulses of each phase are its greatest distance, and each count has RoomFor for its sign
 
 pub no-guard : (m : Move) (at : Counters) → under_way m at ≡ true
     → (pulses m.start m.first ≡ most m.start m.first) × (pulses m.first m.second ≡ most m.first m.second)
@@ -85,7 +85,7 @@ total i [] = pos 0
 total i (s ∷ l) = sign_value (shows i s.signs) +ℤ total i l
 
 -- a sign on a count is its number added to the count's
-pub value-moved : (c : ℕ) (s : Sign) → room c s → value (moved c s) ≡ value c +ℤ sign_value s
+pub value-moved : (c : ℕ) (s : Sign) → RoomFor c s → value (moved c s) ≡ value c +ℤ sign_value s
 value-moved c Minus h = sub-eq (c - 1) half c (half + 1) (omega arith) ∙ sym (sub-minus c half 0)
 value-moved c Rest h = sym (+ℤ_idr (value c))
 value-moved c Plus h = sym (sub-plus c half 1)
@@ -111,7 +111,7 @@ pub record Whole (k : ℕ) (m : Move) (at : Counters) : Type 0 where
   pub sums : (i : Axis) → value (on i at) +ℤ total i (pulses_of k m at) ≡ value (on i m.third)
 
 -- one pulse more in front
-axis-sum : (at there third : ℕ) (g : Sign) (rest : ℤ) → room at g → there ≡ moved at g → value there +ℤ rest ≡ value third
+axis-sum : (at there third : ℕ) (g : Sign) (rest : ℤ) → RoomFor at g → there ≡ moved at g → value there +ℤ rest ≡ value third
     → value at +ℤ (sign_value g +ℤ rest) ≡ value third
 axis-sum at there third g rest h e p =
     sym (+ℤ_assoc (value at) (sign_value g) rest) ∙ ap (λ (v : ℤ). v +ℤ rest) (sym (value-moved at g h) ∙ ap (λ (c : ℕ). value c) (sym e)) ∙ p
@@ -132,7 +132,7 @@ module _ (k : ℕ) (rec : (m : Move) (at : Counters) → under_way m at ≡ true
         count = rw e (ap suc w.count);
         ends = rw e (w.ends ∙ v);
         sums = λ i. rw e
-            (axis-sum (on i at) (on i s.at) (on i m.third) (shows i s.signs) _ (each_at (λ (o : Axis). room (on o at) (shows o s.signs)) t.rooms i)
+            (axis-sum (on i at) (on i s.at) (on i m.third) (shows i s.signs) _ (each_at (λ (o : Axis). RoomFor (on o at) (shows o s.signs)) t.rooms i)
             (ap (λ (c : Counters). on i c) t.there ∙ on-moved at s.signs i) (w.sums i ∙ ap (λ (c : Counters). value (on i c)) v));
       }
   one_more Over e = absurd (omega (arith, over-left m at e))

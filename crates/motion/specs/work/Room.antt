@@ -8,13 +8,13 @@ use Rattle.count.specs.Numbers.{far}
 use Rattle.count.specs.Axes.{Each}
 use Rattle.motion.specs.Axes.{on, shows}
 
-abbrev pub room : ℕ → Sign → Type 0
-room c Minus = 0 < c
-room c Rest = 0 ≤ c
-room c Plus = c < 4294967295
+abbrev pub RoomFor : ℕ → Sign → Type 0
+RoomFor c Minus = 0 < c
+RoomFor c Rest = 0 ≤ c
+RoomFor c Plus = c < 4294967295
 
 abbrev pub HasRoom : Counters → Signs → Type 0
-HasRoom c s = Each (λ i. room (on i c) (shows i s))
+HasRoom c s = Each (λ i. RoomFor (on i c) (shows i s))
 
 -- no axis has further to go than a phase has pulses
 abbrev pub NoFurther : Counters → Counters → ℕ → Type 0

@@ -17,7 +17,7 @@ use Rattle.count.proofs.laws.Truth.{never, and_left}
 use Rattle.record.specs.declared.Record.{Record}
 use Rattle.record.specs.Bytes.{made, is_right}
 use Rattle.program.specs.Check.{some, tally, fault_from, share, around, crosses}
-use Rattle.program.specs.Check.{holds as holdsAt, early as earlyAt, overlaps as overlapsAt, holders as holdersAt, outside as outsideAt, strays as straysAt, letter as letterAt, checked as checkedAt}
+use Rattle.program.specs.Check.{holds as holds_at, early as early_at, overlaps as overlaps_at, holders as holders_at, outside as outside_at, strays as strays_at, letter as letter_at, checked as checked_at}
 use Rattle.program.specs.Program.{record_in, leads_to, target_at, check_of}
 use Rattle.program.specs.Program as program
 use Rattle.program.specs.work.Marks.{mark, holds, meets, early, overlaps, holders, outside, strays, letter, checked}
@@ -82,24 +82,24 @@ cross-by false false false = refl
 -- ---- each condition: every loop and every jump or wait leads to the place of its mark, and loops go back
 
 module _ (loop turn : ℕ → Bool) (target : ℕ → ℤ) (far : ℕ → ℕ) (n : ℕ) (backs : (i : ℕ) → loop i ≡ true → (target i ≡ sub_ℕ (far i) 32768) × (far i ≤ mark i)) (leads : (i : ℕ) → turn i ≡ true → target i ≡ sub_ℕ (far i) 32768) where
-  pub holds_same : (i m : ℕ) (q : ℤ) → q ≡ sub_ℕ m 32768 → holdsAt loop target i q ≡ holds loop far i m
-  unfolding holdsAt holds within
+  pub holds_same : (i m : ℕ) (q : ℤ) → q ≡ sub_ℕ m 32768 → holds_at loop target i q ≡ holds loop far i m
+  unfolding holds_at holds within
   holds_same i m q h = by (loop i) refl
     where
       by : (b : Bool) → loop i ≡ b → b && (le_z (target i) q && le_z q (pos i)) ≡ (b && leb (far i) m) && leb m (mark i)
       by true e = rw (le-by (far i) m (target i) q (backs i e).0 h, le-by m (mark i) q (pos i) h (mark-is i))
       by false e = refl
 
-  early-same : (p : ℕ) → earlyAt loop target p ≡ early loop far p
-  unfolding earlyAt early
+  early-same : (p : ℕ) → early_at loop target p ≡ early loop far p
+  unfolding early_at early
   early-same p = by (loop p) refl
     where
       by : (b : Bool) → loop p ≡ b → b && not (le_z (pos 0) (target p)) ≡ b && ltb (far p) 32768
       by true e = rw (le-by 32768 (far p) (pos 0) (target p) refl (backs p e).0) (not-leb 32768 (far p))
       by false e = refl
 
-  outside-same : (p : ℕ) → outsideAt turn target n p ≡ outside turn far n p
-  unfolding outsideAt outside within
+  outside-same : (p : ℕ) → outside_at turn target n p ≡ outside turn far n p
+  unfolding outside_at outside within
   outside-same p = by (turn p) refl
     where
       by : (b : Bool) → turn p ≡ b → b && not (le_z (pos 0) (target p) && le_z (target p) (pos n)) ≡ b && (ltb (far p) 32768 || ltb (mark n) (far p))
@@ -124,8 +124,8 @@ module _ (loop turn : ℕ → Bool) (target : ℕ → ℤ) (far : ℕ → ℕ) (
       )
       (cross-by (leb (far p) (mark i)) (leb (far i) (far p)) (leb (far p) (far i)) ∙ rw (not-leb (far p) (far i)))
 
-  overlaps-same : (p : ℕ) → overlapsAt loop target p ≡ overlaps loop far p
-  unfolding overlapsAt overlaps meets
+  overlaps-same : (p : ℕ) → overlaps_at loop target p ≡ overlaps loop far p
+  unfolding overlaps_at overlaps meets
   overlaps-same p = by (loop p) refl
     where
       one : (i : ℕ) → i < p → loop p ≡ true → (b : Bool) → loop i ≡ b → b && crosses loop target i p ≡ (b && ltb (far i) (far p)) && leb (far p) (mark i)
@@ -136,29 +136,29 @@ module _ (loop turn : ℕ → Bool) (target : ℕ → ℤ) (far : ℕ → ℕ) (
       by true e = some_same p (λ i. loop i && crosses loop target i p) (λ i. meets loop far i (far p)) (λ i h. one i h e (loop i) refl)
       by false e = refl
 
-  holders-same : (p : ℕ) → holdersAt loop target n p ≡ holders loop far n p
-  unfolding holdersAt holders
+  holders-same : (p : ℕ) → holders_at loop target n p ≡ holders loop far n p
+  unfolding holders_at holders
   holders-same p = ap (tally n) (fun_ext (λ i. holds_same i (mark p) (pos p) (mark-is p)))
 
-  strays-same : (p : ℕ) → straysAt loop turn target n p ≡ strays loop turn far n p
-  unfolding straysAt strays
+  strays-same : (p : ℕ) → strays_at loop turn target n p ≡ strays loop turn far n p
+  unfolding strays_at strays
   strays-same p = by (turn p) refl
     where
       by : (b : Bool) → turn p ≡ b
-          → b && some n (λ i. not (beq (holdsAt loop target i (pos p)) (holdsAt loop target i (target p))))
+          → b && some n (λ i. not (beq (holds_at loop target i (pos p)) (holds_at loop target i (target p))))
           ≡ b && some n (λ i. not (beq (holds loop far i (mark p)) (holds loop far i (far p))))
       by true e =
-          some_same n (λ i. not (beq (holdsAt loop target i (pos p)) (holdsAt loop target i (target p))))
+          some_same n (λ i. not (beq (holds_at loop target i (pos p)) (holds_at loop target i (target p))))
           (λ i. not (beq (holds loop far i (mark p)) (holds loop far i (far p))))
           (λ i h. rw (holds_same i (mark p) (pos p) (mark-is p), holds_same i (far p) (target p) (leads p e)))
       by false e = refl
 
-  letters-same : (p : ℕ) → letterAt loop turn target n p ≡ letter loop turn far n p
-  unfolding letterAt letter
+  letters-same : (p : ℕ) → letter_at loop turn target n p ≡ letter loop turn far n p
+  unfolding letter_at letter
   letters-same p = rw (outside-same p, early-same p, overlaps-same p, holders-same p, strays-same p)
 
-  pub checked-same : checkedAt loop turn target n ≡ checked loop turn far n
-  unfolding checkedAt checked
+  pub checked-same : checked_at loop turn target n ≡ checked loop turn far n
+  unfolding checked_at checked
   checked-same = ap (λ (f : ℕ → ℕ). fault_from f n 0) (fun_ext letters-same)
 
 -- ---- where a right record leads
@@ -255,6 +255,6 @@ module _ (l : List Record) where
     pub marked-same : check_of l ≡ marked_of l
     unfolding check_of marked_of
     marked-same =
-        ap (λ (f : ℕ → Bool). checkedAt f (program.turn_at l) (target_at l) (length l)) loops-same
-        ∙ ap (λ (f : ℕ → Bool). checkedAt (loop_at l) f (target_at l) (length l)) turns_same
+        ap (λ (f : ℕ → Bool). checked_at f (program.turn_at l) (target_at l) (length l)) loops-same
+        ∙ ap (λ (f : ℕ → Bool). checked_at (loop_at l) f (target_at l) (length l)) turns_same
         ∙ checked-same (loop_at l) (turn_at l) (target_at l) (far_at l) (length l) goes_back leads-on

@@ -13,9 +13,9 @@ use Rattle.count.specs.Paper.{Paper}
 use Rattle.count.specs.Numbers.{within, in24, signed, word, placed, added}
 use Rattle.count.specs.Ranges.{in_speed, right_count, right_z2, right_distances, right_speeds}
 use Rattle.motion.specs.Phase.{pulses, steps, count_after, sign_at}
-use Rattle.motion.specs.Plan.{goal, goal_of, goal_z2, first_speed, later_speed, route, going_to, plan_of as straightPlan}
-use Rattle.motion.specs.Next.{from_of, to_of, left_of as straightLeft, after_of, pulse_of as straightPulse, next_by, skipped, speed_at}
-use Rattle.motion.specs.Sound.{counted, in_range, under_way as straightUnderWay}
+use Rattle.motion.specs.Plan.{goal, goal_of, goal_z2, first_speed, later_speed, route, going_to, plan_of as straight_plan}
+use Rattle.motion.specs.Next.{from_of, to_of, left_of as straight_left, after_of, pulse_of as straight_pulse, next_by, skipped, speed_at}
+use Rattle.motion.specs.Sound.{counted, in_range, under_way as straight_under_way}
 use Rattle.travel.specs.Next.{pulse_of, left_of}
 use Rattle.travel.specs.Plan.{plan_of}
 use Rattle.travel.specs.Sound.{under_way}
@@ -69,11 +69,11 @@ mild-again es m = (fits 253 refl, (fits 64 refl, (fits 48 refl, (fits 83 refl, (
 -- ---- 01's fourth: a stop alone changes the positions that it shows
 
 claims-begun : Begun claims (moving claims)
-unfolding reached shown number receiving sound sound_of counted in_range under_way straightUnderWay hearing stopped ear_of gathering gathered returned direct_said reply_of first direct_of after_address letter_of behind digits_behind digits_of number_of parted items_of numbers_of within in24 signed word placed added in_speed right_count right_z2 right_distances right_speeds pulses steps count_after goal goal_of goal_z2 first_speed later_speed route going_to plan_of straightPlan from_of to_of left_of straightLeft after_of count_right axes_right ranges_right speeds_right begin_of clocking ticked pulse_of straightPulse next_by skipped sign_at speed_at
+unfolding reached shown number receiving sound sound_of counted in_range under_way straight_under_way hearing stopped ear_of gathering gathered returned direct_said reply_of first direct_of after_address letter_of behind digits_behind digits_of number_of parted items_of numbers_of within in24 signed word placed added in_speed right_count right_z2 right_distances right_speeds pulses steps count_after goal goal_of goal_z2 first_speed later_speed route going_to plan_of straight_plan from_of to_of left_of straight_left after_of count_right axes_right ranges_right speeds_right begin_of clocking ticked pulse_of straight_pulse next_by skipped sign_at speed_at
 claims-begun = record { sound = refl; runs = refl; standing = refl; line = refl; memory = (refl, refl) }
 
 pub claims-fails-midway : StopChangesNothing claims → ⊥
-unfolding reached shown number receiving sound sound_of counted in_range under_way straightUnderWay hearing stopped ear_of gathering gathered returned direct_said reply_of first direct_of after_address letter_of behind digits_behind digits_of number_of parted items_of numbers_of within in24 signed word placed added in_speed right_count right_z2 right_distances right_speeds pulses steps count_after goal goal_of goal_z2 first_speed later_speed route going_to plan_of straightPlan from_of to_of left_of straightLeft after_of count_right axes_right ranges_right speeds_right begin_of clocking ticked pulse_of straightPulse next_by skipped sign_at speed_at
+unfolding reached shown number receiving sound sound_of counted in_range under_way straight_under_way hearing stopped ear_of gathering gathered returned direct_said reply_of first direct_of after_address letter_of behind digits_behind digits_of number_of parted items_of numbers_of within in24 signed word placed added in_speed right_count right_z2 right_distances right_speeds pulses steps count_after goal goal_of goal_z2 first_speed later_speed route going_to plan_of straight_plan from_of to_of left_of straight_left after_of count_right axes_right ranges_right speeds_right begin_of clocking ticked pulse_of straight_pulse next_by skipped sign_at speed_at
 claims-fails-midway f =
     let s : Same claims (moving claims) (stop ∷ []) [] = f (moving claims) (stop ∷ []) [] claims-begun (fits 253 refl, tt) tt refl refl in
     eqb-false 8388611 8388608 refl (ap (λ (e : Engine). e.at.x) s.engine)
@@ -81,7 +81,7 @@ claims-fails-midway f =
 -- ---- 01's fourth in its other reading: a run stopped once and followed to its end has no pulse where the run never stopped has three
 
 mutes-begun : Begun mutes (moving mutes)
-unfolding reached shown number receiving sound sound_of counted in_range under_way straightUnderWay hearing stopped ear_of gathering gathered returned direct_said reply_of first direct_of after_address letter_of behind digits_behind digits_of number_of parted items_of numbers_of within in24 signed word placed added in_speed right_count right_z2 right_distances right_speeds pulses steps count_after goal goal_of goal_z2 first_speed later_speed route going_to plan_of straightPlan from_of to_of left_of straightLeft after_of count_right axes_right ranges_right speeds_right begin_of clocking ticked pulse_of straightPulse next_by skipped sign_at speed_at
+unfolding reached shown number receiving sound sound_of counted in_range under_way straight_under_way hearing stopped ear_of gathering gathered returned direct_said reply_of first direct_of after_address letter_of behind digits_behind digits_of number_of parted items_of numbers_of within in24 signed word placed added in_speed right_count right_z2 right_distances right_speeds pulses steps count_after goal goal_of goal_z2 first_speed later_speed route going_to plan_of straight_plan from_of to_of left_of straight_left after_of count_right axes_right ranges_right speeds_right begin_of clocking ticked pulse_of straight_pulse next_by skipped sign_at speed_at
 mutes-begun = record { sound = refl; runs = refl; standing = refl; line = refl; memory = (refl, refl) }
 
 abbrev four : List Step
@@ -89,11 +89,11 @@ four = call own ∷ thrice
 
 mutes-same : (over (board_at mutes (last mutes (moving mutes) (again four))) ≡ true) × (over (board_at mutes (last mutes (moving mutes) four)) ≡ true)
     × (taken mutes (moving mutes) (again four) ≡ []) × (taken mutes (moving mutes) four ≡ [])
-unfolding reached shown number receiving sound sound_of counted in_range under_way straightUnderWay hearing stopped ear_of gathering gathered returned direct_said reply_of first direct_of after_address letter_of behind digits_behind digits_of number_of parted items_of numbers_of within in24 signed word placed added in_speed right_count right_z2 right_distances right_speeds pulses steps count_after goal goal_of goal_z2 first_speed later_speed route going_to plan_of straightPlan from_of to_of left_of straightLeft after_of count_right axes_right ranges_right speeds_right begin_of clocking ticked pulse_of straightPulse next_by skipped sign_at speed_at
+unfolding reached shown number receiving sound sound_of counted in_range under_way straight_under_way hearing stopped ear_of gathering gathered returned direct_said reply_of first direct_of after_address letter_of behind digits_behind digits_of number_of parted items_of numbers_of within in24 signed word placed added in_speed right_count right_z2 right_distances right_speeds pulses steps count_after goal goal_of goal_z2 first_speed later_speed route going_to plan_of straight_plan from_of to_of left_of straight_left after_of count_right axes_right ranges_right speeds_right begin_of clocking ticked pulse_of straight_pulse next_by skipped sign_at speed_at
 mutes-same = (refl, refl, refl, refl)
 
 pub mutes-fails-ends : DemandThree mutes → ⊥
-unfolding reached shown number receiving sound sound_of counted in_range under_way straightUnderWay hearing stopped ear_of gathering gathered returned direct_said reply_of first direct_of after_address letter_of behind digits_behind digits_of number_of parted items_of numbers_of within in24 signed word placed added in_speed right_count right_z2 right_distances right_speeds pulses steps count_after goal goal_of goal_z2 first_speed later_speed route going_to plan_of straightPlan from_of to_of left_of straightLeft after_of count_right axes_right ranges_right speeds_right begin_of clocking ticked pulse_of straightPulse next_by skipped sign_at speed_at
+unfolding reached shown number receiving sound sound_of counted in_range under_way straight_under_way hearing stopped ear_of gathering gathered returned direct_said reply_of first direct_of after_address letter_of behind digits_behind digits_of number_of parted items_of numbers_of within in24 signed word placed added in_speed right_count right_z2 right_distances right_speeds pulses steps count_after goal goal_of goal_z2 first_speed later_speed route going_to plan_of straight_plan from_of to_of left_of straight_left after_of count_right axes_right ranges_right speeds_right begin_of clocking ticked pulse_of straight_pulse next_by skipped sign_at speed_at
 mutes-fails-ends d =
     let e : Equals mutes (moving mutes) (again four) four =
     d.ends (moving mutes) (again four) four mutes-begun (mild-again four (tt, (tt, (tt, (tt, tt)))))
@@ -103,15 +103,15 @@ mutes-fails-ends d =
 -- ---- slower after a stop: at 30, not at 600
 
 slows-begun : Begun slows (moving slows)
-unfolding reached shown number receiving sound sound_of counted in_range under_way straightUnderWay hearing stopped ear_of gathering gathered returned direct_said reply_of first direct_of after_address letter_of behind digits_behind digits_of number_of parted items_of numbers_of within in24 signed word placed added in_speed right_count right_z2 right_distances right_speeds pulses steps count_after goal goal_of goal_z2 first_speed later_speed route going_to plan_of straightPlan from_of to_of left_of straightLeft after_of count_right axes_right ranges_right speeds_right begin_of clocking ticked pulse_of straightPulse next_by skipped sign_at speed_at
+unfolding reached shown number receiving sound sound_of counted in_range under_way straight_under_way hearing stopped ear_of gathering gathered returned direct_said reply_of first direct_of after_address letter_of behind digits_behind digits_of number_of parted items_of numbers_of within in24 signed word placed added in_speed right_count right_z2 right_distances right_speeds pulses steps count_after goal goal_of goal_z2 first_speed later_speed route going_to plan_of straight_plan from_of to_of left_of straight_left after_of count_right axes_right ranges_right speeds_right begin_of clocking ticked pulse_of straight_pulse next_by skipped sign_at speed_at
 slows-begun = record { sound = refl; runs = refl; standing = refl; line = refl; memory = (refl, refl) }
 
 slows-same : (count_of slows (moving slows) (again once) ≡ 1) × (count_of slows (moving slows) once ≡ 1) × (taken slows (moving slows) (again once) ≡ []) × (taken slows (moving slows) once ≡ [])
-unfolding reached shown number receiving sound sound_of counted in_range under_way straightUnderWay hearing stopped ear_of gathering gathered returned direct_said reply_of first direct_of after_address letter_of behind digits_behind digits_of number_of parted items_of numbers_of within in24 signed word placed added in_speed right_count right_z2 right_distances right_speeds pulses steps count_after goal goal_of goal_z2 first_speed later_speed route going_to plan_of straightPlan from_of to_of left_of straightLeft after_of count_right axes_right ranges_right speeds_right begin_of clocking ticked pulse_of straightPulse next_by skipped sign_at speed_at
+unfolding reached shown number receiving sound sound_of counted in_range under_way straight_under_way hearing stopped ear_of gathering gathered returned direct_said reply_of first direct_of after_address letter_of behind digits_behind digits_of number_of parted items_of numbers_of within in24 signed word placed added in_speed right_count right_z2 right_distances right_speeds pulses steps count_after goal goal_of goal_z2 first_speed later_speed route going_to plan_of straight_plan from_of to_of left_of straight_left after_of count_right axes_right ranges_right speeds_right begin_of clocking ticked pulse_of straight_pulse next_by skipped sign_at speed_at
 slows-same = (refl, refl, refl, refl)
 
 pub slows-fails : Demanded slows → ⊥
-unfolding reached shown number receiving sound sound_of counted in_range under_way straightUnderWay hearing stopped ear_of gathering gathered returned direct_said reply_of first direct_of after_address letter_of behind digits_behind digits_of number_of parted items_of numbers_of within in24 signed word placed added in_speed right_count right_z2 right_distances right_speeds pulses steps count_after goal goal_of goal_z2 first_speed later_speed route going_to plan_of straightPlan from_of to_of left_of straightLeft after_of count_right axes_right ranges_right speeds_right begin_of clocking ticked pulse_of straightPulse next_by skipped sign_at speed_at
+unfolding reached shown number receiving sound sound_of counted in_range under_way straight_under_way hearing stopped ear_of gathering gathered returned direct_said reply_of first direct_of after_address letter_of behind digits_behind digits_of number_of parted items_of numbers_of within in24 signed word placed added in_speed right_count right_z2 right_distances right_speeds pulses steps count_after goal goal_of goal_z2 first_speed later_speed route going_to plan_of straight_plan from_of to_of left_of straight_left after_of count_right axes_right ranges_right speeds_right begin_of clocking ticked pulse_of straight_pulse next_by skipped sign_at speed_at
 slows-fails d =
     let s : Same slows (moving slows) (again once) once =
     d.demand-3.always (moving slows) (again once) once slows-begun (mild-again once (tt, tt)) (tt, tt) (slows-same.0 ∙ sym slows-same.1) (slows-same.2 ∙ sym slows-same.3) in
@@ -124,15 +124,15 @@ signs [] = []
 signs (a ∷ l) = map number a.values ++ signs l
 
 turns-begun : Begun turns (moving turns)
-unfolding reached shown number receiving sound sound_of counted in_range under_way straightUnderWay hearing stopped ear_of gathering gathered returned direct_said reply_of first direct_of after_address letter_of behind digits_behind digits_of number_of parted items_of numbers_of within in24 signed word placed added in_speed right_count right_z2 right_distances right_speeds pulses steps count_after goal goal_of goal_z2 first_speed later_speed route going_to plan_of straightPlan from_of to_of left_of straightLeft after_of count_right axes_right ranges_right speeds_right begin_of clocking ticked pulse_of straightPulse next_by skipped sign_at speed_at
+unfolding reached shown number receiving sound sound_of counted in_range under_way straight_under_way hearing stopped ear_of gathering gathered returned direct_said reply_of first direct_of after_address letter_of behind digits_behind digits_of number_of parted items_of numbers_of within in24 signed word placed added in_speed right_count right_z2 right_distances right_speeds pulses steps count_after goal goal_of goal_z2 first_speed later_speed route going_to plan_of straight_plan from_of to_of left_of straight_left after_of count_right axes_right ranges_right speeds_right begin_of clocking ticked pulse_of straight_pulse next_by skipped sign_at speed_at
 turns-begun = record { sound = refl; runs = refl; standing = refl; line = refl; memory = (refl, refl) }
 
 turns_same : (count_of turns (moving turns) (again once) ≡ 1) × (count_of turns (moving turns) once ≡ 1) × (taken turns (moving turns) (again once) ≡ []) × (taken turns (moving turns) once ≡ [])
-unfolding reached shown number receiving sound sound_of counted in_range under_way straightUnderWay hearing stopped ear_of gathering gathered returned direct_said reply_of first direct_of after_address letter_of behind digits_behind digits_of number_of parted items_of numbers_of within in24 signed word placed added in_speed right_count right_z2 right_distances right_speeds pulses steps count_after goal goal_of goal_z2 first_speed later_speed route going_to plan_of straightPlan from_of to_of left_of straightLeft after_of count_right axes_right ranges_right speeds_right begin_of clocking ticked pulse_of straightPulse next_by skipped sign_at speed_at
+unfolding reached shown number receiving sound sound_of counted in_range under_way straight_under_way hearing stopped ear_of gathering gathered returned direct_said reply_of first direct_of after_address letter_of behind digits_behind digits_of number_of parted items_of numbers_of within in24 signed word placed added in_speed right_count right_z2 right_distances right_speeds pulses steps count_after goal goal_of goal_z2 first_speed later_speed route going_to plan_of straight_plan from_of to_of left_of straight_left after_of count_right axes_right ranges_right speeds_right begin_of clocking ticked pulse_of straight_pulse next_by skipped sign_at speed_at
 turns_same = (refl, refl, refl, refl)
 
 pub turns-fails : Demanded turns → ⊥
-unfolding reached shown number receiving sound sound_of counted in_range under_way straightUnderWay hearing stopped ear_of gathering gathered returned direct_said reply_of first direct_of after_address letter_of behind digits_behind digits_of number_of parted items_of numbers_of within in24 signed word placed added in_speed right_count right_z2 right_distances right_speeds pulses steps count_after goal goal_of goal_z2 first_speed later_speed route going_to plan_of straightPlan from_of to_of left_of straightLeft after_of count_right axes_right ranges_right speeds_right begin_of clocking ticked pulse_of straightPulse next_by skipped sign_at speed_at
+unfolding reached shown number receiving sound sound_of counted in_range under_way straight_under_way hearing stopped ear_of gathering gathered returned direct_said reply_of first direct_of after_address letter_of behind digits_behind digits_of number_of parted items_of numbers_of within in24 signed word placed added in_speed right_count right_z2 right_distances right_speeds pulses steps count_after goal goal_of goal_z2 first_speed later_speed route going_to plan_of straight_plan from_of to_of left_of straight_left after_of count_right axes_right ranges_right speeds_right begin_of clocking ticked pulse_of straight_pulse next_by skipped sign_at speed_at
 turns-fails d =
     let s : Same turns (moving turns) (again once) once =
     d.demand-3.always (moving turns) (again once) once turns-begun (mild-again once (tt, tt)) (tt, tt) (turns_same.0 ∙ sym turns_same.1) (turns_same.2 ∙ sym turns_same.3) in
@@ -141,15 +141,15 @@ turns-fails d =
 -- ---- a pulse lost at a stop: pulse, pulse, 0 where there are three pulses
 
 loses_pulse-begun : Begun loses_pulse (moving loses_pulse)
-unfolding reached shown number receiving sound sound_of counted in_range under_way straightUnderWay hearing stopped ear_of gathering gathered returned direct_said reply_of first direct_of after_address letter_of behind digits_behind digits_of number_of parted items_of numbers_of within in24 signed word placed added in_speed right_count right_z2 right_distances right_speeds pulses steps count_after goal goal_of goal_z2 first_speed later_speed route going_to plan_of straightPlan from_of to_of left_of straightLeft after_of count_right axes_right ranges_right speeds_right begin_of clocking ticked pulse_of straightPulse next_by skipped sign_at speed_at
+unfolding reached shown number receiving sound sound_of counted in_range under_way straight_under_way hearing stopped ear_of gathering gathered returned direct_said reply_of first direct_of after_address letter_of behind digits_behind digits_of number_of parted items_of numbers_of within in24 signed word placed added in_speed right_count right_z2 right_distances right_speeds pulses steps count_after goal goal_of goal_z2 first_speed later_speed route going_to plan_of straight_plan from_of to_of left_of straight_left after_of count_right axes_right ranges_right speeds_right begin_of clocking ticked pulse_of straight_pulse next_by skipped sign_at speed_at
 loses_pulse-begun = record { sound = refl; runs = refl; standing = refl; line = refl; memory = (refl, refl) }
 
 loses_pulse-same : (count_of loses_pulse (moving loses_pulse) (again thrice) ≡ 3) × (count_of loses_pulse (moving loses_pulse) thrice ≡ 3) × (taken loses_pulse (moving loses_pulse) (again thrice) ≡ []) × (taken loses_pulse (moving loses_pulse) thrice ≡ [])
-unfolding reached shown number receiving sound sound_of counted in_range under_way straightUnderWay hearing stopped ear_of gathering gathered returned direct_said reply_of first direct_of after_address letter_of behind digits_behind digits_of number_of parted items_of numbers_of within in24 signed word placed added in_speed right_count right_z2 right_distances right_speeds pulses steps count_after goal goal_of goal_z2 first_speed later_speed route going_to plan_of straightPlan from_of to_of left_of straightLeft after_of count_right axes_right ranges_right speeds_right begin_of clocking ticked pulse_of straightPulse next_by skipped sign_at speed_at
+unfolding reached shown number receiving sound sound_of counted in_range under_way straight_under_way hearing stopped ear_of gathering gathered returned direct_said reply_of first direct_of after_address letter_of behind digits_behind digits_of number_of parted items_of numbers_of within in24 signed word placed added in_speed right_count right_z2 right_distances right_speeds pulses steps count_after goal goal_of goal_z2 first_speed later_speed route going_to plan_of straight_plan from_of to_of left_of straight_left after_of count_right axes_right ranges_right speeds_right begin_of clocking ticked pulse_of straight_pulse next_by skipped sign_at speed_at
 loses_pulse-same = (refl, refl, refl, refl)
 
 pub loses_pulse-fails : Demanded loses_pulse → ⊥
-unfolding reached shown number receiving sound sound_of counted in_range under_way straightUnderWay hearing stopped ear_of gathering gathered returned direct_said reply_of first direct_of after_address letter_of behind digits_behind digits_of number_of parted items_of numbers_of within in24 signed word placed added in_speed right_count right_z2 right_distances right_speeds pulses steps count_after goal goal_of goal_z2 first_speed later_speed route going_to plan_of straightPlan from_of to_of left_of straightLeft after_of count_right axes_right ranges_right speeds_right begin_of clocking ticked pulse_of straightPulse next_by skipped sign_at speed_at
+unfolding reached shown number receiving sound sound_of counted in_range under_way straight_under_way hearing stopped ear_of gathering gathered returned direct_said reply_of first direct_of after_address letter_of behind digits_behind digits_of number_of parted items_of numbers_of within in24 signed word placed added in_speed right_count right_z2 right_distances right_speeds pulses steps count_after goal goal_of goal_z2 first_speed later_speed route going_to plan_of straight_plan from_of to_of left_of straight_left after_of count_right axes_right ranges_right speeds_right begin_of clocking ticked pulse_of straight_pulse next_by skipped sign_at speed_at
 loses_pulse-fails d =
     let s : Same loses_pulse (moving loses_pulse) (again thrice) thrice =
     d.demand-3.always (moving loses_pulse) (again thrice) thrice loses_pulse-begun (mild-again thrice (tt, (tt, (tt, tt)))) (tt, (tt, (tt, tt))) (loses_pulse-same.0 ∙ sym loses_pulse-same.1) (loses_pulse-same.2 ∙ sym loses_pulse-same.3) in
@@ -158,11 +158,11 @@ loses_pulse-fails d =
 -- ---- a refused call that moves: one step where there is none
 
 stirs-begun : Begun stirs (moving stirs)
-unfolding reached shown number receiving sound sound_of counted in_range under_way straightUnderWay hearing stopped ear_of gathering gathered returned direct_said reply_of first direct_of after_address letter_of behind digits_behind digits_of number_of parted items_of numbers_of within in24 signed word placed added in_speed right_count right_z2 right_distances right_speeds pulses steps count_after goal goal_of goal_z2 first_speed later_speed route going_to plan_of straightPlan from_of to_of left_of straightLeft after_of count_right axes_right ranges_right speeds_right begin_of clocking ticked pulse_of straightPulse next_by skipped sign_at speed_at
+unfolding reached shown number receiving sound sound_of counted in_range under_way straight_under_way hearing stopped ear_of gathering gathered returned direct_said reply_of first direct_of after_address letter_of behind digits_behind digits_of number_of parted items_of numbers_of within in24 signed word placed added in_speed right_count right_z2 right_distances right_speeds pulses steps count_after goal goal_of goal_z2 first_speed later_speed route going_to plan_of straight_plan from_of to_of left_of straight_left after_of count_right axes_right ranges_right speeds_right begin_of clocking ticked pulse_of straight_pulse next_by skipped sign_at speed_at
 stirs-begun = record { sound = refl; runs = refl; standing = refl; line = refl; memory = (refl, refl) }
 
 pub stirs-fails : Demanded stirs → ⊥
-unfolding reached shown number receiving sound sound_of counted in_range under_way straightUnderWay hearing stopped ear_of gathering gathered returned direct_said reply_of first direct_of after_address letter_of behind digits_behind digits_of number_of parted items_of numbers_of within in24 signed word placed added in_speed right_count right_z2 right_distances right_speeds pulses steps count_after goal goal_of goal_z2 first_speed later_speed route going_to plan_of straightPlan from_of to_of left_of straightLeft after_of count_right axes_right ranges_right speeds_right begin_of clocking ticked pulse_of straightPulse next_by skipped sign_at speed_at
+unfolding reached shown number receiving sound sound_of counted in_range under_way straight_under_way hearing stopped ear_of gathering gathered returned direct_said reply_of first direct_of after_address letter_of behind digits_behind digits_of number_of parted items_of numbers_of within in24 signed word placed added in_speed right_count right_z2 right_distances right_speeds pulses steps count_after goal goal_of goal_z2 first_speed later_speed route going_to plan_of straight_plan from_of to_of left_of straight_left after_of count_right axes_right ranges_right speeds_right begin_of clocking ticked pulse_of straight_pulse next_by skipped sign_at speed_at
 stirs-fails d =
     let s : Same stirs (moving stirs) elsewhere [] =
     d.demand-3.always (moving stirs) elsewhere [] stirs-begun (λ r. eqb-false (length {A = ℕ} []) 16384 refl r.0, tt) tt refl refl in
@@ -172,5 +172,5 @@ stirs-fails d =
 
 pub standing-does-not-count : (count_of ours (moving ours) (stop ∷ call own ∷ call own ∷ []) ≡ 0)
     × (answers ours (moving ours) (stop ∷ call own ∷ call own ∷ []) ≡ []) × (count_of ours (moving ours) thrice ≡ 3)
-unfolding reached shown number receiving sound sound_of counted in_range under_way straightUnderWay hearing stopped ear_of gathering gathered returned direct_said reply_of first direct_of after_address letter_of behind digits_behind digits_of number_of parted items_of numbers_of within in24 signed word placed added in_speed right_count right_z2 right_distances right_speeds pulses steps count_after goal goal_of goal_z2 first_speed later_speed route going_to plan_of straightPlan from_of to_of left_of straightLeft after_of count_right axes_right ranges_right speeds_right begin_of clocking ticked pulse_of straightPulse next_by skipped sign_at speed_at
+unfolding reached shown number receiving sound sound_of counted in_range under_way straight_under_way hearing stopped ear_of gathering gathered returned direct_said reply_of first direct_of after_address letter_of behind digits_behind digits_of number_of parted items_of numbers_of within in24 signed word placed added in_speed right_count right_z2 right_distances right_speeds pulses steps count_after goal goal_of goal_z2 first_speed later_speed route going_to plan_of straight_plan from_of to_of left_of straight_left after_of count_right axes_right ranges_right speeds_right begin_of clocking ticked pulse_of straight_pulse next_by skipped sign_at speed_at
 standing-does-not-count = (refl, refl, refl)

@@ -15,7 +15,7 @@ use Rattle.circle.specs.declared.Plane.TheVariants.{XY}
 use Rattle.circle.specs.declared.Direction.TheVariants.{Counter}
 use Rattle.circle.specs.Rule.{pair, side, measure, ways_at, move_of}
 use Rattle.circle.specs.Arc.{arc_left}
-use Rattle.circle.specs.Plan.{circling, direction_of, first_ways, ways_fit, centre_of, root_up_to, reach_of, hasRoom, going_by, bend_of}
+use Rattle.circle.specs.Plan.{circling, direction_of, first_ways, ways_fit, centre_of, root_up_to, reach_of, has_room, going_by, bend_of}
 use Rattle.circle.specs.Sound.{start_sound, point_sound, arc_under_way}
 use Rattle.travel.specs.Next.{left_of}
 use Rattle.travel.specs.Plan.{circle_of}
@@ -41,7 +41,7 @@ abbrev tied : Arc
 tied = record { circling = circling XY Counter; centre = pair 8388606 8388607; start = pair 8388610 8388609; speed = 600; length = 1; made = 0 }
 
 pub second_at_tie-fails : Requested second_at_tie → ⊥
-unfolding number typed within in24 signed word in_speed in_zero in_direction in_arc in_start in_way right_arc step_to counted side measure ways_at move_of arc_left direction_of first_ways ways_fit centre_of root_up_to reach_of hasRoom going_by bend_of start_sound point_sound arc_under_way left_of circle_of under_way behind letter_of after_address direct_of digits_behind digits_of number_of parted items_of numbers_of count_right axes_right ranges_right speeds_right sound_of circle_begun ticked receiving first reply_of direct_said ear_of returned gathering hearing gathered sound
+unfolding number typed within in24 signed word in_speed in_zero in_direction in_arc in_start in_way right_arc step_to counted side measure ways_at move_of arc_left direction_of first_ways ways_fit centre_of root_up_to reach_of has_room going_by bend_of start_sound point_sound arc_under_way left_of circle_of under_way behind letter_of after_address direct_of digits_behind digits_of number_of parted items_of numbers_of count_right axes_right ranges_right speeds_right sound_of circle_begun ticked receiving first reply_of direct_said ear_of returned gathering hearing gathered sound
 second_at_tie-fails d =
     let s = (from second_at_tie (codes "@03\r@0f-1\r@0y1,600,0,2,1,-1,1\r")).0 in
     let p = d.circles.pulse line tied no_memory s (record { sound = refl; standing = refl; job = refl }) (refl, refl) (ltb-true 0 1 refl) in
@@ -49,5 +49,5 @@ second_at_tie-fails d =
 
 -- the third pulse from (2,0) is Y+, and it makes X-
 pub measures_here-fails : Requested measures_here → ⊥
-unfolding number typed answers_of within in24 signed word in_speed in_zero in_direction in_arc in_start in_way right_arc step_to counted side measure ways_at move_of arc_left direction_of first_ways ways_fit centre_of root_up_to reach_of hasRoom going_by bend_of start_sound point_sound arc_under_way left_of circle_of under_way behind letter_of after_address direct_of digits_behind digits_of number_of parted items_of numbers_of count_right axes_right ranges_right speeds_right sound_of circle_begun ticked receiving first reply_of direct_said ear_of returned gathering hearing gathered sound
+unfolding number typed answers_of within in24 signed word in_speed in_zero in_direction in_arc in_start in_way right_arc step_to counted side measure ways_at move_of arc_left direction_of first_ways ways_fit centre_of root_up_to reach_of has_room going_by bend_of start_sound point_sound arc_under_way left_of circle_of under_way behind letter_of after_address direct_of digits_behind digits_of number_of parted items_of numbers_of count_right axes_right ranges_right speeds_right sound_of circle_begun ticked receiving first reply_of direct_said ear_of returned gathering hearing gathered sound
 measures_here-fails d = eqb-false 0 1 refl (ap (λ (l : List Paper). number (get_or (get_or l 2 (says 5 [])).values 1 (pos 0))) d.circles.direct-example)

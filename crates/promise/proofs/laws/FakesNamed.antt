@@ -11,10 +11,10 @@ use Rattle.count.specs.Chars.{codes}
 use Rattle.count.specs.Numbers.{within, in24, signed, word, placed, added}
 use Rattle.count.specs.Ranges.{in_speed, in_offset, in_back, in_loop, in_delay, in_character, in_switch, in_port, in_byte, in_zero, right_count, right_z2, right_distances, right_speeds}
 use Rattle.count.specs.Text.{hex_digit, hexes, twos24, report, two_hex, decimal, digits, shown, decimals, four_digits}
-use Rattle.motion.specs.Next.{from_of, to_of, speed_at, skipped, next_by, pulse_of as straightPulse, after_of, left_of as straightLeft}
+use Rattle.motion.specs.Next.{from_of, to_of, speed_at, skipped, next_by, pulse_of as straight_pulse, after_of, left_of as straight_left}
 use Rattle.motion.specs.Phase.{pulses, steps, sign_at, count_after}
-use Rattle.motion.specs.Plan.{goal, goal_of, goal_z2, first_speed, later_speed, route, going_to, plan_of as straightPlan}
-use Rattle.motion.specs.Sound.{counted, in_range, under_way as straightUnderWay}
+use Rattle.motion.specs.Plan.{goal, goal_of, goal_z2, first_speed, later_speed, route, going_to, plan_of as straight_plan}
+use Rattle.motion.specs.Sound.{counted, in_range, under_way as straight_under_way}
 use Rattle.travel.specs.Next.{pulse_of, left_of}
 use Rattle.travel.specs.Plan.{plan_of}
 use Rattle.travel.specs.Sound.{under_way}
@@ -22,7 +22,7 @@ use Rattle.line.specs.Lines.{behind, letter_of, after_address, direct_of, code_o
 use Rattle.line.specs.Numbers.{digits_behind, digits_of, number_of, parted, items_of, numbers_of}
 use Rattle.record.specs.Bytes.{made, bytes4, num_bytes, encode, word_at, words_of, front}
 use Rattle.record.specs.Fault.{is_code, count_right, axes_right, loop_right, ranges_right, speeds_right, fault_of}
-use Rattle.record.specs.Keep.{hasRoom, store_of}
+use Rattle.record.specs.Keep.{has_room, store_of}
 use Rattle.record.specs.Places.{record_at, records_from, records_of}
 use Rattle.record.specs.Table.{spot_of, fetch_of}
 use Rattle.program.specs.Check.{holds, share, around, crosses, early, overlaps, holders, outside, strays, letter, checked}
@@ -72,7 +72,7 @@ abbrev items : List Record
 items = made 51 (0 ∷ 9 ∷ []) ∷ made 51 (0 ∷ 9 ∷ []) ∷ made 51 (1 ∷ 4294967294 ∷ []) ∷ []
 
 reads : records_of held3 stored ≡ are items
-unfolding within in24 signed word placed added in_speed in_offset in_back in_loop in_delay in_character in_switch in_port in_byte in_zero right_count right_z2 right_distances right_speeds hex_digit hexes twos24 report two_hex decimal digits shown decimals four_digits from_of to_of speed_at skipped next_by pulse_of straightPulse after_of left_of straightLeft pulses steps sign_at count_after goal goal_of goal_z2 first_speed later_speed route going_to plan_of straightPlan counted in_range under_way straightUnderWay behind letter_of after_address direct_of code_of stored_of digits_behind digits_of number_of parted items_of numbers_of bytes4 num_bytes encode word_at words_of front is_code count_right axes_right loop_right ranges_right speeds_right fault_of hasRoom store_of record_at spot_of fetch_of records_from records_of holds share around crosses early overlaps holders outside strays letter checked inside again opens looped aimed onward_of check_of verdict_of sound_of mixed reset_of heard begin_of performed ticked runs_of receiving clocking first reply_of direct_said ear_of returned gathering stopped broken reset_said hearing gathered sound record_reply stored_said
+unfolding within in24 signed word placed added in_speed in_offset in_back in_loop in_delay in_character in_switch in_port in_byte in_zero right_count right_z2 right_distances right_speeds hex_digit hexes twos24 report two_hex decimal digits shown decimals four_digits from_of to_of speed_at skipped next_by pulse_of straight_pulse after_of left_of straight_left pulses steps sign_at count_after goal goal_of goal_z2 first_speed later_speed route going_to plan_of straight_plan counted in_range under_way straight_under_way behind letter_of after_address direct_of code_of stored_of digits_behind digits_of number_of parted items_of numbers_of bytes4 num_bytes encode word_at words_of front is_code count_right axes_right loop_right ranges_right speeds_right fault_of has_room store_of record_at spot_of fetch_of records_from records_of holds share around crosses early overlaps holders outside strays letter checked inside again opens looped aimed onward_of check_of verdict_of sound_of mixed reset_of heard begin_of performed ticked runs_of receiving clocking first reply_of direct_said ear_of returned gathering stopped broken reset_said hearing gathered sound record_reply stored_said
 reads = refl
 
 -- ---- what a reply of G says of a store that is readable
@@ -102,14 +102,14 @@ module _ (h : Held) (store : List ℕ) (l : List Record) (r : records_of h store
 
 -- demand 1: at the end line the fault is named
 pub bare-fails : Demanded bare → ⊥
-unfolding after_all end_line within in24 signed word placed added in_speed in_offset in_back in_loop in_delay in_character in_switch in_port in_byte in_zero right_count right_z2 right_distances right_speeds hex_digit hexes twos24 report two_hex decimal digits shown decimals four_digits from_of to_of speed_at skipped next_by pulse_of straightPulse after_of left_of straightLeft pulses steps sign_at count_after goal goal_of goal_z2 first_speed later_speed route going_to plan_of straightPlan counted in_range under_way straightUnderWay behind letter_of after_address direct_of code_of stored_of digits_behind digits_of number_of parted items_of numbers_of bytes4 num_bytes encode word_at words_of front is_code count_right axes_right loop_right ranges_right speeds_right fault_of hasRoom store_of record_at spot_of fetch_of records_from records_of holds share around crosses early overlaps holders outside strays letter checked inside again opens looped aimed onward_of check_of verdict_of sound_of mixed reset_of heard begin_of performed ticked runs_of receiving clocking first reply_of direct_said ear_of returned gathering stopped broken reset_said hearing gathered sound record_reply stored_said
+unfolding after_all end_line within in24 signed word placed added in_speed in_offset in_back in_loop in_delay in_character in_switch in_port in_byte in_zero right_count right_z2 right_distances right_speeds hex_digit hexes twos24 report two_hex decimal digits shown decimals four_digits from_of to_of speed_at skipped next_by pulse_of straight_pulse after_of left_of straight_left pulses steps sign_at count_after goal goal_of goal_z2 first_speed later_speed route going_to plan_of straight_plan counted in_range under_way straight_under_way behind letter_of after_address direct_of code_of stored_of digits_behind digits_of number_of parted items_of numbers_of bytes4 num_bytes encode word_at words_of front is_code count_right axes_right loop_right ranges_right speeds_right fault_of has_room store_of record_at spot_of fetch_of records_from records_of holds share around crosses early overlaps holders outside strays letter checked inside again opens looped aimed onward_of check_of verdict_of sound_of mixed reset_of heard begin_of performed ticked runs_of receiving clocking first reply_of direct_said ear_of returned gathering stopped broken reset_said hearing gathered sound record_reply stored_said
 bare-fails d =
     let u = d.demand-1.refused-line [] (lent reply0 (with_store stored)) (reached bare) 71 [] refl refl (eqb-false 71 48 refl) in
     eqb-false 0 5 refl (ap length (u.named refl))
 
 -- 02 §1: a single G is an unreadable store's
 pub bare-requested-fails : Requested bare → ⊥
-unfolding after_all end_line within in24 signed word placed added in_speed in_offset in_back in_loop in_delay in_character in_switch in_port in_byte in_zero right_count right_z2 right_distances right_speeds hex_digit hexes twos24 report two_hex decimal digits shown decimals four_digits from_of to_of speed_at skipped next_by pulse_of straightPulse after_of left_of straightLeft pulses steps sign_at count_after goal goal_of goal_z2 first_speed later_speed route going_to plan_of straightPlan counted in_range under_way straightUnderWay behind letter_of after_address direct_of code_of stored_of digits_behind digits_of number_of parted items_of numbers_of bytes4 num_bytes encode word_at words_of front is_code count_right axes_right loop_right ranges_right speeds_right fault_of hasRoom store_of record_at spot_of fetch_of records_from records_of holds share around crosses early overlaps holders outside strays letter checked inside again opens looped aimed onward_of check_of verdict_of sound_of mixed reset_of heard begin_of performed ticked runs_of receiving clocking first reply_of direct_said ear_of returned gathering stopped broken reset_said hearing gathered sound record_reply stored_said
+unfolding after_all end_line within in24 signed word placed added in_speed in_offset in_back in_loop in_delay in_character in_switch in_port in_byte in_zero right_count right_z2 right_distances right_speeds hex_digit hexes twos24 report two_hex decimal digits shown decimals four_digits from_of to_of speed_at skipped next_by pulse_of straight_pulse after_of left_of straight_left pulses steps sign_at count_after goal goal_of goal_z2 first_speed later_speed route going_to plan_of straight_plan counted in_range under_way straight_under_way behind letter_of after_address direct_of code_of stored_of digits_behind digits_of number_of parted items_of numbers_of bytes4 num_bytes encode word_at words_of front is_code count_right axes_right loop_right ranges_right speeds_right fault_of has_room store_of record_at spot_of fetch_of records_from records_of holds share around crosses early overlaps holders outside strays letter checked inside again opens looped aimed onward_of check_of verdict_of sound_of mixed reset_of heard begin_of performed ticked runs_of receiving clocking first reply_of direct_said ear_of returned gathering stopped broken reset_said hearing gathered sound record_reply stored_said
 bare-requested-fails d = alone held3 stored items reads (d.end-names [] (lent reply0 (with_store stored)) (reached bare) refl refl)
 
 -- ---- a at place 1: place 0 has it too
@@ -121,7 +121,7 @@ not-largest s =
     never (sym (s.named.smallest 0 97 (omega arith)))
 
 pub largest-fails : Requested largest → ⊥
-unfolding after_all end_line within in24 signed word placed added in_speed in_offset in_back in_loop in_delay in_character in_switch in_port in_byte in_zero right_count right_z2 right_distances right_speeds hex_digit hexes twos24 report two_hex decimal digits shown decimals four_digits from_of to_of speed_at skipped next_by pulse_of straightPulse after_of left_of straightLeft pulses steps sign_at count_after goal goal_of goal_z2 first_speed later_speed route going_to plan_of straightPlan counted in_range under_way straightUnderWay behind letter_of after_address direct_of code_of stored_of digits_behind digits_of number_of parted items_of numbers_of bytes4 num_bytes encode word_at words_of front is_code count_right axes_right loop_right ranges_right speeds_right fault_of hasRoom store_of record_at spot_of fetch_of records_from records_of holds share around crosses early overlaps holders outside strays letter checked inside again opens looped aimed onward_of check_of verdict_of sound_of mixed reset_of heard begin_of performed ticked runs_of receiving clocking first reply_of direct_said ear_of returned gathering stopped broken reset_said hearing gathered sound record_reply stored_said
+unfolding after_all end_line within in24 signed word placed added in_speed in_offset in_back in_loop in_delay in_character in_switch in_port in_byte in_zero right_count right_z2 right_distances right_speeds hex_digit hexes twos24 report two_hex decimal digits shown decimals four_digits from_of to_of speed_at skipped next_by pulse_of straight_pulse after_of left_of straight_left pulses steps sign_at count_after goal goal_of goal_z2 first_speed later_speed route going_to plan_of straight_plan counted in_range under_way straight_under_way behind letter_of after_address direct_of code_of stored_of digits_behind digits_of number_of parted items_of numbers_of bytes4 num_bytes encode word_at words_of front is_code count_right axes_right loop_right ranges_right speeds_right fault_of has_room store_of record_at spot_of fetch_of records_from records_of holds share around crosses early overlaps holders outside strays letter checked inside again opens looped aimed onward_of check_of verdict_of sound_of mixed reset_of heard begin_of performed ticked runs_of receiving clocking first reply_of direct_said ear_of returned gathering stopped broken reset_said hearing gathered sound record_reply stored_said
 largest-fails d = not-largest (six held3 stored items reads 97 (codes "0001") (d.end-names [] (lent reply0 (with_store stored)) (reached largest) refl refl))
 
 -- ---- e at place 0: it has a too
@@ -134,5 +134,5 @@ not-later s =
     never (sym (n.earliest 97 (omega arith)))
 
 pub later-fails : Requested later → ⊥
-unfolding after_all end_line faulty within in24 signed word placed added in_speed in_offset in_back in_loop in_delay in_character in_switch in_port in_byte in_zero right_count right_z2 right_distances right_speeds hex_digit hexes twos24 report two_hex decimal digits shown decimals four_digits from_of to_of speed_at skipped next_by pulse_of straightPulse after_of left_of straightLeft pulses steps sign_at count_after goal goal_of goal_z2 first_speed later_speed route going_to plan_of straightPlan counted in_range under_way straightUnderWay behind letter_of after_address direct_of code_of stored_of digits_behind digits_of number_of parted items_of numbers_of bytes4 num_bytes encode word_at words_of front is_code count_right axes_right loop_right ranges_right speeds_right fault_of hasRoom store_of record_at spot_of fetch_of records_from records_of holds share around crosses early overlaps holders outside strays letter checked inside again opens looped aimed onward_of check_of verdict_of sound_of mixed reset_of heard begin_of performed ticked runs_of receiving clocking first reply_of direct_said ear_of returned gathering stopped broken reset_said hearing gathered sound record_reply stored_said
+unfolding after_all end_line faulty within in24 signed word placed added in_speed in_offset in_back in_loop in_delay in_character in_switch in_port in_byte in_zero right_count right_z2 right_distances right_speeds hex_digit hexes twos24 report two_hex decimal digits shown decimals four_digits from_of to_of speed_at skipped next_by pulse_of straight_pulse after_of left_of straight_left pulses steps sign_at count_after goal goal_of goal_z2 first_speed later_speed route going_to plan_of straight_plan counted in_range under_way straight_under_way behind letter_of after_address direct_of code_of stored_of digits_behind digits_of number_of parted items_of numbers_of bytes4 num_bytes encode word_at words_of front is_code count_right axes_right loop_right ranges_right speeds_right fault_of has_room store_of record_at spot_of fetch_of records_from records_of holds share around crosses early overlaps holders outside strays letter checked inside again opens looped aimed onward_of check_of verdict_of sound_of mixed reset_of heard begin_of performed ticked runs_of receiving clocking first reply_of direct_said ear_of returned gathering stopped broken reset_said hearing gathered sound record_reply stored_said
 later-fails d = not-later (six held3 stored items reads 101 (codes "0000") (d.end-names [] (lent reply0 (with_store stored)) (reached later) refl refl))

@@ -17,12 +17,12 @@ use Rattle.record.specs.declared.Spot.TheVariants as spot
 use Rattle.record.specs.Memory.{Memory, memory}
 use Rattle.record.specs.Bytes.{bytes4, num_bytes, encode, word_at, words_of, front}
 use Rattle.record.specs.Fault.{is_code, count_right, axes_right, loop_right, ranges_right, speeds_right, fault_of}
-use Rattle.record.specs.Keep.{hasRoom, store_of}
+use Rattle.record.specs.Keep.{has_room, store_of}
 use Rattle.record.specs.Places.{spot_from, walk_to, records_from, records_of}
 use Rattle.program.specs.Check.{holds, early, overlaps, holders, outside, strays, letter, checked}
 use Rattle.program.specs.Program.{check_of, passes, sized, accepted}
 use Rattle.program.specs.Edges.{leads_out, starts_first}
-use Rattle.join.specs.Join.{axes_beside, counted as countedBeside, stores_right, both_accepted, enters_range, room_right, refusal_of, both, end_to_end, joined_memory, join_of}
+use Rattle.join.specs.Join.{axes_beside, counted as counted_beside, stores_right, both_accepted, enters_range, room_right, refusal_of, both, end_to_end, joined_memory, join_of}
 use Rattle.join.specs.Join as join
 use Rattle.engine.specs.Sound.{sound_of}
 use Rattle.board.specs.Calls.{receiving}
@@ -61,7 +61,7 @@ abbrev typed : Place enters_after
 typed = last enters_after (enters_after.first, no_memory) (steps_of delay)
 
 pub enters_after-fails : (way : Joiner) → TableRequested enters_after way → ⊥
-unfolding reached within signed word in_delay counted behind letter_of after_address direct_of code_of stored_of digits_behind digits_of number_of parted items_of numbers_of bytes4 num_bytes encode is_code count_right axes_right ranges_right speeds_right hasRoom store_of spot_from walk_to sound_of receiving first reply_of direct_said ear_of returned gathering hearing gathered sound record_reply stored_said
+unfolding reached within signed word in_delay counted behind letter_of after_address direct_of code_of stored_of digits_behind digits_of number_of parted items_of numbers_of bytes4 num_bytes encode is_code count_right axes_right ranges_right speeds_right has_room store_of spot_from walk_to sound_of receiving first reply_of direct_said ear_of returned gathering hearing gathered sound record_reply stored_said
 enters_after-fails way d =
     let k = d.steps no_memory (steps_of delay) (refl, refl) (zeros-below 16384) (alone-all delay) in
     eqb-false 0 8 refl (ap byte_of (k.table.starts 0 (ltb-true 0 (board_at enters_after typed).engine.held.records refl)))
@@ -81,13 +81,13 @@ abbrev joined : Held
 joined = (leaves_table (holding 0 0) nines (holding 8 1) (in_store letter_a)).joined.held
 
 pub leaves_table-fails : TableRequested ours leaves_table → ⊥
-unfolding reached within signed in_character word_at words_of front is_code count_right axes_right loop_right ranges_right speeds_right fault_of spot_from walk_to records_from records_of holds early overlaps holders outside strays letter checked check_of passes sized accepted leads_out starts_first axes_beside countedBeside stores_right join.axes_right both_accepted enters_range room_right refusal_of both end_to_end joined_memory join_of
+unfolding reached within signed in_character word_at words_of front is_code count_right axes_right loop_right ranges_right speeds_right fault_of spot_from walk_to records_from records_of holds early overlaps holders outside strays letter checked check_of passes sized accepted leads_out starts_first axes_beside counted_beside stores_right join.axes_right both_accepted enters_range room_right refusal_of both end_to_end joined_memory join_of
 leaves_table-fails d =
     let k = d.history nothing (joins (holding 8 1) (in_store letter_a) ∷ []) nothing-kept (stored-below letter_a refl, tt) in
     eqb-false 0 9 refl (ap byte_of (k.table.starts 0 (ltb-true 0 joined.records refl)))
 
 pub leaves_table-joins-wrong : JoinRequested leaves_table → ⊥
-unfolding within signed in_character word_at words_of front is_code count_right axes_right loop_right ranges_right speeds_right fault_of spot_from walk_to records_from records_of holds early overlaps holders outside strays letter checked check_of passes sized accepted leads_out starts_first axes_beside countedBeside stores_right join.axes_right both_accepted enters_range room_right refusal_of both end_to_end joined_memory join_of
+unfolding within signed in_character word_at words_of front is_code count_right axes_right loop_right ranges_right speeds_right fault_of spot_from walk_to records_from records_of holds early overlaps holders outside strays letter checked check_of passes sized accepted leads_out starts_first axes_beside counted_beside stores_right join.axes_right both_accepted enters_range room_right refusal_of both end_to_end joined_memory join_of
 leaves_table-joins-wrong d =
     let k = (d (holding 0 0) nines (holding 8 1) (in_store letter_a)).becomes (stored-below [] refl) (stored-below letter_a refl) refl in
     eqb-false 0 9 refl (ap byte_of (k.table.starts 0 (ltb-true 0 joined.records refl)))

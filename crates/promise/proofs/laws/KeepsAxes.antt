@@ -17,7 +17,7 @@ use Rattle.travel.specs.Plan.{plan_of, circle_of}
 use Rattle.record.specs.declared.Record.{Record}
 use Rattle.record.specs.Bytes.{encode}
 use Rattle.record.specs.Memory.{Memory}
-use Rattle.record.specs.Keep.{Storing, hasRoom, store_of}
+use Rattle.record.specs.Keep.{Storing, has_room, store_of}
 use Rattle.record.specs.Table.{fetch_of}
 use Rattle.count.specs.Axes.{axes_set}
 use Rattle.program.specs.Program.{verdict_of, is_sound}
@@ -133,7 +133,7 @@ module _ (v : ℕ) (ports : List ℕ) (b : Board) (mem : Memory) (h : sound b �
 
   stored-axes : (r : Record) → (store_of b.engine.held r mem).kept.held.axes ≡ b.engine.held.axes
   unfolding store_of
-  stored-axes r = kept-axes (hasRoom b.engine.held (length (encode r)) (length mem.store) (length mem.table)) _ _ b.engine.held.axes refl refl
+  stored-axes r = kept-axes (has_room b.engine.held (length (encode r)) (length mem.store) (length mem.table)) _ _ b.engine.held.axes refl refl
 
   code-on : (k : Code) (d : Stored) → On (stored_by k d b mem)
   code-on code.Wrong d = w

@@ -31,7 +31,7 @@ use Rattle.engine.specs.Kinds.Ear.{gathers, drops, waits}
 use Rattle.engine.specs.Kinds.{Ear}
 use Rattle.board.specs.Receive.{ear_by, ear_of, is_storing, returned, gathering, ordinary, hearing, holds_by, stopped, ends_by, broken, reset_said}
 use Rattle.board.specs.Calls.{Lent, Outcome, receiving, fresh}
-use Rattle.promise.specs.Machine.{heard_by as heardFrom, ours, Event, byte, clock, next, after_all}
+use Rattle.promise.specs.Machine.{heard_by as heard_from, ours, Event, byte, clock, next, after_all}
 use Rattle.count.specs.declared.Axis.{Axis}
 use Rattle.count.specs.declared.Axis.TheVariants.{X, Y, Z, A}
 use Rattle.motion.specs.Axes.{on}
@@ -179,7 +179,7 @@ byte-right a v ports b mem = by (eqb v 13) (eqb v 254) refl refl
 
 byte-sum : (a : Axis) (v : ℕ) (ports : List ℕ) (l : Lent) (s : Board)
     → position a (receiving v ports s l).result.board
-    ≡ pick (zeroes a v s (heardFrom (receiving v ports s l))) (pos 0) (position a s)
+    ≡ pick (zeroes a v s (heard_from (receiving v ports s l))) (pos 0) (position a s)
 unfolding zeroes
 byte-sum a v ports l s = by (eqb (receiving v ports s l).result.refusal 0) refl
   where

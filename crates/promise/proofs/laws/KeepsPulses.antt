@@ -13,7 +13,7 @@ use Rattle.motion.specs.declared.Counters.{Counters}
 use Rattle.motion.specs.declared.Signs.{Signs}
 use Rattle.motion.specs.Plan.{asked}
 use Rattle.motion.specs.Sound.{counted}
-use Rattle.motion.specs.work.Room.{hasRoom}
+use Rattle.motion.specs.work.Room.{HasRoom}
 use Rattle.motion.specs.Phase.{sign_value, signs_then}
 use Rattle.travel.proofs.laws.Whole.{value-pulsed}
 use Rattle.circle.specs.Plan.{plane_of, direction_of}
@@ -58,7 +58,7 @@ use Rattle.promise.proofs.laws.KeepsCalls.{by_call}
 
 -- a pulse's signs fit on the counters; any other answer fits
 abbrev Fitting : Counters → Answer → Type 0
-Fitting c (answer.Pulse s v) = hasRoom c s
+Fitting c (answer.Pulse s v) = HasRoom c s
 Fitting c answer.Pause = Unit
 Fitting c (answer.Send b) = Unit
 Fitting c answer.Done = Unit
@@ -76,7 +76,7 @@ place-shows Y s l = refl
 place-shows Z s l = refl
 place-shows A s l = refl
 
-sum-pulse : (a : Axis) (e : Engine) (s : Signs) (v : ℕ) → hasRoom e.at s → Sums a e.at (told e (answer.Pulse s v))
+sum-pulse : (a : Axis) (e : Engine) (s : Signs) (v : ℕ) → HasRoom e.at s → Sums a e.at (told e (answer.Pulse s v))
 unfolding adds
 sum-pulse a e s v r = value-pulsed a e.at s r ∙ ap (λ (z : ℤ). value (on a e.at) +ℤ z) (sym (place-shows a s (pos v ∷ [])))
 

@@ -15,7 +15,7 @@ use Rattle.record.specs.Bytes.{encode, numbers_of}
 use Rattle.record.specs.Memory.{Memory, RightMemory}
 use Rattle.record.specs.Places.{records_from, records_of, encode_all}
 use Rattle.record.specs.Places.Records.{are}
-use Rattle.record.specs.Keep.{longer, hasRoom, store_of}
+use Rattle.record.specs.Keep.{longer, has_room, store_of}
 use Rattle.record.specs.Listing.{numbers_text, line_text, list_text, Telling, telling, list_of}
 use Rattle.record.specs.Bytes.{Below}
 use Rattle.record.proofs.laws.Right.{RightOne, take-pad}
@@ -87,7 +87,7 @@ module _ (axes : ℕ) (h : Held) (mem : Memory) where
       ∙ ap (λ (x : Bool). pick x (said (board (resting_with axes h) false no_line) (48 ∷ []) mem) (said (board (resting_with axes nothing_held) false no_line) (71 ∷ named_fault (verdict_of h mem.store)) mem)) s
 
   -- room for one record more
-  room-stored : (r : Record) → hasRoom h (length (encode r)) (length mem.store) (length mem.table) ≡ true
+  room-stored : (r : Record) → has_room h (length (encode r)) (length mem.store) (length mem.table) ≡ true
       → ((store_of h r mem).kept.stored ≡ true) × ((store_of h r mem).kept.held ≡ longer h (length (encode r)))
   unfolding store_of
   room-stored r p = (rw p, rw p)
@@ -120,10 +120,10 @@ text-so : (r : Record) (rest : List Record) → list_text (r ∷ rest) ≡ (r.co
 unfolding list_text line_text
 text-so r rest = append_assoc (r.code ∷ numbers_text (numbers_of r)) (13 ∷ []) (list_text rest)
 
-has_room : (axes : ℕ) (done : List Record) (r : Record) (mem : Memory) → RightMemory mem → length done + 1 ≤ 1000
-    → length (encode_all done) + length (encode r) ≤ 16384 → hasRoom (held_by axes done) (length (encode r)) (length mem.store) (length mem.table) ≡ true
-unfolding hasRoom
-has_room axes done r mem n m u = rw (n.0, n.1, le-leb (length done + 1) 1000 m, le-leb (length (encode_all done) + length (encode r)) 16384 u)
+has_room-held : (axes : ℕ) (done : List Record) (r : Record) (mem : Memory) → RightMemory mem → length done + 1 ≤ 1000
+    → length (encode_all done) + length (encode r) ≤ 16384 → has_room (held_by axes done) (length (encode r)) (length mem.store) (length mem.table) ≡ true
+unfolding has_room
+has_room-held axes done r mem n m u = rw (n.0, n.1, le-leb (length done + 1) 1000 m, le-leb (length (encode_all done) + length (encode r)) 16384 u)
 
 -- ---- all records and the end line
 
@@ -161,7 +161,7 @@ module _ (host : Host) (axes : ℕ) (k : axes_known axes ≡ true) (l : List Rec
       let long : length (encode_all l) ≡ length (encode_all done) + (length (encode r) + length (encode_all rest)) =
       ap (λ (x : List Record). length (encode_all x)) (sym e) ∙ encode-more done rest r in
       let many : length l ≡ length done + suc (length rest) = ap length (sym e) ∙ length-append done (r ∷ rest) in
-      let c = room-stored axes h mem r (has_room axes done r mem n (omega arith) (omega arith)) in
+      let c = room-stored axes h mem r (has_room-held axes done r mem n (omega arith) (omega arith)) in
       let a = stored-list h r mem done b q g.0 c.0 in
       let w : (store_of h r mem).kept.held ≡ held_by axes (done ++ r ∷ []) = c.1 ∙ held-behind axes done r in
       let m : RightMemory (stored_in h r mem) = (a.long ∙ n.0, ap length a.entry ∙ length-set mem.table h.records h.used ∙ n.1) in

@@ -7,10 +7,10 @@ use Rattle.count.specs.Numbers.{count}
 use Rattle.count.specs.Numbers.{within, in24, signed, word, placed, added}
 use Rattle.count.specs.Ranges.{in_speed, in_offset, in_back, in_loop, in_delay, in_character, in_switch, in_port, in_byte, in_zero, right_count, right_z2, right_distances, right_speeds}
 use Rattle.count.specs.Text.{hex_digit, hexes, twos24, report, two_hex, decimal, digits, shown, decimals, four_digits}
-use Rattle.motion.specs.Next.{from_of, to_of, speed_at, skipped, next_by, pulse_of as straightPulse, after_of, left_of as straightLeft}
+use Rattle.motion.specs.Next.{from_of, to_of, speed_at, skipped, next_by, pulse_of as straight_pulse, after_of, left_of as straight_left}
 use Rattle.motion.specs.Phase.{pulses, steps, sign_at, count_after}
-use Rattle.motion.specs.Plan.{goal, goal_of, goal_z2, first_speed, later_speed, route, going_to, plan_of as straightPlan}
-use Rattle.motion.specs.Sound.{counted, in_range, under_way as straightUnderWay}
+use Rattle.motion.specs.Plan.{goal, goal_of, goal_z2, first_speed, later_speed, route, going_to, plan_of as straight_plan}
+use Rattle.motion.specs.Sound.{counted, in_range, under_way as straight_under_way}
 use Rattle.travel.specs.Next.{pulse_of, left_of}
 use Rattle.travel.specs.Plan.{plan_of}
 use Rattle.travel.specs.Sound.{under_way}
@@ -18,7 +18,7 @@ use Rattle.line.specs.Lines.{behind, letter_of, after_address, direct_of, code_o
 use Rattle.line.specs.Numbers.{digits_behind, digits_of, number_of, parted, items_of, numbers_of}
 use Rattle.record.specs.Bytes.{bytes4, num_bytes, encode, word_at, words_of, front}
 use Rattle.record.specs.Fault.{is_code, count_right, axes_right, loop_right, ranges_right, speeds_right, fault_of}
-use Rattle.record.specs.Keep.{hasRoom, store_of}
+use Rattle.record.specs.Keep.{has_room, store_of}
 use Rattle.record.specs.Places.{record_at, records_from, records_of}
 use Rattle.record.specs.Table.{spot_of, fetch_of}
 use Rattle.program.specs.Check.{holds, share, around, crosses, early, overlaps, holders, outside, strays, letter, checked}
@@ -41,7 +41,7 @@ use Rattle.promise.specs.Twelve.{History, from, stands_on, stands_at, sends, tic
 
 -- (1) to (3), which run
 ran : One × Two × Three
-unfolding sends ticks within in24 signed word placed added in_speed in_offset in_back in_loop in_delay in_character in_switch in_port in_byte in_zero right_count right_z2 right_distances right_speeds hex_digit hexes twos24 report two_hex decimal digits shown decimals four_digits from_of to_of speed_at skipped next_by pulse_of straightPulse after_of left_of straightLeft pulses steps sign_at count_after goal goal_of goal_z2 first_speed later_speed route going_to plan_of straightPlan counted in_range under_way straightUnderWay behind letter_of after_address direct_of code_of stored_of digits_behind digits_of number_of parted items_of numbers_of bytes4 num_bytes encode word_at words_of front is_code count_right axes_right loop_right ranges_right speeds_right fault_of hasRoom store_of record_at spot_of fetch_of records_from records_of holds share around crosses early overlaps holders outside strays letter checked inside again opens looped aimed onward_of check_of verdict_of sound_of mixed reset_of heard begin_of performed ticked runs_of receiving clocking first reply_of direct_said ear_of returned gathering stopped broken reset_said hearing gathered sound record_reply stored_said runs_now course pulse_text positions_text walked_from walked
+unfolding sends ticks within in24 signed word placed added in_speed in_offset in_back in_loop in_delay in_character in_switch in_port in_byte in_zero right_count right_z2 right_distances right_speeds hex_digit hexes twos24 report two_hex decimal digits shown decimals four_digits from_of to_of speed_at skipped next_by pulse_of straight_pulse after_of left_of straight_left pulses steps sign_at count_after goal goal_of goal_z2 first_speed later_speed route going_to plan_of straight_plan counted in_range under_way straight_under_way behind letter_of after_address direct_of code_of stored_of digits_behind digits_of number_of parted items_of numbers_of bytes4 num_bytes encode word_at words_of front is_code count_right axes_right loop_right ranges_right speeds_right fault_of has_room store_of record_at spot_of fetch_of records_from records_of holds share around crosses early overlaps holders outside strays letter checked inside again opens looped aimed onward_of check_of verdict_of sound_of mixed reset_of heard begin_of performed ticked runs_of receiving clocking first reply_of direct_said ear_of returned gathering stopped broken reset_said hearing gathered sound record_reply stored_said runs_now course pulse_text positions_text walked_from walked
 ran = (refl, refl, (refl, refl, refl, refl))
 
 -- (12): the board at 8,388,607 and its line
@@ -51,7 +51,7 @@ last = sends (codes "@0A1,600\r") (from (stands_at (pos 8388607)))
 -- (4) to (8) and (12), lines and their replies
 replied : Four × Five × Six × Seven × Eight
     × ((last.replies ≡ codes "9") × (last.board ≡ stands_on 16777215) × (last.memory ≡ no_memory) × (last.refusal ≡ 0))
-unfolding sends ticks within in24 signed word placed added in_speed in_offset in_back in_loop in_delay in_character in_switch in_port in_byte in_zero right_count right_z2 right_distances right_speeds hex_digit hexes twos24 report two_hex decimal digits shown decimals four_digits from_of to_of speed_at skipped next_by pulse_of straightPulse after_of left_of straightLeft pulses steps sign_at count_after goal goal_of goal_z2 first_speed later_speed route going_to plan_of straightPlan counted in_range under_way straightUnderWay behind letter_of after_address direct_of code_of stored_of digits_behind digits_of number_of parted items_of numbers_of bytes4 num_bytes encode word_at words_of front is_code count_right axes_right loop_right ranges_right speeds_right fault_of hasRoom store_of record_at spot_of fetch_of records_from records_of holds share around crosses early overlaps holders outside strays letter checked inside again opens looped aimed onward_of check_of verdict_of sound_of mixed reset_of heard begin_of performed ticked runs_of receiving clocking first reply_of direct_said ear_of returned gathering stopped broken reset_said hearing gathered sound record_reply stored_said runs_now course pulse_text positions_text walked_from walked
+unfolding sends ticks within in24 signed word placed added in_speed in_offset in_back in_loop in_delay in_character in_switch in_port in_byte in_zero right_count right_z2 right_distances right_speeds hex_digit hexes twos24 report two_hex decimal digits shown decimals four_digits from_of to_of speed_at skipped next_by pulse_of straight_pulse after_of left_of straight_left pulses steps sign_at count_after goal goal_of goal_z2 first_speed later_speed route going_to plan_of straight_plan counted in_range under_way straight_under_way behind letter_of after_address direct_of code_of stored_of digits_behind digits_of number_of parted items_of numbers_of bytes4 num_bytes encode word_at words_of front is_code count_right axes_right loop_right ranges_right speeds_right fault_of has_room store_of record_at spot_of fetch_of records_from records_of holds share around crosses early overlaps holders outside strays letter checked inside again opens looped aimed onward_of check_of verdict_of sound_of mixed reset_of heard begin_of performed ticked runs_of receiving clocking first reply_of direct_said ear_of returned gathering stopped broken reset_said hearing gathered sound record_reply stored_said runs_now course pulse_text positions_text walked_from walked
 replied = ((refl, refl, refl), (refl, refl), (refl, refl), refl, refl, (refl, refl, refl, refl))
 
 count-so : 16777215 ≡ count (pos 8388607)

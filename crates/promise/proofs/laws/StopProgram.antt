@@ -13,7 +13,7 @@ use Rattle.line.specs.Lines.{behind, letter_of, after_address, direct_of, code_o
 use Rattle.line.specs.Numbers.{digits_behind, digits_of, number_of, parted, items_of, numbers_of}
 use Rattle.record.specs.Bytes.{bytes4, num_bytes, encode, word_at, words_of, front}
 use Rattle.record.specs.Fault.{is_code, count_right, axes_right, loop_right, ranges_right, speeds_right, fault_of}
-use Rattle.record.specs.Keep.{hasRoom, store_of}
+use Rattle.record.specs.Keep.{has_room, store_of}
 use Rattle.record.specs.Places.{records_from, records_of}
 use Rattle.program.specs.Check.{holds, share, around, crosses, early, overlaps, holders, outside, strays, letter, checked}
 use Rattle.program.specs.Program.{check_of, verdict_of}
@@ -67,7 +67,7 @@ computed : (idles almost.0 ≡ true)
     × ((receiving 13 no_ports almost.0 (lent (replicate 32 0) almost.1)).result.refusal ≡ 0)
     × ((receiving 13 no_ports almost.0 (lent (replicate 32 0) almost.1)).result.len ≡ 0)
     × (program.0.engine.run.job ≡ job.Ready) × (program.0.engine.held.records ≡ 1) × (stoppable program.0 ≡ true)
-unfolding reached within in24 signed word placed added in_speed right_count right_z2 right_distances right_speeds counted behind letter_of after_address direct_of code_of stored_of digits_behind digits_of number_of parted items_of numbers_of bytes4 num_bytes encode word_at words_of front is_code count_right axes_right loop_right ranges_right speeds_right fault_of hasRoom store_of records_from records_of holds share around crosses early overlaps holders outside strays letter checked check_of verdict_of sound_of receiving first reply_of direct_said ear_of returned gathering hearing gathered sound record_reply stored_said
+unfolding reached within in24 signed word placed added in_speed right_count right_z2 right_distances right_speeds counted behind letter_of after_address direct_of code_of stored_of digits_behind digits_of number_of parted items_of numbers_of bytes4 num_bytes encode word_at words_of front is_code count_right axes_right loop_right ranges_right speeds_right fault_of has_room store_of records_from records_of holds share around crosses early overlaps holders outside strays letter checked check_of verdict_of sound_of receiving first reply_of direct_said ear_of returned gathering hearing gathered sound record_reply stored_said
 computed = (refl, refl, refl, refl, refl, refl)
 
 pub program-begun : Begun ours program

@@ -16,7 +16,7 @@ use Rattle.record.specs.declared.Held.{Held}
 use Rattle.record.specs.declared.Record.{Record}
 use Rattle.record.specs.Memory.{Memory, memory}
 use Rattle.record.specs.Bytes.{bytes4, num_bytes, numbers_of, encode}
-use Rattle.record.specs.Keep.{storing, longer, hasRoom, store_of}
+use Rattle.record.specs.Keep.{storing, longer, has_room, store_of}
 use Rattle.record.proofs.laws.Work.{take_short}
 use Rattle.record.specs.work.Put.{head_bytes}
 
@@ -60,9 +60,9 @@ record-put buf h n at code count v room eh b eb en =
 
 -- ---- storing, as the code goes
 
-pub room-so : (h : Held) (n size entries : ℕ) → hasRoom h n size entries ≡ true
+pub room-so : (h : Held) (n size entries : ℕ) → has_room h n size entries ≡ true
     → (h.records + 1 ≤ 1000) × (h.used + n ≤ 16384) × (h.used + n ≤ size) × (h.records + 1 ≤ entries)
-unfolding hasRoom
+unfolding has_room
 room-so h n size entries e =
     let o = and_parts (leb (h.records + 1) 1000 && leb (h.used + n) 16384 && leb (h.used + n) size) (leb (h.records + 1) entries) e in
     let p = and_parts (leb (h.records + 1) 1000 && leb (h.used + n) 16384) (leb (h.used + n) size) o.0 in
@@ -87,11 +87,11 @@ module _ (r : Record) {n : ℕ} (long : length r.words ≡ 8) (e : n ≡ min r.c
       omega arith
 
   module _ (h : Held) (m : Memory) where
-    pub kept-not : hasRoom h (4 + 4 * n) (length m.store) (length m.table) ≡ false → storing (record { stored = false; held = h }) m ≡ store_of h r m
+    pub kept-not : has_room h (4 + 4 * n) (length m.store) (length m.table) ≡ false → storing (record { stored = false; held = h }) m ≡ store_of h r m
     unfolding store_of
     kept-not p = rw (encode-long, p)
 
-    pub kept-so : hasRoom h (4 + 4 * n) (length m.store) (length m.table) ≡ true
+    pub kept-so : has_room h (4 + 4 * n) (length m.store) (length m.table) ≡ true
         → {t : List ℕ} → t ≡ take h.used m.store ++ (head_bytes r.code n ++ num_bytes (take n r.words)) ++ drop (h.used + (4 + 4 * n)) m.store
         → storing (record { stored = true; held = longer h (4 + 4 * n) }) (memory t (set m.table h.records h.used)) ≡ store_of h r m
     unfolding store_of

@@ -12,7 +12,7 @@ use Rattle.record.specs.declared.Record.{Record}
 use Rattle.record.specs.Bytes.{Fetch, Got, End, Wrong, encode, length_of, front}
 use Rattle.record.specs.Memory.{Memory}
 use Rattle.record.specs.Places.{in_use, Records, are, none-are, onto, then, records_from, records_of, is_list, readable_of, encode_all}
-use Rattle.record.specs.Keep.{Storing, storing, longer, hasRoom, with_record, store_of}
+use Rattle.record.specs.Keep.{Storing, storing, longer, has_room, with_record, store_of}
 use Rattle.record.specs.Bytes.{Below}
 use Rattle.record.proofs.laws.Below.{below-append, below-take, below-drop}
 use Rattle.record.proofs.laws.Right.{RightOne, below-encode, right-long, front-encode, front-right-one, front-decode}
@@ -162,7 +162,7 @@ module _ (h : Held) (r : Record) (m : Memory) where
         within = omega arith;
       }
 
-  stored-by : (x : Bool) (l : List Record) → hasRoom h (length (encode r)) (length m.store) (length m.table) ≡ x → Below 256 m.store
+  stored-by : (x : Bool) (l : List Record) → has_room h (length (encode r)) (length m.store) (length m.table) ≡ x → Below 256 m.store
       → records_of h m.store ≡ are l → RightOne h.axes r → (pick x then-kept not-kept).kept.stored ≡ true → Appended h r m l (pick x then-kept not-kept)
   stored-by true l q b e g p =
       let w = room-so h (length (encode r)) (length m.store) (length m.table) q in
@@ -173,7 +173,7 @@ module _ (h : Held) (r : Record) (m : Memory) where
   pub stored-list : (l : List Record) → Below 256 m.store → records_of h m.store ≡ are l → RightOne h.axes r
       → (store_of h r m).kept.stored ≡ true → Appended h r m l (store_of h r m)
   unfolding store_of
-  stored-list l b e g p = stored-by (hasRoom h (length (encode r)) (length m.store) (length m.table)) l refl b e g p
+  stored-list l b e g p = stored-by (has_room h (length (encode r)) (length m.store) (length m.table)) l refl b e g p
 
   refused-by : (x : Bool) (k : Storing) → k.kept.stored ≡ true → (pick x k not-kept).kept.stored ≡ false → pick x k not-kept ≡ not-kept
   refused-by true k q p = absurd (let z : ◌≡◌ {A = ℕ} 0 1 = cc in omega arith)
@@ -182,4 +182,4 @@ module _ (h : Held) (r : Record) (m : Memory) where
   -- a refused record changes nothing
   pub stored-not : (store_of h r m).kept.stored ≡ false → store_of h r m ≡ not-kept
   unfolding store_of
-  stored-not p = refused-by (hasRoom h (length (encode r)) (length m.store) (length m.table)) then-kept refl p
+  stored-not p = refused-by (has_room h (length (encode r)) (length m.store) (length m.table)) then-kept refl p

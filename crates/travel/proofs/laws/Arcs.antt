@@ -28,7 +28,7 @@ use Rattle.circle.specs.declared.Ways.{Ways}
 use Rattle.circle.specs.declared.Arc.{Arc}
 use Rattle.circle.specs.Rule.{first_axis, second_axis, on_axes, side, measure, ways_at, rests, move_of}
 use Rattle.circle.specs.Arc.{arc_signs, arc_beat, with_made, arc_left}
-use Rattle.circle.specs.Plan.{circling, first_ways, ways_fit, centre_of, root_up_to, reach_of, hasRoom, going_by, bend_of}
+use Rattle.circle.specs.Plan.{circling, first_ways, ways_fit, centre_of, root_up_to, reach_of, has_room, going_by, bend_of}
 use Rattle.circle.specs.Sound.{arc_under_way}
 use Rattle.circle.proofs.laws.Beats.{taken as arc-taken, moves, move_at, signs-are}
 use Rattle.travel.specs.declared.Travel.{Travel}
@@ -180,5 +180,5 @@ pub record Example : Type 0 where
   pub plan : planned_paper planned ≡ says 48 (pos 0 ∷ negsuc 0 ∷ negsuc 1 ∷ pos 0 ∷ pos 2 ∷ pos 0 ∷ pos 600 ∷ pos 4 ∷ [])
 
 pub example : Example
-unfolding word signed within in24 in_arc in_start in_zero in_way in_speed right_arc counted step_to side measure ways_at move_of arc_signs arc_beat arc_left first_ways ways_fit centre_of root_up_to reach_of hasRoom going_by bend_of circle_of pulse_of left_of pulses_of
+unfolding word signed within in24 in_arc in_start in_zero in_way in_speed right_arc counted step_to side measure ways_at move_of arc_signs arc_beat arc_left first_ways ways_fit centre_of root_up_to reach_of has_room going_by bend_of circle_of pulse_of left_of pulses_of
 example = record { pulses = refl; plan = refl }

@@ -11,8 +11,8 @@ use Rattle.motion.specs.declared.Beaten.TheVariants as beat
 use Rattle.motion.specs.declared.Look.TheVariants as look
 use Rattle.motion.specs.declared.Next.{Next as StraightNext}
 use Rattle.motion.specs.declared.Next.TheVariants as straight
-use Rattle.motion.specs.work.Here.{next_of as straightOf, within_of as straight_in}
-use Rattle.motion.specs.work.Beat.{beaten as straightBeaten, next_back as straightBack}
+use Rattle.motion.specs.work.Here.{next_of as straight_of, within_of as straight_in}
+use Rattle.motion.specs.work.Beat.{beaten as straight_beaten, next_back as straight_back}
 use Rattle.motion.proofs.laws.Beats.{next-back as straight-next-back}
 use Rattle.circle.specs.declared.Arc.{Arc}
 use Rattle.circle.specs.Arc.{arc_beat}
@@ -36,15 +36,15 @@ never' p = let z : ◌≡◌ {A = ℕ} 0 1 = cc in absurd (omega arith)
 
 -- ---- a pulse without what moves is the same for both kinds
 
-beaten-by : (n : StraightNext) → straightBeaten n ≡ beaten (straight_next n)
+beaten-by : (n : StraightNext) → straight_beaten n ≡ beaten (straight_next n)
 beaten-by (straight.Made s) = refl
 beaten-by straight.Over = refl
 
 -- a straight movement's pulse, and one of its phase
-pub straight-beaten : (m : Move) (at : Counters) → straightBeaten (straightOf m at) ≡ beaten (straight_next (straightOf m at))
-straight-beaten m at = beaten-by (straightOf m at)
+pub straight-beaten : (m : Move) (at : Counters) → straight_beaten (straight_of m at) ≡ beaten (straight_next (straight_of m at))
+straight-beaten m at = beaten-by (straight_of m at)
 
-pub straight-within : (m : Move) (at : Counters) → straightBeaten (straight_in m at) ≡ beaten (straight_next (straight_in m at))
+pub straight-within : (m : Move) (at : Counters) → straight_beaten (straight_in m at) ≡ beaten (straight_next (straight_in m at))
 straight-within m at = beaten-by (straight_in m at)
 
 -- an arc's pulse stands in its one phase
@@ -63,7 +63,7 @@ arc-beaten a at = by (arc_beat a at) refl
 abbrev pub Marked : Travel → Travel → Type 0
 Marked m n = at_mark m (mark_of n) ≡ n
 
-straight-back : (m : Move) (n : StraightNext) → straightBack m (straightBeaten n) ≡ n → next_back (travel.Straight m) (beaten (straight_next n)) ≡ straight_next n
+straight-back : (m : Move) (n : StraightNext) → straight_back m (straight_beaten n) ≡ n → next_back (travel.Straight m) (beaten (straight_next n)) ≡ straight_next n
 straight-back m (straight.Made s) e = ap straight_next e
 straight-back m straight.Over e = refl
 
@@ -74,7 +74,7 @@ arc-back a beat.Over = refl
 -- A PULSE WITH WHAT MOVES is the pulse without it, and what moves at its mark
 pub next-back : (m : Travel) (at : Counters) → next_back m (beaten (next_of m at)) ≡ next_of m at
 unfolding next_of
-next-back (travel.Straight m) at = straight-back m (straightOf m at) (straight-next-back m at)
+next-back (travel.Straight m) at = straight-back m (straight_of m at) (straight-next-back m at)
 next-back (travel.Round a) at = arc-back a (arc_beat a at)
 
 -- what is left after the next pulse

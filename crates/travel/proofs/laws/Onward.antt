@@ -10,9 +10,9 @@ use Rattle.motion.specs.declared.Beaten.TheVariants as beat
 use Rattle.motion.specs.declared.Next.{Next as StraightNext}
 use Rattle.motion.specs.declared.Next.TheVariants as straight
 use Rattle.motion.specs.Phase.{moved_all}
-use Rattle.motion.specs.Next.{pulse_of as straightPulse}
-use Rattle.motion.specs.Sound.{speed_right, counted, under_way as straightUnderWay}
-use Rattle.motion.specs.work.Room.{hasRoom}
+use Rattle.motion.specs.Next.{pulse_of as straight_pulse}
+use Rattle.motion.specs.Sound.{speed_right, counted, under_way as straight_under_way}
+use Rattle.motion.specs.work.Room.{HasRoom}
 use Rattle.motion.proofs.laws.Onward.{next-is-pulse as straight-is-pulse, taken as straight-taken}
 use Rattle.motion.proofs.laws.Passed.{position_in as straight-position}
 use Rattle.circle.specs.declared.Arc.{Arc}
@@ -37,13 +37,13 @@ next-is-pulse (travel.Round a) at u = refl
 -- what a pulse leaves
 pub record Taken (m : Travel) (at : Counters) (s : Stepped) : Type 0 where
   pub there : s.at ≡ moved_all at s.signs
-  pub rooms : hasRoom at s.signs
+  pub rooms : HasRoom at s.signs
   pub speed : speed_right s.speed ≡ true
   pub sound : under_way s.rest s.at ≡ true
   pub small : counted s.at ≡ true
   pub left : left_of m ≡ left_of s.rest + 1
 
-straight-by : (m : Move) (at : Counters) {s : Stepped} → straightUnderWay m at ≡ true → (n : StraightNext) → straightPulse m at ≡ n
+straight-by : (m : Move) (at : Counters) {s : Stepped} → straight_under_way m at ≡ true → (n : StraightNext) → straight_pulse m at ≡ n
     → straight_next n ≡ Made s → Taken (travel.Straight m) at s
 unfolding under_way left_of
 straight-by m at u (straight.Made t) e p =
@@ -61,7 +61,7 @@ arc-by a at u beat.Over e p = never p
 
 pub taken : (m : Travel) (at : Counters) {s : Stepped} → under_way m at ≡ true → pulse_of m at ≡ Made s → Taken m at s
 unfolding under_way pulse_of
-taken (travel.Straight m) at u p = straight-by m at u (straightPulse m at) refl p
+taken (travel.Straight m) at u p = straight-by m at u (straight_pulse m at) refl p
 taken (travel.Round a) at u p = arc-by a at u (arc_beat a at) refl p
 
 -- the next pulse keeps that it passes, and the counters of 24 bits

@@ -12,8 +12,8 @@ use Rattle.motion.specs.declared.Next.{Next as StraightNext}
 use Rattle.motion.specs.declared.Next.TheVariants as straight
 use Rattle.motion.specs.declared.Planned.{Planned as StraightPlan}
 use Rattle.motion.specs.declared.Planned.TheVariants as planned
-use Rattle.motion.specs.Next.{pulse_of as straightPulse, next_paper as straightNextPaper}
-use Rattle.motion.specs.Plan.{Asked, plan_of as straightPlan, planned_paper as straightPaper}
+use Rattle.motion.specs.Next.{pulse_of as straight_pulse, next_paper as straight_next_paper}
+use Rattle.motion.specs.Plan.{Asked, plan_of as straight_plan, planned_paper as straight_paper}
 use Rattle.circle.specs.declared.Circling.{Circling}
 use Rattle.circle.specs.declared.Bent.{Bent}
 use Rattle.circle.specs.declared.Bent.TheVariants as bent
@@ -30,11 +30,11 @@ use Rattle.travel.specs.work.Beat.{next_of, beaten, looked_by, look_of, beaten_p
 use Rattle.travel.proofs.laws.Beats.{next-back}
 
 -- A PULSE of a straight movement says what 01's says
-pub straight-paper : (m : Move) (at : Counters) → next_paper (pulse_of (travel.Straight m) at) ≡ straightNextPaper (straightPulse m at)
+pub straight-paper : (m : Move) (at : Counters) → next_paper (pulse_of (travel.Straight m) at) ≡ straight_next_paper (straight_pulse m at)
 unfolding pulse_of
-straight-paper m at = by (straightPulse m at)
+straight-paper m at = by (straight_pulse m at)
   where
-    by : (n : StraightNext) → next_paper (straight_next n) ≡ straightNextPaper n
+    by : (n : StraightNext) → next_paper (straight_next n) ≡ straight_next_paper n
     by (straight.Made s) = refl
     by straight.Over = refl
 
@@ -55,11 +55,11 @@ look-paper m at = by (under_way m at)
     by false = refl
 
 -- A PLAN says what the straight movement's or the circle's says, and its number is its reply
-pub plan-paper : (q : Asked) → planned_paper (plan_of q) ≡ straightPaper (straightPlan q)
+pub plan-paper : (q : Asked) → planned_paper (plan_of q) ≡ straight_paper (straight_plan q)
 unfolding plan_of
-plan-paper q = by (straightPlan q)
+plan-paper q = by (straight_plan q)
   where
-    by : (p : StraightPlan) → planned_paper (straightly p) ≡ straightPaper p
+    by : (p : StraightPlan) → planned_paper (straightly p) ≡ straight_paper p
     by (planned.Going m) = refl
     by planned.Outside = refl
 

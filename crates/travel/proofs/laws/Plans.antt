@@ -10,7 +10,7 @@ use Rattle.count.specs.Axes.{has}
 use Rattle.motion.specs.declared.Counters.{Counters}
 use Rattle.motion.specs.declared.Planned.{Planned as StraightPlan}
 use Rattle.motion.specs.declared.Planned.TheVariants as straight
-use Rattle.motion.specs.Plan.{Asked, plan_of as straightPlan}
+use Rattle.motion.specs.Plan.{Asked, plan_of as straight_plan}
 use Rattle.motion.specs.Sound.{counted}
 use Rattle.motion.proofs.laws.Plans.{plan-sound as straight-sound}
 use Rattle.motion.proofs.laws.ThreeD.{SameButZ2, with_words, right_asked, three-plan as straight-three}
@@ -34,14 +34,14 @@ never : {A : Type 0} {b : ℕ} {t : Travel} → Refused b ≡ Going t → A
 never p = let z : ◌≡◌ {A = ℕ} 0 1 = cc in absurd (omega arith)
 
 -- A STRAIGHT MOVEMENT planned from counters of 24 bits
-straight-by : (q : Asked) (m : Travel) → counted q.at ≡ true → (p : StraightPlan) → straightPlan q ≡ p → straightly p ≡ Going m → under_way m q.at ≡ true
+straight-by : (q : Asked) (m : Travel) → counted q.at ≡ true → (p : StraightPlan) → straight_plan q ≡ p → straightly p ≡ Going m → under_way m q.at ≡ true
 unfolding under_way
 straight-by q m c (straight.Going k) e p = rw (same p) (straight-sound q k c e)
 straight-by q m c straight.Outside e p = never p
 
 pub plan-sound : (q : Asked) (m : Travel) → counted q.at ≡ true → plan_of q ≡ Going m → under_way m q.at ≡ true
 unfolding plan_of
-plan-sound q m c p = straight-by q m c (straightPlan q) refl p
+plan-sound q m c p = straight-by q m c (straight_plan q) refl p
 
 -- A CIRCLE
 round_by : (axes : ℕ) (c : Circling) (at : Counters) (l : List ℕ) (m : Travel) (p : Bent) → bend_of axes c at l ≡ p → roundly p ≡ Going m → under_way m at ≡ true

@@ -18,11 +18,11 @@ use Rattle.motion.specs.declared.Stepped.{Stepped as StraightStepped}
 use Rattle.motion.specs.declared.Next.{Next as StraightNext}
 use Rattle.motion.specs.declared.Next.TheVariants as straight
 use Rattle.motion.specs.Phase.{moved_all, sign_value}
-use Rattle.motion.specs.Next.{pulse_of as straightPulse}
+use Rattle.motion.specs.Next.{pulse_of as straight_pulse}
 use Rattle.motion.specs.Axes.{on, shows}
-use Rattle.motion.specs.work.Room.{room, hasRoom}
+use Rattle.motion.specs.work.Room.{RoomFor, HasRoom}
 use Rattle.motion.proofs.laws.Points.{on-moved}
-use Rattle.motion.proofs.laws.Whole.{over-left as straight-over, none_left as straight_none, value-moved, pulses_of as straightPulses, pulse_then as straightThen}
+use Rattle.motion.proofs.laws.Whole.{over-left as straight-over, none_left as straight_none, value-moved, pulses_of as straight_pulses, pulse_then as straight_then}
 use Rattle.circle.specs.declared.Arc.{Arc}
 use Rattle.circle.specs.Arc.{arc_beat}
 use Rattle.circle.proofs.laws.Beats.{over-left as arc-over, none_left as arc-none}
@@ -47,7 +47,7 @@ arc-by a beat.Over p = refl
 -- where none is made, none is left; an arc that 103 refuses may have none that it can make
 pub over-left : (m : Travel) (at : Counters) → under_way m at ≡ true → pulse_of m at ≡ Over → left_of m ≡ 0
 unfolding under_way pulse_of left_of
-over-left (travel.Straight m) at u p = straight-over m at (straight-by (straightPulse m at) p)
+over-left (travel.Straight m) at u p = straight-over m at (straight-by (straight_pulse m at) p)
 over-left (travel.Round a) at u p = arc-over a at u (arc-by a (arc_beat a at) p)
 
 -- where none is left, none is made
@@ -83,9 +83,9 @@ total a [] = pos 0
 total a (s ∷ l) = sign_value (shows a s.signs) +ℤ total a l
 
 -- a pulse's sign is its number added to the axis's
-pub value-pulsed : (i : Axis) (at : Counters) (s : Signs) → hasRoom at s → value (on i (moved_all at s)) ≡ value (on i at) +ℤ sign_value (shows i s)
+pub value-pulsed : (i : Axis) (at : Counters) (s : Signs) → HasRoom at s → value (on i (moved_all at s)) ≡ value (on i at) +ℤ sign_value (shows i s)
 value-pulsed i at s r =
-    ap value (on-moved at s i) ∙ value-moved (on i at) (shows i s) (each_at (λ (j : Axis). room (on j at) (shows j s)) r i)
+    ap value (on-moved at s i) ∙ value-moved (on i at) (shows i s) (each_at (λ (j : Axis). RoomFor (on j at) (shows j s)) r i)
 
 -- ---- the first k pulses of what 103 lets pass
 
@@ -180,12 +180,12 @@ no_more j m at u = more-from j (left_of m) m at u refl
 abbrev pub straight_step : StraightStepped → Stepped
 straight_step s = record { signs = s.signs; speed = s.speed; at = s.at; rest = travel.Straight s.rest }
 
-straight_then : (k : ℕ) → ((m : Move) (at : Counters) → pulses_of k (travel.Straight m) at ≡ map straight_step (straightPulses k m at)) → (n : StraightNext)
-    → pulse_then (pulses_of k) (straight_next n) ≡ map straight_step (straightThen (straightPulses k) n)
-straight_then k rec (straight.Made s) = ap (λ (l : List Stepped). straight_step s ∷ l) (rec s.rest s.at)
-straight_then k rec straight.Over = refl
+straight_then-is : (k : ℕ) → ((m : Move) (at : Counters) → pulses_of k (travel.Straight m) at ≡ map straight_step (straight_pulses k m at)) → (n : StraightNext)
+    → pulse_then (pulses_of k) (straight_next n) ≡ map straight_step (straight_then (straight_pulses k) n)
+straight_then-is k rec (straight.Made s) = ap (λ (l : List Stepped). straight_step s ∷ l) (rec s.rest s.at)
+straight_then-is k rec straight.Over = refl
 
-pub straight-pulses : (k : ℕ) (m : Move) (at : Counters) → pulses_of k (travel.Straight m) at ≡ map straight_step (straightPulses k m at)
-unfolding pulses_of straightPulses pulse_of
+pub straight-pulses : (k : ℕ) (m : Move) (at : Counters) → pulses_of k (travel.Straight m) at ≡ map straight_step (straight_pulses k m at)
+unfolding pulses_of straight_pulses pulse_of
 straight-pulses zero m at = refl
-straight-pulses (suc k) m at = straight_then k (straight-pulses k) (straightPulse m at)
+straight-pulses (suc k) m at = straight_then-is k (straight-pulses k) (straight_pulse m at)

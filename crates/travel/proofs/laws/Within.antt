@@ -8,7 +8,7 @@ use Rattle.motion.specs.declared.Beaten.TheVariants as beat
 use Rattle.motion.specs.declared.Next.{Next as StraightNext}
 use Rattle.motion.specs.declared.Next.TheVariants as straight
 use Rattle.motion.specs.work.Here.{within_of as straight_in}
-use Rattle.motion.specs.work.Made.{made as straightMade}
+use Rattle.motion.specs.work.Made.{made as straight_made}
 use Rattle.motion.proofs.laws.Within.{within-next as straight-next, within-rest as straight-rest}
 use Rattle.circle.specs.declared.Arc.{Arc}
 use Rattle.circle.specs.Arc.{arc_beat}
@@ -19,7 +19,7 @@ use Rattle.travel.specs.Next.Next.{Made}
 use Rattle.travel.specs.work.Beat.{next_of, within_of, made, made_of, with_made}
 use Rattle.travel.proofs.laws.Beats.{same, never}
 
-made_by : (n : StraightNext) → straightMade n ≡ made (straight_next n)
+made_by : (n : StraightNext) → straight_made n ≡ made (straight_next n)
 made_by (straight.Made s) = refl
 made_by straight.Over = refl
 

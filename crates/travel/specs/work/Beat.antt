@@ -12,8 +12,8 @@ use Rattle.motion.specs.declared.Beaten.TheVariants as beat
 use Rattle.motion.specs.declared.Look.{Look}
 use Rattle.motion.specs.declared.Look.TheVariants as look
 use Rattle.motion.specs.Next.{at_phase}
-use Rattle.motion.specs.work.Here.{next_of as straightOf, within_of as straight_in}
-use Rattle.circle.specs.Arc.{arc_beat, with_made as arcMade}
+use Rattle.motion.specs.work.Here.{next_of as straight_of, within_of as straight_in}
+use Rattle.circle.specs.Arc.{arc_beat, with_made as arc_made}
 use Rattle.travel.specs.declared.Travel.{Travel}
 use Rattle.travel.specs.declared.Travel.TheVariants as travel
 use Rattle.travel.specs.Next.{Stepped, Next, straight_next, arc_next, next_paper}
@@ -22,7 +22,7 @@ use Rattle.travel.specs.Sound.{under_way}
 
 -- the next pulse, and the next of the phase under way; an arc has one phase
 unfoldable pub next_of : Travel → Counters → Next
-next_of (travel.Straight m) at = straight_next (straightOf m at)
+next_of (travel.Straight m) at = straight_next (straight_of m at)
 next_of (travel.Round a) at = arc_next a (arc_beat a at)
 
 unfoldable pub within_of : Travel → Counters → Next
@@ -41,7 +41,7 @@ made_of (travel.Round a) = a.made
 
 abbrev pub with_made : Travel → ℕ → Travel
 with_made (travel.Straight m) k = travel.Straight (at_phase m m.phase k)
-with_made (travel.Round a) k = travel.Round (arcMade a k)
+with_made (travel.Round a) k = travel.Round (arc_made a k)
 
 abbrev pub mark_of : Travel → Mark
 mark_of (travel.Straight m) = record { phase = m.phase; made = m.made }
@@ -49,7 +49,7 @@ mark_of (travel.Round a) = record { phase = 0; made = a.made }
 
 abbrev pub at_mark : Travel → Mark → Travel
 at_mark (travel.Straight m) k = travel.Straight (at_phase m k.phase k.made)
-at_mark (travel.Round a) k = travel.Round (arcMade a k.made)
+at_mark (travel.Round a) k = travel.Round (arc_made a k.made)
 
 -- a pulse without what moves, and with it
 abbrev pub beat_of : Stepped → Beat

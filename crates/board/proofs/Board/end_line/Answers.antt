@@ -1,0 +1,20 @@
+-- `board::Board::end_line` meets its contract. Assumes nothing.
+use Rattle.record.specs.Memory.{memory}
+use Rattle.board.proofs.laws.Hears.{return-over, return-stored, return-direct}
+use borrow.Author.Rules.{rules}
+use Rattle.board.proofs.Board.end_line.Goals as goal
+
+pub returns-then-l : goal.returns-then-l
+returns-then-l c =
+    let a = c.args in
+    return-over a.ports a.self (memory a.store.now a.table.now) c.if-l.true c.replies.ensures
+
+pub returns-then-is_storing-self : goal.returns-then-is_storing-self
+returns-then-is_storing-self c =
+    let a = c.args in
+    return-stored a.ports a.self (memory a.store.now a.table.now) c.if-l.false c.is_storing.ensures c.if-is_storing-self.true c.store_line.ensures
+
+pub returns : goal.returns
+returns c =
+    let a = c.args in
+    return-direct a.ports a.self (memory a.store.now a.table.now) c.if-l.false c.is_storing.ensures c.if-is_storing-self.false c.as_direct.ensures c.obey.ensures

@@ -1,0 +1,20 @@
+-- `board::Board::list` meets its contract. Assumes nothing.
+use mathlib.Core.Bool.{not}
+use mathlib.Core.Path.{ap}
+use mathlib.Core.Path.{sym, ◌∙◌}
+use borrow.Author.Tests.{eq-eqb, ne_eqb, not-false}
+use Rattle.board.specs.Calls.{listing}
+use Rattle.board.proofs.laws.Hears.{listed-so}
+use borrow.Author.Rules.{rules}
+use Rattle.board.proofs.Board.list.Goals as goal
+
+pub returns-then-store-ne16384 : goal.returns-then-store-ne16384
+unfolding listing
+returns-then-store-ne16384 c = simp (ne_eqb _ _ c.if-store-ne16384.true, c.unlisted.ensures)
+
+pub returns-then-not-sound : goal.returns-then-not-sound
+unfolding listing
+returns-then-not-sound c = simp (eq-eqb _ _ c.if-store-ne16384.false, ← c.sound.ensures, (ap not c.if-not-sound.true), c.unlisted-then-not-sound.ensures)
+
+pub returns : goal.returns
+returns c = listed-so c.args.self c.args.store.now c.args.text.now c.if-store-ne16384.false (sym c.sound.ensures ∙ c.if-not-sound.false) c.list.ensures

@@ -1,0 +1,19 @@
+-- `board::Line::gather_all` meets its contract. The invariant: what the whole input comes to is what its rest comes to, on the line so far.
+-- The measure is what is left of the input. Assumes nothing.
+use Prim.Native.Nat.{◌≤◌, ◌-◌}
+use mathlib.Core.Path.{◌≡◌, sym, ◌∙◌}
+use mathlib.Core.Logic.{⊎_elim}
+use borrow.Author.Tests.{lt-ltb, le-ltb}
+use lib.ListN.{length, drop}
+use Rattle.board.specs.State.{gathered}
+use Rattle.board.specs.work.Take.{lined_of}
+use Rattle.board.proofs.laws.Takes.{lined_from, lined-first, lined-stop, lined-next, lined-end}
+use borrow.Author.Rules.{rules}
+use Rattle.board.proofs.Line.gather_all.Given as goal
+
+abbrev pub invariant-loop-i : goal.invariant-loop-i
+invariant-loop-i l = (l.i ≤ length l.input)
+    × (lined_of l.input record { bytes = l.initial.bytes; len = l.initial.len; over = l.initial.over } ≡ lined_from l.i (drop l.i l.input) record { bytes = l.bytes; len = l.len; over = l.over })
+
+abbrev pub decreases-loop-i : goal.decreases-loop-i
+decreases-loop-i l = length l.input - l.i

@@ -1,0 +1,6 @@
+-- `circle::beats::is_counted_pair` meets its contract. Assumes nothing.
+use borrow.Author.Rules.{rules}
+use Rattle.circle.proofs.beats.is_counted_pair.Goals as goal
+
+pub returns : goal.returns
+returns c = cc

@@ -1,0 +1,8 @@
+-- `circle::plan::first_ways` meets its contract. Assumes nothing.
+use borrow.Author.Rules.{rules}
+use Rattle.circle.specs.Plan.{first_ways}
+use Rattle.circle.proofs.plan.first_ways.Goals as goal
+
+pub returns : goal.returns
+unfolding first_ways
+returns c = rw (c.or_else-second.ensures, c.or_else-first.ensures, c.ways_of-later.ensures, c.shifted_by.ensures.0, c.ways_of-w.ensures, c.at_centre-centre.ensures)

@@ -1,0 +1,6 @@
+-- `course::Walk::new` meets its contract. Assumes nothing.
+use borrow.Author.Rules.{rules}
+use Rattle.course.proofs.Walk.new.Goals as goal
+
+pub returns : goal.returns
+returns c = rw c.fresh-board.ensures

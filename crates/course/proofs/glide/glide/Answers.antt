@@ -1,0 +1,9 @@
+-- `course::glide` meets its contract: by the kind. Assumes nothing.
+use borrow.Author.Rules.{rules}
+use Rattle.course.proofs.glide.glide.Goals as goal
+
+pub returns-in-Straight : goal.returns-in-Straight
+returns-in-Straight c = rw c.in-Straight.is c.glide_straight.ensures
+
+pub returns-in-Round : goal.returns-in-Round
+returns-in-Round c = rw c.in-Round.is c.glide_round.ensures

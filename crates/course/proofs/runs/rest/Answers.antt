@@ -1,0 +1,6 @@
+-- `course::rest` meets its contract. Assumes nothing.
+use borrow.Author.Rules.{rules}
+use Rattle.course.proofs.runs.rest.Goals as goal
+
+pub returns : goal.returns
+returns c = rw c.runs_now.ensures

@@ -1,0 +1,21 @@
+-- `course::put_sent` meets its contract. Assumes nothing.
+use mathlib.Core.Path.{◌≡◌, refl, sym, ap, ◌∙◌}
+use mathlib.Core.List.{List, [], ◌∷◌, ◌++◌}
+use native.Mathlib.Omega.{arith}
+use lib.ListN.{length, drop, length-set}
+use lib.Seq.{sets-eq}
+use Rattle.course.specs.work.Work.{Wrote}
+use borrow.Author.Rules.{rules}
+use Rattle.course.proofs.text.put_sent.Goals as goal
+
+pub bounds-out-1 : goal.bounds-out-1
+bounds-out-1 c = simp length-set (omega arith)
+
+pub bounds-out-2 : goal.bounds-out-2
+bounds-out-2 c = simp length-set (omega arith)
+
+pub bounds-out-3 : goal.bounds-out-3
+bounds-out-3 c = simp length-set (omega arith)
+
+pub returns : goal.returns
+returns c = (record { long = refl; text = sets-eq (_ ∷ _ ∷ _ ∷ _ ∷ []) c.args.out.now 0 (omega arith) }, omega arith)

@@ -1,0 +1,6 @@
+-- `engine::Engine::empty` meets its contract. Assumes nothing.
+use borrow.Author.Rules.{rules}
+use Rattle.engine.proofs.Engine.empty.Goals as goal
+
+pub returns : goal.returns
+returns c = simp (c.held_none.ensures, c.set_held.ensures)

@@ -1,0 +1,6 @@
+-- `engine::Engine::fail` meets its contract. Assumes nothing.
+use borrow.Author.Rules.{rules}
+use Rattle.engine.proofs.Engine.fail.Goals as goal
+
+pub returns : goal.returns
+returns c = simp (c.empty.ensures, c.finish.ensures)

@@ -1,0 +1,6 @@
+-- `engine::Engine::finish` meets its contract. Assumes nothing.
+use borrow.Author.Rules.{rules}
+use Rattle.engine.proofs.Engine.finish.Goals as goal
+
+pub returns : goal.returns
+returns c = simp (c.cease.ensures, c.tell.ensures)

@@ -1,0 +1,6 @@
+-- `engine::Engine::origin_at` meets its contract. Assumes nothing.
+use borrow.Author.Rules.{rules}
+use Rattle.engine.proofs.Engine.origin_at.Goals as goal
+
+pub returns : goal.returns
+returns c = simp c.mix-origin.ensures

@@ -1,0 +1,6 @@
+-- `engine::Engine::pulse` meets its contract. Assumes nothing.
+use borrow.Author.Rules.{rules}
+use Rattle.engine.proofs.Engine.pulse.Goals as goal
+
+pub returns : goal.returns
+returns c = rw c.tell.ensures

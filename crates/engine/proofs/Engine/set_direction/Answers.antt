@@ -1,0 +1,6 @@
+-- `engine::Engine::set_direction` meets its contract. Assumes nothing.
+use borrow.Author.Rules.{rules}
+use Rattle.engine.proofs.Engine.set_direction.Goals as goal
+
+pub returns : goal.returns
+returns c = simp (c.direction_of-direction.ensures, c.with_circling.ensures)

@@ -1,0 +1,6 @@
+-- `engine::Engine::turn` meets its contract. Assumes nothing.
+use borrow.Author.Rules.{rules}
+use Rattle.engine.proofs.Engine.turn.Goals as goal
+
+pub returns : goal.returns
+returns c = simp (c.circle-plan.ensures, c.travel_by.ensures)

@@ -1,0 +1,6 @@
+-- `program::is_turn` meets its contract. Assumes nothing.
+use borrow.Author.Rules.{rules}
+use Rattle.program.proofs.arrays.is_turn.Goals as goal
+
+pub returns : goal.returns
+returns c = cc

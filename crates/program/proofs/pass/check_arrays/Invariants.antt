@@ -1,0 +1,16 @@
+-- `program::check_arrays` meets its contract. Assumes nothing.
+use Prim.Native.Nat.{◌-◌, ◌≤◌}
+use mathlib.Core.Path.{◌≡◌}
+use native.Mathlib.Omega.{arith}
+use lib.ListN.{length, length-set}
+use Rattle.program.specs.work.Work.{loop_in, far_in}
+use Rattle.program.specs.work.Ranges.{Counts}
+use Rattle.program.proofs.Notes.{counts-none, counts-more, counts_all}
+use borrow.Author.Rules.{rules}
+use Rattle.program.proofs.pass.check_arrays.Given as goal
+
+abbrev pub invariant-loop-i : goal.invariant-loop-i
+invariant-loop-i l = (l.i ≤ l.n) × (length l.notes ≡ 1000) × Counts (loop_in l.kinds) (far_in l.offsets) l.notes l.i
+
+abbrev pub decreases-loop-i : goal.decreases-loop-i
+decreases-loop-i l = l.n - l.i

@@ -1,0 +1,15 @@
+-- `program::first_back` meets its contract. Assumes nothing.
+use Prim.Native.Nat.{◌-◌, ◌≤◌}
+use mathlib.Core.Path.{sym, ◌∙◌}
+use native.Mathlib.Omega.{arith}
+use Rattle.program.specs.work.Work.{loop_in, far_in}
+use Rattle.program.specs.work.Ranges.{reach}
+use Rattle.program.proofs.laws.Backs.{Passed, passed_none, first-hit, first-end, passed_on, entry_of}
+use borrow.Author.Rules.{rules}
+use Rattle.program.proofs.ranges.first_back.Given as goal
+
+abbrev pub invariant-loop-i : goal.invariant-loop-i
+invariant-loop-i l = (l.k ≤ l.i) × (l.i ≤ l.n) × Passed (reach (loop_in l.kinds) (far_in l.offsets) l.s) l.k l.i
+
+abbrev pub decreases-loop-i : goal.decreases-loop-i
+decreases-loop-i l = l.n - l.i

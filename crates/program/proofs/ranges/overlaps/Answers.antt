@@ -1,0 +1,21 @@
+-- `program::overlaps` meets its contract. Assumes nothing.
+use native.Mathlib.Omega.{arith}
+use Rattle.program.proofs.Notes.{backs-from}
+use Rattle.program.proofs.laws.Backs.{asked-off, asked-late, asked-first}
+use borrow.Author.Rules.{rules}
+use Rattle.program.proofs.ranges.overlaps.Goals as goal
+
+pub first_back-requires : goal.first_back-requires
+first_back-requires c =
+    (backs-from _ _ _ _ 0 _ (omega arith) c.requires.0, omega arith, omega arith)
+
+pub returns-then-k-p : goal.returns-then-k-p
+returns-then-k-p c =
+    asked-first _ _ _ c.is_loop.ensures c.if-is_loop.true c.far-f.ensures c.place_of-k.ensures _ _ c.requires.1 c.first_back.ensures
+
+pub returns-else-k-p : goal.returns-else-k-p
+returns-else-k-p c =
+    asked-late _ _ _ c.is_loop.ensures c.if-is_loop.true c.far-f.ensures c.place_of-k.ensures c.if-k-p.false
+
+pub returns-else-is_loop : goal.returns-else-is_loop
+returns-else-is_loop c = asked-off _ _ _ c.is_loop.ensures c.if-is_loop.false

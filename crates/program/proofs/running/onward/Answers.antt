@@ -1,0 +1,7 @@
+-- `program::onward` meets its contract. Assumes nothing.
+use Rattle.program.proofs.laws.Leaps.{leap-way}
+use borrow.Author.Rules.{rules}
+use Rattle.program.proofs.running.onward.Goals as goal
+
+pub returns : goal.returns
+returns c = leap-way _ _ _ _ c.leap-w.ensures c.loops.ensures

@@ -1,0 +1,9 @@
+-- `travel::Travel::with_made` meets its contract. Assumes nothing.
+use borrow.Author.Rules.{rules}
+use Rattle.travel.proofs.Travel.with_made.Goals as goal
+
+pub returns-in-Straight : goal.returns-in-Straight
+returns-in-Straight c = rw (c.at_mark.ensures, c.in-Straight.is)
+
+pub returns-in-Round : goal.returns-in-Round
+returns-in-Round c = rw (c.with_made.ensures, c.in-Round.is)

@@ -1,5 +1,6 @@
 // Numbers of 24 bits as counts, numbers of lines and records as words, their ranges and their text.
 #![tactic(auto)]
+
 ghost use Rattle.std.specs.Prelude.{◌≡◌, ◌<◌, ltb, pos};
 ghost use Rattle.count.specs.Pick.{pick};
 ghost use Rattle.count.specs.Numbers.{full, value, signed, word, with_sign, placed, added, far};

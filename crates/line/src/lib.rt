@@ -1,7 +1,6 @@
 // What a line says: its letter or code and its numbers, or that its shape is wrong.
 #![tactic(auto)]
 
-
 mod codes;
 mod letters;
 mod numbers;

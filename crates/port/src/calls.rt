@@ -14,8 +14,7 @@ use board::Board;
 use engine::{Act, Answer};
 
 // A fresh board.
-#[unsafe(no_mangle)]
-pub extern "C" fn board_fresh() -> State
+pub fn board_fresh() -> State
     ensures { result ≡ fresh_state }
 {
     State::blank().with_board(Board::fresh())
@@ -88,8 +87,7 @@ fn tick(state: State, store: &[u8], table: &[u16]) -> Clocked
     clocked(state.with_engine(engine), answer, 0)
 }
 
-#[unsafe(no_mangle)]
-pub extern "C" fn board_clock(state: State, store: &[u8], table: &[u16]) -> Clocked
+pub fn board_clock(state: State, store: &[u8], table: &[u16]) -> Clocked
     ensures { result ≡ clocking_state state (memory store.now table.now) }
 {
     if store.len() != 16384 {
@@ -127,8 +125,7 @@ fn ports_of(w: u32) -> [u8; 4]
     [low(w), low(w / 256), low(w / 65536), low(w / 16777216)]
 }
 
-#[unsafe(no_mangle)]
-pub extern "C" fn board_receive(
+pub fn board_receive(
     state: State,
     byte: u8,
     ports: u32,
@@ -170,8 +167,7 @@ fn written(state: State, len: u32, refusal: u16) -> Written
     }
 }
 
-#[unsafe(no_mangle)]
-pub extern "C" fn board_list(state: State, store: &[u8], text: &mut [u8]) -> Written
+pub fn board_list(state: State, store: &[u8], text: &mut [u8]) -> Written
     ensures { listed result text.new ≡ listing_state state store.now text.old }
 {
     if store.len() != 16384 {
@@ -200,8 +196,7 @@ fn shown(state: State, board: Board, runs: bool, refusal: u16) -> Shown
     }
 }
 
-#[unsafe(no_mangle)]
-pub extern "C" fn board_show(state: State) -> Shown
+pub fn board_show(state: State) -> Shown
     ensures { result ≡ showing state }
 {
     let board = state.open();

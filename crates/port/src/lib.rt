@@ -1,5 +1,7 @@
 // The board for C: its state as a plain struct of numbers, and each call over it. Nothing here decides what a board does: a state is read
 // as a board, the board's own call is made, and what it changed is written back.
+#![tactic(auto)]
+
 mod answers;
 mod calls;
 mod code;

@@ -11,14 +11,7 @@ use record::Held;
 use sheet::Axis;
 
 // The table of a store that was kept, or the refusal: 102, 104, or G for a store that cannot be read.
-#[unsafe(no_mangle)]
-pub extern "C" fn board_fill(
-    used: u16,
-    records: u16,
-    axes: u8,
-    store: &[u8],
-    table: &mut [u16],
-) -> u16
+pub fn board_fill(used: u16, records: u16, axes: u8, store: &[u8], table: &mut [u16]) -> u16
     ensures { filling result table.new ≡ fill_of (held used records axes) (memory store.now table.old) }
 {
     let part = Held {
@@ -30,8 +23,7 @@ pub extern "C" fn board_fill(
 }
 
 // A second program put behind a first, whose part in use, store and table are the destination; or the refusal, and they stay.
-#[unsafe(no_mangle)]
-pub extern "C" fn board_join(
+pub fn board_join(
     used: &mut u16,
     records: &mut u16,
     axes: &mut u8,
@@ -63,8 +55,7 @@ pub extern "C" fn board_join(
 }
 
 // Distances in thousandths of a mm as relative distances in steps, for an axis of this lead, these steps per turn and this gear.
-#[unsafe(no_mangle)]
-pub extern "C" fn board_chain(
+pub fn board_chain(
     lead: f64,
     steps: f64,
     gear: f64,

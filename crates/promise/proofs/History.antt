@@ -67,8 +67,8 @@ clock-allowed mem b = record {
 pub byte-allowed : (v : ℕ) (ports : List ℕ) (l : Lent) (b : Board) → Hears v ports l b (receiving v ports b l)
 byte-allowed v ports l b = record {
   κs = ([], ([], ([], tt)));
-  args = (b, (v, (ports, (record { ref_ptr = (0, 0); now = l.reply }, (record { ref_ptr = (0, 0); now = l.memory.store }, (record { ref_ptr = (0, 0); now = l.memory.table }, tt))))));
-  last = (b, (v, (ports, (record { ref_ptr = (0, 0); now = (receiving v ports b l).after.reply }, (record { ref_ptr = (0, 0); now = (receiving v ports b l).after.memory.store }, (record { ref_ptr = (0, 0); now = (receiving v ports b l).after.memory.table }, tt))))));
+  args = (b, (v, (ports, (record { ref_ptr = (0, 0); ghost_name = 0; now = l.reply }, (record { ref_ptr = (0, 0); ghost_name = 0; now = l.memory.store }, (record { ref_ptr = (0, 0); ghost_name = 0; now = l.memory.table }, tt))))));
+  last = (b, (v, (ports, (record { ref_ptr = (0, 0); ghost_name = 0; now = (receiving v ports b l).after.reply }, (record { ref_ptr = (0, 0); ghost_name = 0; now = (receiving v ports b l).after.memory.store }, (record { ref_ptr = (0, 0); ghost_name = 0; now = (receiving v ports b l).after.memory.table }, tt))))));
   self = refl;
   given = refl;
   inputs = refl;

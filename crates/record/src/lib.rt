@@ -1,7 +1,6 @@
 // Records of the store: what is wrong with one, its bytes, its place, the table of the places, storing it, listing it.
 #![tactic(auto)]
 
-
 mod bytes;
 mod fault;
 mod keep;

@@ -45,12 +45,11 @@ overflow_add-size c =
 
 pub loop-i-preserved : goal.loop-i-preserved
 unfolding reading
-loop-i-preserved c =
-    (
-      omega arith,
-      digit-more _ _ _ c.loop-i.invariant.1 (omega arith),
-      c.loop-i.invariant.2 ∙ search (tests, next, c.wide.ensures),
-    )
+loop-i-preserved c = (
+  omega arith,
+  digit-more _ _ _ c.loop-i.invariant.1 (omega arith),
+  c.loop-i.invariant.2 ∙ search (tests, next, c.wide.ensures),
+)
 
 pub returns-then-digits-eq0-2 : goal.returns-then-digits-eq0-2
 unfolding reading

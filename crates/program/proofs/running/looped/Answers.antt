@@ -20,5 +20,5 @@ pub returns : goal.returns
 unfolding looped
 returns c =
     let last : ltb 0 c.args.loops.depth && eqb (last_of c.args.loops).place c.args.place ≡ false =
-        elim c.if-depth-gt0.branch [ then-depth-gt0+else-last-place w ↦ last-other c.args.loops _ w.entry-last.ensures w.if-last-place.false | else-depth-gt0 w ↦ none_open c.args.loops _ w.if-depth-gt0.false ] in
+    elim c.if-depth-gt0.branch [ then-depth-gt0+else-last-place w ↦ last-other c.args.loops _ w.entry-last.ensures w.if-last-place.false | else-depth-gt0 w ↦ none_open c.args.loops _ w.if-depth-gt0.false ] in
     c.opens.ensures ∙ rw (le-ltb _ _ c.if-depth-gt7.false, last)

@@ -15,12 +15,11 @@ unfolding num_bytes
 loop-i-init c = search rules
 
 pub loop-i-preserved : goal.loop-i-preserved
-loop-i-preserved c =
-    (
-      omega arith,
-      same_len_mid (4 * c.loop-i.i) (length c.loop-i.s - 4 * c.loop-i.i) c.loop-i.s c.put_number.new.s c.put_number.auto.s ∙ c.loop-i.invariant.1,
-      put-more c.args.s.now c.loop-i.s c.put_number.new.s c.args.words c.loop-i.i (search rules) c.loop-i.invariant.2 refl c.put_number.ensures,
-    )
+loop-i-preserved c = (
+  omega arith,
+  same_len_mid (4 * c.loop-i.i) (length c.loop-i.s - 4 * c.loop-i.i) c.loop-i.s c.put_number.new.s c.put_number.auto.s ∙ c.loop-i.invariant.1,
+  put-more c.args.s.now c.loop-i.s c.put_number.new.s c.args.words c.loop-i.i (search rules) c.loop-i.invariant.2 refl c.put_number.ensures,
+)
 
 pub returns : goal.returns
 returns c =

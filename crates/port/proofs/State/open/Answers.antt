@@ -1,0 +1,6 @@
+-- `port::State::open` meets its contract. Assumes nothing.
+use borrow.Author.Rules.{rules}
+use Rattle.port.proofs.State.open.Goals as goal
+
+pub returns : goal.returns
+returns c = cc

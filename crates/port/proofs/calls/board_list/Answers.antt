@@ -1,0 +1,22 @@
+-- `port::calls::board_list` meets its contract. Assumes nothing.
+use mathlib.Core.Bool.{not}
+use mathlib.Core.Path.{sym, ap, ◌∙◌}
+use borrow.Author.Tests.{eq-eqb, ne_eqb, not-false}
+use borrow.Author.Rules.{rules}
+use Rattle.port.specs.Calls.{listed}
+use Rattle.port.specs.Calls.{listing_state}
+use Rattle.port.proofs.laws.Calls.{listed-so}
+use Rattle.port.proofs.calls.board_list.Goals as goal
+
+pub returns-then-store-ne16384 : goal.returns-then-store-ne16384
+unfolding listing_state
+returns-then-store-ne16384 c = simp (ne_eqb _ _ c.if-store-ne16384.true, c.written.ensures)
+
+pub returns-then-not-is_known : goal.returns-then-not-is_known
+unfolding listing_state
+returns-then-not-is_known c = simp (eq-eqb _ _ c.if-store-ne16384.false, ← c.is_known.ensures, (ap not c.if-not-is_known.true), c.written-then-not-is_known.ensures)
+
+pub returns : goal.returns
+returns c = let a = c.args in
+    ap (λ x. listed x c.list-t.new.text) c.written-2.ensures
+    ∙ listed-so a.state (sym c.is_known.ensures ∙ c.if-not-is_known.false) c.«open».ensures a.store.now a.text.now c.if-store-ne16384.false c.list-t.ensures

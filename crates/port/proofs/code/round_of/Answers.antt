@@ -1,0 +1,6 @@
+-- `port::code::round_of` meets its contract. Assumes nothing.
+use borrow.Author.Rules.{rules}
+use Rattle.port.proofs.code.round_of.Goals as goal
+
+pub returns : goal.returns
+returns c = cc

@@ -14,7 +14,7 @@ int64_t __sysv_signal(int32_t signal, int64_t what) {
     return 0;
 }
 
-/* The program begins by looking whether the kit's own processor has all that it was compiled for. Here it is compiled for another. */
+/* The program begins by looking what the kit's own processor has, which bench/object then makes no matter. */
 static const uint32_t all[8] = {~0u, ~0u, ~0u, ~0u, ~0u, ~0u, ~0u, ~0u};
 const uint32_t *__x86_get_cpuid_feature_leaf(uint32_t leaf) {
     (void)leaf;

@@ -1,5 +1,5 @@
 -- A line outside storing: the table of replies and the effects (01, "Lines", both tables; 02, §3 for e, f and y).
-use Rattle.std.specs.Prelude.{ℕ, Bool, true, false, not, ◌&&◌, ◌||◌, List, [], ◌∷◌, ◌++◌, eqb, get_or}
+use Rattle.std.specs.Prelude.{ℕ, Bool, true, false, not, ◌&&◌, ◌||◌, List, [], ◌∷◌, eqb, get_or}
 use Rattle.count.specs.Pick.{pick}
 use Rattle.count.specs.Ranges.{in_port, in_byte, in_zero, nth}
 use Rattle.count.specs.Text.{report, two_hex}

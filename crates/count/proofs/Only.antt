@@ -13,12 +13,12 @@ use Rattle.count.proofs.ranges.is_24.Reads as is-24
 use Rattle.count.proofs.ranges.is_speed.Reads as is-speed
 use Rattle.count.proofs.ranges.is_offset.Reads as is-offset
 use Rattle.count.proofs.ranges.is_back.Reads as is-back
-use Rattle.count.proofs.ranges.is_loop.Reads as is_Loop
+use Rattle.count.proofs.ranges.is_loop.Reads as is-loop
 use Rattle.count.proofs.ranges.is_delay.Reads as is-delay
 use Rattle.count.proofs.ranges.is_character.Reads as is-character
 use Rattle.count.proofs.ranges.is_switch.Reads as is-switch
 use Rattle.count.proofs.ranges.is_port.Reads as is-port
-use Rattle.count.proofs.ranges.is_byte.Reads as is_byte_lem
+use Rattle.count.proofs.ranges.is_byte.Reads as is-byte
 use Rattle.count.proofs.ranges.is_zero.Reads as is_zero
 use Rattle.count.proofs.ranges.is_plane.Reads as is-plane
 use Rattle.count.proofs.ranges.is_direction.Reads as is-direction
@@ -70,7 +70,7 @@ is-offset-one κs a r r' s s' p q = p ∙ sym q
 pub is-back-one : (κs : _) (a : _) (r r' : _) (s s' : _) → is-back.Post κs a r s → is-back.Post κs a r' s' → r ≡ r'
 is-back-one κs a r r' s s' p q = p ∙ sym q
 
-pub is-loop-one : (κs : _) (a : _) (r r' : _) (s s' : _) → is_Loop.Post κs a r s → is_Loop.Post κs a r' s' → r ≡ r'
+pub is-loop-one : (κs : _) (a : _) (r r' : _) (s s' : _) → is-loop.Post κs a r s → is-loop.Post κs a r' s' → r ≡ r'
 is-loop-one κs a r r' s s' p q = p ∙ sym q
 
 pub is-delay-one : (κs : _) (a : _) (r r' : _) (s s' : _) → is-delay.Post κs a r s → is-delay.Post κs a r' s' → r ≡ r'
@@ -85,7 +85,7 @@ is-switch-one κs a r r' s s' p q = p ∙ sym q
 pub is-port-one : (κs : _) (a : _) (r r' : _) (s s' : _) → is-port.Post κs a r s → is-port.Post κs a r' s' → r ≡ r'
 is-port-one κs a r r' s s' p q = p ∙ sym q
 
-pub is-byte-one : (κs : _) (a : _) (r r' : _) (s s' : _) → is_byte_lem.Post κs a r s → is_byte_lem.Post κs a r' s' → r ≡ r'
+pub is-byte-one : (κs : _) (a : _) (r r' : _) (s s' : _) → is-byte.Post κs a r s → is-byte.Post κs a r' s' → r ≡ r'
 is-byte-one κs a r r' s s' p q = p ∙ sym q
 
 pub is-zero-one : (κs : _) (a : _) (r r' : _) (s s' : _) → is_zero.Post κs a r s → is_zero.Post κs a r' s' → r ≡ r'

@@ -1,6 +1,8 @@
 // The calls over a struct that C lends, for processors whose compilers pass a struct otherwise: only pointers and numbers cross the border.
 // Each is the call of `port` of the same name: on the state that stands in front of a struct, whose place its result takes, or on numbers and
 // buffers alone.
+#![tactic(auto)]
+
 ghost use Rattle.std.specs.Prelude.{◌≡◌};
 ghost use Rattle.record.specs.Memory.{memory};
 ghost use Rattle.record.specs.Table.{filling, fill_of};
@@ -13,15 +15,13 @@ ghost use Rattle.port.specs.Store.{held, joined};
 
 use port::{Clocked, Heard, Shown, State, Written};
 
-#[unsafe(no_mangle)]
-pub extern "C" fn board_fresh_in(at: &mut State)
+pub fn board_fresh_in(at: &mut State)
     ensures { at.new ≡ fresh_state }
 {
     *at = port::board_fresh();
 }
 
-#[unsafe(no_mangle)]
-pub extern "C" fn board_clock_in(at: &mut Clocked, store: &[u8], table: &[u16])
+pub fn board_clock_in(at: &mut Clocked, store: &[u8], table: &[u16])
     ensures { at.new ≡ clocking_state at.old.state (memory store.now table.now) }
 {
     let was = *at;
@@ -29,8 +29,7 @@ pub extern "C" fn board_clock_in(at: &mut Clocked, store: &[u8], table: &[u16])
     *at = port::board_clock(state, store, table);
 }
 
-#[unsafe(no_mangle)]
-pub extern "C" fn board_receive_in(
+pub fn board_receive_in(
     at: &mut Heard,
     byte: u8,
     ports: u32,
@@ -45,8 +44,7 @@ pub extern "C" fn board_receive_in(
     *at = port::board_receive(state, byte, ports, reply, store, table);
 }
 
-#[unsafe(no_mangle)]
-pub extern "C" fn board_list_in(at: &mut Written, store: &[u8], text: &mut [u8])
+pub fn board_list_in(at: &mut Written, store: &[u8], text: &mut [u8])
     ensures { listed at.new text.new ≡ listing_state at.old.state store.now text.old }
 {
     let was = *at;
@@ -54,8 +52,7 @@ pub extern "C" fn board_list_in(at: &mut Written, store: &[u8], text: &mut [u8])
     *at = port::board_list(state, store, text);
 }
 
-#[unsafe(no_mangle)]
-pub extern "C" fn board_show_in(at: &mut Shown)
+pub fn board_show_in(at: &mut Shown)
     ensures { at.new ≡ showing at.old.state }
 {
     let was = *at;
@@ -63,8 +60,7 @@ pub extern "C" fn board_show_in(at: &mut Shown)
     *at = port::board_show(state);
 }
 
-#[unsafe(no_mangle)]
-pub extern "C" fn board_fill_in(
+pub fn board_fill_in(
     used: u16,
     records: u16,
     axes: u8,
@@ -76,8 +72,7 @@ pub extern "C" fn board_fill_in(
     port::board_fill(used, records, axes, store, table)
 }
 
-#[unsafe(no_mangle)]
-pub extern "C" fn board_join_in(
+pub fn board_join_in(
     used: &mut u16,
     records: &mut u16,
     axes: &mut u8,
@@ -103,8 +98,7 @@ pub extern "C" fn board_join_in(
     )
 }
 
-#[unsafe(no_mangle)]
-pub extern "C" fn board_chain_in(
+pub fn board_chain_in(
     lead: f64,
     steps: f64,
     gear: f64,

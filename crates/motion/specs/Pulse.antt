@@ -1,5 +1,5 @@
 -- One pulse on the counters, whatever it is a pulse of (01, "Calls", on the axis counters).
-use Rattle.std.specs.Prelude.{ℕ, ◌+◌, Bool, true, ◌&&◌, [], ltb}
+use Rattle.std.specs.Prelude.{ℕ, ◌+◌, Bool, true, [], ltb}
 use Rattle.count.specs.Pick.{pick}
 use Rattle.count.specs.Paper.{Paper, says}
 use Rattle.count.specs.Numbers.{full}

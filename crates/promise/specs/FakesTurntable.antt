@@ -1,6 +1,6 @@
 -- Two more machines that the requests must shut out: ours but for the line `@08` (02 §7). The file FakesTurntable of proofs/laws shows what each
 -- fails.
-use Rattle.std.specs.Prelude.{ℕ, Bool, ◌&&◌, ◌||◌, List, [], ◌∷◌, eqb, get_or, drop}
+use Rattle.std.specs.Prelude.{ℕ, Bool, ◌&&◌, ◌||◌, List, ◌∷◌, eqb, get_or, drop}
 use Rattle.count.specs.Chars.{ch}
 use Rattle.count.specs.Pick.{pick}
 use Rattle.engine.specs.State.{with_at, zeroes, turntable_of}

@@ -4,14 +4,13 @@ use Rattle.count.specs.Chars.{ch, codes}
 use Rattle.count.specs.Paper.{Paper, says}
 use Rattle.count.specs.Numbers.{half}
 use Rattle.motion.specs.declared.Counters.{Counters}
-use Rattle.line.specs.declared.Direct.{Direct}
 use Rattle.engine.specs.declared.Engine.{Engine}
 use Rattle.board.specs.declared.Board.{Board}
 use Rattle.board.specs.State.{board, no_line, line_done}
 use Rattle.board.specs.Calls.{Lent}
 use Rattle.course.specs.Walk.{walked}
 use Rattle.promise.specs.Machine.{Machine}
-use Rattle.promise.specs.Demands.{idles, replied, hears, board_then}
+use Rattle.promise.specs.Demands.{replied, hears, board_then}
 use Rattle.promise.specs.Twelve.{send0}
 use Rattle.promise.specs.Circles.{line_of, Typed, answers_of, from}
 

@@ -1,18 +1,18 @@
 -- The code's way through a line outside storing is the definition's: the table's rows one after the other, then the effect. Assumes nothing.
 use Prim.Native.Nat.{ℕ, ◌%◌, ◌<◌}
 use mathlib.Core.Path.{◌≡◌, refl, sym, ap, ◌∙◌}
-use mathlib.Core.Bool.{Bool, true, false, not, ◌&&◌, ◌||◌}
+use mathlib.Core.Bool.{Bool, true, false, not, ◌&&◌}
 use mathlib.Core.List.{List, [], ◌∷◌}
 use native.Mathlib.Nat.{mod-eq_of_lt}
 use native.Mathlib.Omega.{arith}
 use borrow.Author.Tests.{eqb-true, leb-true, ne_eqb}
-use lib.Dec.{eqb, leb}
+use lib.Dec.{eqb}
 use lib.ListN.{get_or}
 use Rattle.count.specs.Pick.{pick}
 use Rattle.count.specs.Numbers.{signed}
 use Rattle.count.specs.Ranges.{in_byte, in_zero}
 use Rattle.count.proofs.laws.Laws.{within-zero}
-use Rattle.count.proofs.laws.Truth.{never, and_left, and_right}
+use Rattle.count.proofs.laws.Truth.{never, and_right}
 use Rattle.motion.specs.declared.Counters.{Counters}
 use Rattle.motion.specs.declared.Planned.{Planned as StraightPlan}
 use Rattle.motion.specs.declared.Planned.TheVariants as straight

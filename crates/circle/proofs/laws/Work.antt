@@ -29,7 +29,6 @@ use Rattle.motion.proofs.laws.Passed.{in24-of}
 use Rattle.motion.specs.Pulse.{step_to}
 use Rattle.motion.specs.Sound.{counted, speed_right}
 use Rattle.circle.specs.declared.Plane.{Plane}
-use Rattle.circle.specs.declared.Plane.TheVariants.{XY, XZ, YZ}
 use Rattle.circle.specs.declared.Circling.{Circling}
 use Rattle.circle.specs.declared.Pair.{Pair}
 use Rattle.circle.specs.declared.Ways.{Ways}

@@ -2,7 +2,6 @@
 use mathlib.Core.Path.{sym}
 use borrow.Author.Tests.{lt-ltb, le-ltb}
 use Rattle.count.proofs.laws.Laws.{added-low, added-high, added-below}
-use borrow.Author.Rules.{rules}
 use Rattle.count.proofs.add.Goals as goal
 
 pub returns-then-s-lt16777216 : goal.returns-then-s-lt16777216

@@ -2,7 +2,6 @@
 use mathlib.Core.Path.{sym}
 use native.Mathlib.Omega.{arith}
 use Rattle.count.proofs.laws.Laws.{placed-low, placed-high, placed-outside}
-use borrow.Author.Rules.{rules}
 use Rattle.count.proofs.count_of.Goals as goal
 
 pub returns-then-w-lt-HALF : goal.returns-then-w-lt-HALF

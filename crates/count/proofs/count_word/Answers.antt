@@ -2,7 +2,6 @@
 use mathlib.Core.Path.{sym}
 use native.Mathlib.Omega.{arith}
 use Rattle.count.proofs.laws.Laws.{word-value-low, word-value-high}
-use borrow.Author.Rules.{rules}
 use Rattle.count.proofs.count_word.Goals as goal
 
 pub returns-then-c-lt-HALF : goal.returns-then-c-lt-HALF

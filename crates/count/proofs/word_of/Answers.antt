@@ -3,7 +3,6 @@ use mathlib.Core.Path.{sym}
 use native.Mathlib.Omega.{arith}
 use Rattle.count.specs.Numbers.{word}
 use Rattle.count.proofs.laws.Laws.{word-minus, word-plus}
-use borrow.Author.Rules.{rules}
 use Rattle.count.proofs.word_of.Goals as goal
 
 pub returns-then-size-eq0 : goal.returns-then-size-eq0

@@ -9,7 +9,6 @@ use Rattle.course.specs.declared.Ran.{Ran}
 use Rattle.course.specs.declared.Walk.{Walk}
 use Rattle.course.specs.declared.Portion.{Portion}
 use Rattle.course.specs.Run.{runs_now}
-use Rattle.course.specs.Walk.{Done}
 
 -- a text at the front of a part: its length, and the part afterwards, the bytes past the text as they were
 pub record Wrote (t s : List ℕ) (len : ℕ) (out : List ℕ) : Type 0 where

@@ -15,7 +15,7 @@ use Rattle.line.specs.declared.Code.TheVariants as code
 use Rattle.line.specs.declared.Direct.{Direct}
 use Rattle.line.specs.declared.Letter.TheVariants as letter
 use Rattle.line.specs.Numbers.{digits_behind, digits_of, number_of, past_space, onto, parted, Numbers, are, wrong, and_then, items_of, first_of, numbers_of}
-use Rattle.line.specs.Lines.{behind, letter_of, direct, by_letter, after_address, direct_of, code_of, stored, by_code, stored_of}
+use Rattle.line.specs.Lines.{behind, letter_of, direct, after_address, direct_of, code_of, stored, by_code, stored_of}
 use Rattle.line.specs.Spaces.{unspaced, SameButSpaces}
 use Rattle.line.specs.work.Reading.{lettered}
 use Rattle.line.proofs.Items.{parted-some}

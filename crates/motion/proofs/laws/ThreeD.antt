@@ -13,11 +13,9 @@ use Rattle.count.specs.declared.Axis.{Axis}
 use Rattle.count.specs.declared.Axis.TheVariants.{X, Y, Z, A}
 use Rattle.count.specs.Axes.{has, on_all}
 use Rattle.count.specs.Ranges.{right_distances, right_speeds}
-use Rattle.count.specs.declared.Placed.{Placed}
 use Rattle.count.specs.declared.Placed.TheVariants as placed
 use Rattle.motion.specs.declared.Counters.{Counters}
 use Rattle.motion.specs.declared.Move.{Move}
-use Rattle.motion.specs.declared.Planned.{Planned}
 use Rattle.motion.specs.declared.Planned.TheVariants.{Going, Outside}
 use Rattle.motion.specs.Axes.{point}
 use Rattle.motion.specs.Plan.{Asked, asked, goal, goal_of, goal_z2, moves_z2, on_from, first_speed, later_speed, resting_at, with_z, route, lies, count_of, going_to, plan_of}

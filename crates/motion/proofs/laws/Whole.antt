@@ -13,7 +13,6 @@ use Rattle.count.proofs.laws.Laws.{sub-eq, sub-plus, sub-minus}
 use Rattle.motion.specs.declared.Counters.{Counters}
 use Rattle.motion.specs.declared.Sign.{Sign}
 use Rattle.motion.specs.declared.Sign.TheVariants.{Minus, Rest, Plus}
-use Rattle.motion.specs.declared.Signs.{Signs}
 use Rattle.motion.specs.declared.Move.{Move}
 use Rattle.motion.specs.declared.Stepped.{Stepped}
 use Rattle.motion.specs.declared.Next.{Next}

@@ -3,7 +3,7 @@
 use Prim.Native.Nat.{ℕ}
 use mathlib.Core.Path.{◌≡◌, refl, sym, ◌∙◌}
 use mathlib.Core.Bool.{true, ◌&&◌}
-use lib.Dec.{leb, eqb}
+use lib.Dec.{leb}
 use Rattle.count.proofs.laws.Truth.{and_left, and_right, both}
 use Rattle.motion.specs.declared.Counters.{Counters}
 use Rattle.motion.specs.declared.Move.{Move}
@@ -16,7 +16,7 @@ use Rattle.board.specs.declared.Board.{Board}
 use Rattle.board.specs.State.{board}
 use Rattle.port.specs.declared.Round.{Round}
 use Rattle.port.specs.declared.State.{State}
-use Rattle.port.specs.Code.{arc_of, round_of, travel_of, straight_in, round_in, kind_in, straight_over, round_over, kind_over, code_of, job_of, byte_over, number_over, known, engine_of, board_of, over, blank}
+use Rattle.port.specs.Code.{travel_of, straight_in, round_in, kind_in, straight_over, round_over, kind_over, code_of, job_of, byte_over, number_over, known, engine_of, board_of, over, blank}
 use Rattle.port.specs.work.Work.{moved}
 use Rattle.port.proofs.laws.Codes.{Each, up_to, flag-read, flag-written, flag-known, plane-written, plane-known, direction-written, direction-known, circling-read, arc-read, arc-written}
 

@@ -9,7 +9,6 @@ use lib.Dec.{ltb}
 use lib.ListN.{length}
 use Rattle.count.proofs.laws.Truth.{never}
 use Rattle.motion.specs.declared.Beat.{Beat}
-use Rattle.motion.specs.declared.Mark.{Mark}
 use Rattle.motion.specs.declared.Move.{Move}
 use Rattle.motion.specs.Next.{at_phase}
 use Rattle.travel.specs.work.Beat.{next_of, at_mark}
@@ -20,7 +19,6 @@ use Rattle.engine.specs.declared.Act.TheVariants as act
 use Rattle.engine.specs.declared.Answer.TheVariants as answer
 use Rattle.engine.specs.declared.Job.TheVariants as job
 use Rattle.engine.specs.declared.Told.{Told}
-use Rattle.engine.specs.Sound.{sound_of}
 use Rattle.engine.specs.State.{running}
 use Rattle.engine.specs.work.Acts.{act_by, seen_of, is_wrong, marked_job, pulsed, acted_by}
 use Rattle.engine.proofs.laws.Acts.{seen-act}

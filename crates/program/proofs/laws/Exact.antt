@@ -22,7 +22,7 @@ use Rattle.program.specs.declared.Way.{Way}
 use Rattle.program.specs.Check.{holds}
 use Rattle.program.specs.work.Marks.{mark}
 use Rattle.program.specs.work.Marks as marks
-use Rattle.program.specs.work.Aims.{Aim, goes, loops, shift, aim_of, is_loop, offset_of, aim_at, loop_at, turn_at, far_at}
+use Rattle.program.specs.work.Aims.{Aim, loops, shift, aim_of, is_loop, offset_of, aim_at, loop_at, turn_at, far_at}
 use Rattle.program.specs.Onward.{counter, onward_of}
 use Rattle.program.specs.Rounds.{Rounds}
 use Rattle.program.proofs.laws.Right.{loop-right}

@@ -4,9 +4,7 @@ use mathlib.Core.Path.{◌≡◌, refl}
 use mathlib.Core.Bool.{Bool, true, false}
 use lib.Dec.{eqb}
 use Rattle.count.specs.Pick.{pick}
-use Rattle.record.specs.declared.Held.{Held}
 use Rattle.engine.specs.declared.Engine.{Engine}
-use Rattle.engine.specs.declared.Run.{Run}
 use Rattle.engine.specs.State.{turntable_of, anew_of, axes_of}
 
 module _ (w : ℕ) (e : Engine) where

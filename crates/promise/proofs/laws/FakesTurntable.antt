@@ -1,11 +1,9 @@
 -- The machines of FakesTurntable fail 02 §7: one sets x to 0 with A, the other takes `@08` after `@03`. Assumes nothing.
 use Prim.Native.Nat.{ℕ}
-use mathlib.Core.Path.{◌≡◌, refl, ap, ◌∙◌}
-use mathlib.Core.List.{List, [], ◌∷◌}
-use lib.IntN.{pos, negsuc}
+use mathlib.Core.Path.{refl, ap}
+use mathlib.Core.List.{List, []}
 use lib.ListN.{get_or}
 use Rattle.count.specs.Chars.{codes}
-use Rattle.count.specs.Numbers.{count}
 use Rattle.count.specs.Numbers.{within, in24, signed, word, placed, added}
 use Rattle.count.specs.Ranges.{in_speed, in_offset, in_back, in_loop, in_delay, in_character, in_switch, in_port, in_byte, in_zero, right_count, right_z2, right_distances, right_speeds}
 use Rattle.count.specs.Text.{hex_digit, hexes, twos24, report, two_hex, decimal, digits, shown, decimals, four_digits}
@@ -37,8 +35,6 @@ use Rattle.board.specs.Storing.{record_reply, stored_said}
 use Rattle.course.specs.Run.{runs_now, course}
 use Rattle.course.specs.Text.{pulse_text, positions_text}
 use Rattle.course.specs.Walk.{walked_from, walked}
-use Rattle.course.specs.Walk.{no_memory}
-use Rattle.count.specs.Numbers.{half}
 use borrow.Author.Tests.{eqb-false}
 use Rattle.record.specs.Memory.{Memory}
 use Rattle.board.specs.declared.Board.{Board}

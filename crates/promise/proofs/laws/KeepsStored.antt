@@ -49,7 +49,7 @@ use Rattle.board.specs.Direct.{reply_of, effect_of, accepted_said, direct_said}
 use Rattle.board.specs.Storing.{record_of, record_reply, stored_by, stored_said}
 use Rattle.board.specs.Receive.{ear_of, is_storing, returned, gathering, ordinary, hearing, holds_by, stopped, ends_by, broken, reset_said}
 use Rattle.board.proofs.laws.Stores.{count_small, code-right}
-use Rattle.promise.proofs.laws.Axed.{axes-run, axes-held}
+use Rattle.promise.proofs.laws.Axed.{axes-held}
 use Rattle.promise.specs.Table.{Kept, part}
 
 -- ---- a line's numbers are words, padded to eight

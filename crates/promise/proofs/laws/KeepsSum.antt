@@ -28,7 +28,7 @@ use Rattle.motion.specs.Axes.{on}
 use Rattle.motion.proofs.laws.Points.{on-point}
 use Rattle.engine.specs.State.{zeroes, mixed, turntable_of, anew_of, with_job, begun, begun_by, begin_of, circle_begun}
 use Rattle.board.specs.declared.Board.{Board}
-use Rattle.board.specs.State.{board, text_of, line_done, Said, said}
+use Rattle.board.specs.State.{text_of, line_done, Said, said}
 use Rattle.board.specs.Direct.{is_wrong, heard_standing, reply_of, effect_of, accepted_said, direct_said, started_with}
 use Rattle.promise.specs.Demands.{is_idle, idles, position, zero_line}
 use Rattle.promise.proofs.laws.KeepsLines.{row-facts}

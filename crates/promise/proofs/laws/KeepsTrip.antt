@@ -22,12 +22,12 @@ use Rattle.record.proofs.laws.Right.{RightOne, take-pad}
 use Rattle.record.proofs.laws.Stored.{AllRight, readable-list, encode-behind, stored-list}
 use Rattle.record.proofs.laws.Faultless.{Faultless, right-faultless}
 use Rattle.record.proofs.laws.Lines.{line-long}
-use Rattle.program.specs.Program.{verdict_of, is_sound, passes, passing, accepted}
+use Rattle.program.specs.Program.{verdict_of, is_sound, passes, accepted}
 use Rattle.program.proofs.laws.Accepting.{accepted-parts, accepted-list, accepted-holds}
 use Rattle.line.specs.declared.Stored.{Stored}
-use Rattle.line.specs.Lines.{stored, stored_of}
+use Rattle.line.specs.Lines.{stored_of}
 use Rattle.line.proofs.laws.RoundTrip.{stored-end}
-use Rattle.engine.specs.State.{idle, nothing_held}
+use Rattle.engine.specs.State.{nothing_held}
 use Rattle.engine.specs.Sound.{axes_known, sound_of}
 use Rattle.engine.proofs.laws.Facts.{facts}
 use Rattle.board.specs.declared.Board.{Board}

@@ -8,16 +8,15 @@ use lib.Dec.{eqb}
 use lib.ListN.{get_or, take}
 use Rattle.count.specs.Pick.{pick}
 use Rattle.count.proofs.laws.Truth.{never, and_parts}
-use Rattle.line.specs.declared.Letter.{Letter}
 use Rattle.line.specs.declared.Letter.TheVariants as letter
 use Rattle.line.specs.declared.Direct.{Direct}
-use Rattle.line.specs.Lines.{letter_paper, stored_of}
+use Rattle.line.specs.Lines.{stored_of}
 use Rattle.record.specs.Memory.{Memory}
 use Rattle.engine.specs.declared.Engine.{Engine}
 use Rattle.engine.specs.declared.Job.{Job}
 use Rattle.engine.specs.declared.Job.TheVariants as job
 use Rattle.engine.specs.Kinds.{Ear}
-use Rattle.engine.specs.State.{mixed, beside_a, turntable_of, axes_of}
+use Rattle.engine.specs.State.{mixed, beside_a, turntable_of}
 use Rattle.board.specs.declared.Line.{Line}
 use Rattle.board.specs.declared.Board.{Board}
 use Rattle.board.specs.State.{board, no_line, text_of, line_done, Said, said}
@@ -26,7 +25,7 @@ use Rattle.board.specs.Storing.{stored_said}
 use Rattle.board.specs.Receive.{ear_of, is_storing, returned, gathering, ordinary, hearing}
 use Rattle.board.specs.Calls.{Lent, receiving}
 use Rattle.promise.specs.Machine.{ours}
-use Rattle.promise.specs.Demands.{is_idle, idles}
+use Rattle.promise.specs.Demands.{is_idle}
 use Rattle.promise.specs.Circles.{line_of}
 use Rattle.promise.specs.Turntable.{Adds, Added, with_table, TurntableRequested, TurntablePrinted}
 use Rattle.promise.proofs.laws.KeepsReturn.{out-board, out-reply}

@@ -37,7 +37,7 @@ use Rattle.board.specs.Storing.{record_reply, record_of, named_fault, stored_by,
 use Rattle.board.specs.Receive.{is_storing, returned, gathering}
 use lib.ListN.{get_or}
 use Rattle.engine.specs.declared.Run.{Run}
-use Rattle.promise.proofs.laws.Axed.{axes-run, axes-held}
+use Rattle.promise.proofs.laws.Axed.{axes-run}
 use Rattle.promise.specs.Stop.{rests_by}
 use Rattle.promise.proofs.laws.KeepsLines.{stored_in, row-facts}
 

@@ -14,7 +14,7 @@ use Rattle.board.specs.declared.Board.{Board}
 use Rattle.promise.specs.Machine.{ours}
 use Rattle.promise.proofs.laws.Guard as G
 use Rattle.promise.specs.Steps.{Each, reached, shown, Along, kept_of, cons_if}
-use Rattle.promise.specs.Stop.{Step, receive, call, own, other, is_own, rightly, Mild, Mildly, in_wait, rests, takes, ahead, count_of, byte_of, last, counted, taken, stays, unstopped, Unstopped, Begun, Same, StopsCanBeLeftOut}
+use Rattle.promise.specs.Stop.{Step, receive, call, own, other, is_own, rightly, Mild, Mildly, in_wait, rests, takes, ahead, count_of, byte_of, stays, unstopped, Unstopped, Begun, Same, StopsCanBeLeftOut}
 use Rattle.promise.proofs.laws.StopQuiet.{twin-of}
 use Rattle.promise.proofs.laws.StopSteps.{At, twin, act_of, right, ticks, acted, our-tick, Result}
 use Rattle.promise.proofs.laws.StopOne.{keeps, FitAt, awake, result}

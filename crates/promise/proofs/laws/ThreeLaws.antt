@@ -13,7 +13,7 @@ use Rattle.promise.proofs.laws.StopOut.{ours-unstopped}
 use Rattle.promise.proofs.laws.StopHolds.{ours-holds, ours-else, ours-goes-on}
 use Rattle.promise.proofs.laws.StopBegins.{ours-clear}
 use Rattle.promise.proofs.laws.StopStarts.{ours-begins, ours-stop-and-start}
-use Rattle.promise.specs.Three.{only, pulses, sent, Equals, Agrees, DemandThree}
+use Rattle.promise.specs.Three.{only, Equals, Agrees, DemandThree}
 
 only-join : (n : ℕ) (l k : List Paper) → only n (l ++ k) ≡ only n l ++ only n k
 only-join n [] k = refl

@@ -1,9 +1,8 @@
 -- 02 §7's examples, computed on the definitions: what our machine answers and what `walk` prints. Assumes nothing.
-use mathlib.Core.Path.{◌≡◌, refl, ap, ◌∙◌}
-use mathlib.Core.List.{List, [], ◌∷◌}
+use mathlib.Core.Path.{◌≡◌, refl}
+use mathlib.Core.List.{[], ◌∷◌}
 use lib.IntN.{pos, negsuc}
 use Rattle.count.specs.Chars.{codes}
-use Rattle.count.specs.Numbers.{count}
 use Rattle.count.specs.Numbers.{within, in24, signed, word, placed, added}
 use Rattle.count.specs.Ranges.{in_speed, in_offset, in_back, in_loop, in_delay, in_character, in_switch, in_port, in_byte, in_zero, right_count, right_z2, right_distances, right_speeds}
 use Rattle.count.specs.Text.{hex_digit, hexes, twos24, report, two_hex, decimal, digits, shown, decimals, four_digits}
@@ -35,11 +34,10 @@ use Rattle.board.specs.Storing.{record_reply, stored_said}
 use Rattle.course.specs.Run.{runs_now, course}
 use Rattle.course.specs.Text.{pulse_text, positions_text}
 use Rattle.course.specs.Walk.{walked_from, walked}
-use Rattle.course.specs.Walk.{no_memory}
 use Rattle.promise.specs.Machine.{ours}
 use Rattle.promise.specs.Circles.{typed, answers_of, from}
 use Rattle.promise.specs.Twelve.{send0}
-use Rattle.promise.specs.Turntable.{pulse, TurntableRequested, TurntablePrinted}
+use Rattle.promise.specs.Turntable.{pulse, TurntablePrinted}
 
 abbrev Phases : Type 0
 Phases = answers_of ours 5 (from ours (codes "@07\r@08\r@0A1,600,1,500,-1,400,2,300\r"))

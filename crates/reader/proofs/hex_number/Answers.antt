@@ -6,8 +6,7 @@ use native.Mathlib.Omega.{arith}
 use lib.ListN.{length, take, drop, get_or, drop_of_length-le}
 use lib.Seq.{take-nil}
 use Rattle.count.proofs.laws.Lists.{next}
-use Rattle.reader.specs.Reader.{hex_value, with_hex, hex_at}
-use borrow.Author.Rules.{rules}
+use Rattle.reader.specs.Reader.{hex_value, with_hex}
 use Rattle.reader.proofs.hex_number.Goals as goal
 
 -- ---- what so many digits from byte i on come to

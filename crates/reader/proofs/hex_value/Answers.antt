@@ -3,7 +3,6 @@ use Prim.Native.Nat.{◌<◌}
 use native.Mathlib.Omega.{arith}
 use Rattle.count.specs.Pick.{tests}
 use Rattle.reader.specs.Reader.{hex_value}
-use borrow.Author.Rules.{rules}
 use Rattle.reader.proofs.hex_value.Goals as goal
 
 pub returns-then-b-lt48 : goal.returns-then-b-lt48

@@ -1,13 +1,12 @@
 -- `reader::next_number` meets its contract: the loop keeps what the whole text comes to. Assumes nothing.
-use Prim.Native.Nat.{ℕ, ◌+◌, ◌-◌, ◌≤◌, ◌<◌}
+use Prim.Native.Nat.{ℕ, ◌+◌, ◌≤◌, ◌<◌}
 use mathlib.Core.Path.{◌≡◌, sym, ◌∙◌}
 use mathlib.Core.Bool.{Bool, true, false, not, ◌&&◌, ◌||◌}
 use mathlib.Core.List.{List}
 use lib.Dec.{eqb}
 use lib.ListN.{length, drop, get_or, drop_of_length-le}
 use Rattle.count.proofs.laws.Lists.{next}
-use Rattle.reader.specs.Reader.{is_digit, with_digit, number, reading, number_at}
-use borrow.Author.Rules.{rules}
+use Rattle.reader.specs.Reader.{is_digit, with_digit, number, reading}
 use Rattle.reader.proofs.next_number.Goals as goal
 
 -- ---- what the bytes from byte i on come to

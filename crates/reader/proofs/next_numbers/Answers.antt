@@ -7,7 +7,6 @@ use native.Mathlib.Omega.{arith}
 use lib.ListN.{length, take, set, length-set}
 use lib.Seq.{take_all, take-suc-set}
 use Rattle.reader.specs.Reader.{number_at, words_at, behind_words}
-use borrow.Author.Rules.{rules}
 use Rattle.reader.proofs.next_numbers.Goals as goal
 use Rattle.reader.proofs.next_numbers.Invariants.{Inv}
 

@@ -1,13 +1,9 @@
 -- `reader::next_numbers` meets its contract: the words read so far, and the numbers still to read, are all of them. Assumes nothing.
-use Prim.Native.Nat.{ℕ, suc, ◌+◌, ◌-◌, ◌≤◌, ◌<◌}
-use mathlib.Core.Path.{◌≡◌, refl, sym, ◌∙◌}
-use mathlib.Core.List.{List, ◌++◌, append_assoc, append-nil}
-use native.Mathlib.Numerals.{add-one}
-use native.Mathlib.Omega.{arith}
-use lib.ListN.{length, take, set, length-set}
-use lib.Seq.{take_all, take-suc-set}
-use Rattle.reader.specs.Reader.{number_at, words_at, behind_words}
-use borrow.Author.Rules.{rules}
+use Prim.Native.Nat.{ℕ, ◌-◌, ◌≤◌}
+use mathlib.Core.Path.{◌≡◌}
+use mathlib.Core.List.{List, ◌++◌}
+use lib.ListN.{length, take}
+use Rattle.reader.specs.Reader.{words_at, behind_words}
 use Rattle.reader.proofs.next_numbers.Given as goal
 
 pub record Inv (text words₀ : List ℕ) (from : ℕ) (words : List ℕ) (at k : ℕ) : Type 0 where

@@ -1,8 +1,6 @@
 -- `reader::with_digit` meets its contract: by its tests. Assumes nothing.
 use Rattle.count.specs.Pick.{tests}
-use Rattle.count.proofs.laws.Truth.{and-false}
 use Rattle.reader.specs.Reader.{with_digit}
-use borrow.Author.Rules.{rules}
 use Rattle.reader.proofs.with_digit.Goals as goal
 
 pub returns-then-b-le57 : goal.returns-then-b-le57

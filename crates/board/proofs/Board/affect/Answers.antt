@@ -1,5 +1,4 @@
 -- `board::Board::affect` meets its contract. Assumes nothing.
-use borrow.Author.Rules.{rules}
 use Rattle.board.proofs.Board.affect.Goals as goal
 
 pub returns-in-Wrong : goal.returns-in-Wrong

@@ -1,7 +1,6 @@
 -- `board::Board::begin` meets its contract. Assumes nothing.
 use borrow.Author.Tests.{eq-eqb, ne_eqb}
 use Rattle.board.specs.work.Work.{begun_with}
-use borrow.Author.Rules.{rules}
 use Rattle.board.proofs.Board.begin.Goals as goal
 
 pub returns-then-reply-eq0 : goal.returns-then-reply-eq0

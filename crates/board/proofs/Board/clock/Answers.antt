@@ -4,7 +4,6 @@ use borrow.Author.Tests.{eq-eqb, ne_eqb, not-false}
 use Rattle.record.specs.Memory.{memory}
 use Rattle.board.specs.Calls.{clocking}
 use Rattle.board.proofs.laws.Hears.{refused-so, acted-so, clocked-so}
-use borrow.Author.Rules.{rules}
 use Rattle.board.proofs.Board.clock.Goals as goal
 
 pub returns-then-store-ne16384 : goal.returns-then-store-ne16384

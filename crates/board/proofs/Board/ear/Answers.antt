@@ -1,6 +1,5 @@
 -- `board::Board::ear` meets its contract. Assumes nothing.
 use Rattle.board.specs.work.Ears.{ear_for}
-use borrow.Author.Rules.{rules}
 use Rattle.board.proofs.Board.ear.Goals as goal
 
 pub returns : goal.returns

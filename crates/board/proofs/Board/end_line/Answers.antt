@@ -1,7 +1,6 @@
 -- `board::Board::end_line` meets its contract. Assumes nothing.
 use Rattle.record.specs.Memory.{memory}
 use Rattle.board.proofs.laws.Hears.{return-over, return-stored, return-direct}
-use borrow.Author.Rules.{rules}
 use Rattle.board.proofs.Board.end_line.Goals as goal
 
 pub returns-then-l : goal.returns-then-l

@@ -1,5 +1,4 @@
 -- `board::Board::end_storing` meets its contract. Assumes nothing.
-use borrow.Author.Rules.{rules}
 use Rattle.board.proofs.Board.end_storing.Goals as goal
 
 pub returns-in-Sound : goal.returns-in-Sound

@@ -1,5 +1,4 @@
 -- `board::Board::fresh` meets its contract. Assumes nothing.
-use borrow.Author.Rules.{rules}
 use Rattle.board.proofs.Board.fresh.Goals as goal
 
 pub returns : goal.returns

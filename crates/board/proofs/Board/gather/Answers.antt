@@ -1,5 +1,4 @@
 -- `board::Board::gather` meets its contract. Assumes nothing.
-use borrow.Author.Rules.{rules}
 use Rattle.board.proofs.Board.gather.Goals as goal
 
 pub returns : goal.returns

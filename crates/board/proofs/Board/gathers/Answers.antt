@@ -1,5 +1,4 @@
 -- `board::Board::gathers` meets its contract. Assumes nothing.
-use borrow.Author.Rules.{rules}
 use Rattle.board.proofs.Board.gathers.Goals as goal
 
 pub returns : goal.returns

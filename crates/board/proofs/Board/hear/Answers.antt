@@ -4,7 +4,6 @@ use Rattle.count.proofs.laws.Truth.{never}
 use Rattle.board.specs.Receive.{reset_said}
 use Rattle.board.specs.work.Ears.{is_gather}
 use Rattle.board.proofs.laws.Hears.{spoke-as, stop-so, break-so}
-use borrow.Author.Rules.{rules}
 use Rattle.board.proofs.Board.hear.Goals as goal
 
 -- a byte that is gathered does not come here

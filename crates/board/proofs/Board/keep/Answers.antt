@@ -1,7 +1,6 @@
 -- `board::Board::keep` meets its contract. Assumes nothing.
 use Rattle.record.specs.Memory.{memory}
 use Rattle.board.proofs.laws.Stores.{not-kept}
-use borrow.Author.Rules.{rules}
 use Rattle.board.proofs.Board.keep.Goals as goal
 
 pub returns-then-kept : goal.returns-then-kept

@@ -2,10 +2,9 @@
 use mathlib.Core.Bool.{not}
 use mathlib.Core.Path.{ap}
 use mathlib.Core.Path.{sym, ◌∙◌}
-use borrow.Author.Tests.{eq-eqb, ne_eqb, not-false}
+use borrow.Author.Tests.{eq-eqb, ne_eqb}
 use Rattle.board.specs.Calls.{listing}
 use Rattle.board.proofs.laws.Hears.{listed-so}
-use borrow.Author.Rules.{rules}
 use Rattle.board.proofs.Board.list.Goals as goal
 
 pub returns-then-store-ne16384 : goal.returns-then-store-ne16384

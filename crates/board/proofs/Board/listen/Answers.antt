@@ -1,5 +1,4 @@
 -- `board::Board::listen` meets its contract. Assumes nothing.
-use borrow.Author.Rules.{rules}
 use Rattle.board.proofs.Board.listen.Goals as goal
 
 pub returns : goal.returns

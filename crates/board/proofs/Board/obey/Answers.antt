@@ -1,7 +1,6 @@
 -- `board::Board::obey` meets its contract. Assumes nothing.
 use borrow.Author.Tests.{eq-eqb, ne_eqb}
 use Rattle.board.specs.work.Work.{obeyed}
-use borrow.Author.Rules.{rules}
 use Rattle.board.proofs.Board.obey.Goals as goal
 
 pub returns-then-fault-ne48 : goal.returns-then-fault-ne48

@@ -1,6 +1,5 @@
 -- `board::Board::quit` meets its contract. Assumes nothing.
 use Rattle.board.specs.work.Work.{break_spoke}
-use borrow.Author.Rules.{rules}
 use Rattle.board.proofs.Board.quit.Goals as goal
 
 pub returns-then-is_ended-self : goal.returns-then-is_ended-self

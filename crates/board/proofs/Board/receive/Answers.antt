@@ -3,7 +3,7 @@ use mathlib.Core.Bool.{not}
 use mathlib.Core.Path.{ap}
 use mathlib.Core.Path.{◌≡◌, refl, sym, ◌∙◌}
 use mathlib.Core.Bool.{false}
-use borrow.Author.Tests.{lt-ltb, le-ltb, eq-eqb, ne_eqb, not-false}
+use borrow.Author.Tests.{lt-ltb, le-ltb, eq-eqb, ne_eqb}
 use Rattle.record.specs.Memory.{memory}
 use Rattle.board.specs.declared.Ear.{Ear}
 use Rattle.board.specs.declared.Ear.TheVariants as ear
@@ -13,7 +13,6 @@ use Rattle.board.specs.work.Work.{spoke_of}
 use Rattle.board.specs.work.Ears.{is_gather}
 use Rattle.board.proofs.laws.Hears.{sound-line, received-so}
 use Rattle.board.proofs.laws.Ears.{heard-so, gathered-so}
-use borrow.Author.Rules.{rules}
 use Rattle.board.proofs.Board.receive.Goals as goal
 
 -- every sort but the first

@@ -4,7 +4,6 @@ use native.Mathlib.Omega.{arith}
 use Rattle.record.specs.Memory.{memory}
 use Rattle.board.specs.Storing.{record_of}
 use Rattle.board.proofs.laws.Stores.{record-refused, record-kept, count_small}
-use borrow.Author.Rules.{rules}
 use Rattle.board.proofs.Board.record_line.Goals as goal
 
 pub returns-then-fault-ne48 : goal.returns-then-fault-ne48

@@ -1,5 +1,4 @@
 -- `board::Board::replies` meets its contract. Assumes nothing.
-use borrow.Author.Rules.{rules}
 use Rattle.board.proofs.Board.replies.Goals as goal
 
 pub returns : goal.returns

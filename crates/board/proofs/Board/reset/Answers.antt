@@ -1,5 +1,4 @@
 -- `board::Board::reset` meets its contract. Assumes nothing.
-use borrow.Author.Rules.{rules}
 use Rattle.board.proofs.Board.reset.Goals as goal
 
 pub returns : goal.returns

@@ -1,7 +1,6 @@
 -- `board::Board::start` meets its contract. Assumes nothing.
 use borrow.Author.Tests.{eq-eqb, ne_eqb}
 use Rattle.board.specs.work.Work.{started_by}
-use borrow.Author.Rules.{rules}
 use Rattle.board.proofs.Board.start.Goals as goal
 
 pub returns-then-self : goal.returns-then-self

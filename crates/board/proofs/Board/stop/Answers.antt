@@ -1,6 +1,5 @@
 -- `board::Board::stop` meets its contract. Assumes nothing.
 use Rattle.board.specs.work.Work.{stop_spoke}
-use borrow.Author.Rules.{rules}
 use Rattle.board.proofs.Board.stop.Goals as goal
 
 pub returns-then-is_held-self : goal.returns-then-is_held-self

@@ -2,7 +2,6 @@
 use Rattle.record.specs.Memory.{memory}
 use Rattle.board.specs.State.{text_of}
 use Rattle.board.proofs.laws.Stores.{code-right, stored_wrong, stored-record, stored-end}
-use borrow.Author.Rules.{rules}
 use Rattle.board.proofs.Board.store_line.Goals as goal
 
 pub record_line-requires : goal.record_line-requires

@@ -1,6 +1,5 @@
 -- `board::Board::take` meets its contract. Assumes nothing.
 use Rattle.board.specs.work.Take.{taken_of}
-use borrow.Author.Rules.{rules}
 use Rattle.board.proofs.Board.take.Goals as goal
 
 pub returns-then-sound : goal.returns-then-sound

@@ -1,5 +1,4 @@
 -- `board::Board::with_engine` meets its contract. Assumes nothing.
-use borrow.Author.Rules.{rules}
 use Rattle.board.proofs.Board.with_engine.Goals as goal
 
 pub returns : goal.returns

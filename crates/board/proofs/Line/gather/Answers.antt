@@ -1,7 +1,6 @@
 -- `board::Line::gather` meets its contract. Assumes nothing.
 use borrow.Author.Tests.{lt-ltb, le-ltb}
 use Rattle.board.specs.State.{gathered}
-use borrow.Author.Rules.{rules}
 use Rattle.board.proofs.Line.gather.Goals as goal
 
 pub returns-then-len-lt80 : goal.returns-then-len-lt80

@@ -1,13 +1,9 @@
 -- `board::Line::gather_all` meets its contract. The invariant: what the whole input comes to is what its rest comes to, on the line so far.
 -- The measure is what is left of the input. Assumes nothing.
-use Prim.Native.Nat.{◌≤◌, ◌-◌}
-use mathlib.Core.Path.{◌≡◌, sym, ◌∙◌}
-use mathlib.Core.Logic.{⊎_elim}
+use mathlib.Core.Path.{sym, ◌∙◌}
 use borrow.Author.Tests.{lt-ltb, le-ltb}
-use lib.ListN.{length, drop}
 use Rattle.board.specs.State.{gathered}
-use Rattle.board.specs.work.Take.{lined_of}
-use Rattle.board.proofs.laws.Takes.{lined_from, lined-first, lined-stop, lined-next, lined-end}
+use Rattle.board.proofs.laws.Takes.{lined-first, lined-stop, lined-next, lined-end}
 use borrow.Author.Rules.{rules}
 use Rattle.board.proofs.Line.gather_all.Goals as goal
 use Rattle.board.proofs.Line.gather_all.Goals.{else-len-lt80, then-len-lt80}

@@ -1,7 +1,6 @@
 -- `board::Spoke::answer` meets its contract. Assumes nothing.
 use mathlib.Core.Path.{ap}
 use Rattle.count.specs.Text.{Written}
-use borrow.Author.Rules.{rules}
 use Rattle.board.proofs.Spoke.answer.Goals as goal
 
 pub returns : goal.returns

@@ -3,7 +3,6 @@ use mir.Syntax.{w32}
 use mir.ValLaws.{to_z-of_z}
 use Rattle.board.specs.Calls.{number_of}
 use Rattle.board.proofs.Signed.{number_fits}
-use borrow.Author.Rules.{rules}
 use Rattle.board.proofs.calls.as_point.Goals as goal
 
 pub returns : goal.returns

@@ -1,7 +1,6 @@
 -- `board::letters::input_fault` meets its contract. Assumes nothing.
 use borrow.Author.Tests.{eq-eqb, ne_eqb}
 use Rattle.board.specs.work.Work.{input_fault}
-use borrow.Author.Rules.{rules}
 use Rattle.board.proofs.letters.input_fault.Goals as goal
 
 pub returns-then-count-ne1 : goal.returns-then-count-ne1

@@ -1,6 +1,5 @@
 -- `board::letters::line_fault` meets its contract. Assumes nothing.
 use Rattle.board.specs.work.Work.{line_fault}
-use borrow.Author.Rules.{rules}
 use Rattle.board.proofs.letters.line_fault.Goals as goal
 
 pub returns-then-is_wrong : goal.returns-then-is_wrong

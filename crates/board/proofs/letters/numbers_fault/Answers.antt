@@ -1,5 +1,4 @@
 -- `board::letters::numbers_fault` meets its contract. Assumes nothing.
-use borrow.Author.Rules.{rules}
 use Rattle.board.proofs.letters.numbers_fault.Goals as goal
 
 pub returns-in-Wrong : goal.returns-in-Wrong

@@ -1,7 +1,6 @@
 -- `board::letters::output_fault` meets its contract. Assumes nothing.
 use borrow.Author.Tests.{eq-eqb, ne_eqb}
 use Rattle.board.specs.work.Work.{output_fault}
-use borrow.Author.Rules.{rules}
 use Rattle.board.proofs.letters.output_fault.Goals as goal
 
 pub returns-then-count-ne2 : goal.returns-then-count-ne2

@@ -1,6 +1,5 @@
 -- `board::receive::byte_ear` meets its contract. Assumes nothing.
 use borrow.Author.Tests.{eq-eqb, ne_eqb}
-use borrow.Author.Rules.{rules}
 use Rattle.board.proofs.receive.byte_ear.Goals as goal
 
 pub returns-then-byte-eq253 : goal.returns-then-byte-eq253

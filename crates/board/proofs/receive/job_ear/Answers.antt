@@ -1,5 +1,4 @@
 -- `board::receive::job_ear` meets its contract. Assumes nothing.
-use borrow.Author.Rules.{rules}
 use Rattle.board.proofs.receive.job_ear.Goals as goal
 
 pub returns-then-standing-is_gathering : goal.returns-then-standing-is_gathering

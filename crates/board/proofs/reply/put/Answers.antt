@@ -1,5 +1,4 @@
 -- `board::reply::put` meets its contract. Assumes nothing.
-use borrow.Author.Rules.{rules}
 use Rattle.board.proofs.reply.put.Goals as goal
 
 pub returns-in-Silent : goal.returns-in-Silent

@@ -1,6 +1,5 @@
 -- `board::reply::put_at` meets its contract. Assumes nothing.
 use Rattle.board.proofs.laws.Puts.{report-put}
-use borrow.Author.Rules.{rules}
 use Rattle.board.proofs.reply.put_at.Goals as goal
 
 pub returns : goal.returns

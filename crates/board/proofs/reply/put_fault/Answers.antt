@@ -2,7 +2,6 @@
 use native.Mathlib.Omega.{arith}
 use lib.ListN.{length-set}
 use Rattle.board.proofs.laws.Puts.{fault-put}
-use borrow.Author.Rules.{rules}
 use Rattle.board.proofs.reply.put_fault.Goals as goal
 
 pub bounds-reply-1 : goal.bounds-reply-1

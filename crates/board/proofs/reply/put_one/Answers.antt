@@ -1,6 +1,5 @@
 -- `board::reply::put_one` meets its contract. Assumes nothing.
 use Rattle.board.proofs.laws.Puts.{one-put}
-use borrow.Author.Rules.{rules}
 use Rattle.board.proofs.reply.put_one.Goals as goal
 
 pub returns : goal.returns

@@ -1,6 +1,5 @@
 -- `board::reply::put_port` meets its contract. Assumes nothing.
 use Rattle.board.proofs.laws.Puts.{port-put}
-use borrow.Author.Rules.{rules}
 use Rattle.board.proofs.reply.put_port.Goals as goal
 
 pub returns : goal.returns

@@ -1,6 +1,5 @@
 -- `board::reply::put_positions` meets its contract. Assumes nothing.
 use Rattle.board.proofs.laws.Puts.{shown-three, shown-four}
-use borrow.Author.Rules.{rules}
 use Rattle.board.proofs.reply.put_positions.Goals as goal
 
 pub returns-then-axes-ne15 : goal.returns-then-axes-ne15

@@ -3,7 +3,6 @@ use Rattle.board.proofs.laws.Puts.{kept-one, kept-two, kept-three, positions-put
 use native.Mathlib.Omega.{arith}
 use mathlib.Core.List.{[]}
 use lib.ListN.{length-set}
-use borrow.Author.Rules.{rules}
 use Rattle.board.proofs.reply.put_three.Goals as goal
 
 pub put_at-requires : goal.put_at-requires

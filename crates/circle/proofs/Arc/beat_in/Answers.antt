@@ -1,6 +1,4 @@
 -- `circle::Arc::beat_in` meets its contract. Assumes nothing.
-use borrow.Author.Rules.{rules}
-use borrow.Author.Tests.{not-true, not-false}
 use Rattle.circle.proofs.laws.Work.{beat-past, beat-out, beat-parts, beat-none, beat-to}
 use Rattle.circle.proofs.Arc.beat_in.Goals as goal
 

@@ -1,7 +1,5 @@
 -- `circle::Arc::look` meets its contract. Assumes nothing.
-use borrow.Author.Rules.{rules}
 use mathlib.Core.Path.{sym, ◌∙◌}
-use borrow.Author.Tests.{not-true, not-false}
 use Rattle.circle.proofs.laws.Work.{look-wrong, look-made, look-over}
 use Rattle.circle.proofs.Arc.look.Goals as goal
 

@@ -1,5 +1,4 @@
 -- `circle::Arc::placed` meets its contract. Assumes nothing.
-use borrow.Author.Rules.{rules}
 use Rattle.circle.proofs.laws.Work.{pair_parts}
 use Rattle.circle.proofs.laws.Arcs.{small-start}
 use Rattle.circle.proofs.Arc.placed.Goals as goal

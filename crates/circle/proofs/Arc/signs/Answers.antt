@@ -1,5 +1,4 @@
 -- `circle::Arc::signs` meets its contract. Assumes nothing.
-use borrow.Author.Rules.{rules}
 use Rattle.circle.specs.Arc.{arc_signs}
 use Rattle.circle.proofs.laws.Work.{plane-small}
 use Rattle.circle.proofs.Arc.signs.Goals as goal

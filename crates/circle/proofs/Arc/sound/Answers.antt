@@ -1,6 +1,4 @@
 -- `circle::Arc::sound` meets its contract. Assumes nothing.
-use borrow.Author.Rules.{rules}
-use borrow.Author.Tests.{not-true, not-false}
 use Rattle.circle.proofs.laws.Work.{under-not, under-by, under-start}
 use Rattle.circle.proofs.Arc.sound.Goals as goal
 

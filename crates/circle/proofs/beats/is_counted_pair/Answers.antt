@@ -1,5 +1,4 @@
 -- `circle::beats::is_counted_pair` meets its contract. Assumes nothing.
-use borrow.Author.Rules.{rules}
 use Rattle.circle.proofs.beats.is_counted_pair.Goals as goal
 
 pub returns : goal.returns

@@ -1,5 +1,4 @@
 -- `circle::beats::start_value` meets its contract. Assumes nothing.
-use borrow.Author.Rules.{rules}
 use native.Mathlib.Omega.{arith}
 use Rattle.circle.proofs.beats.start_value.Goals as goal
 

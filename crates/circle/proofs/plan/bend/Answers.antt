@@ -1,7 +1,5 @@
 -- `circle::plan::bend` meets its contract. Assumes nothing.
-use borrow.Author.Rules.{rules}
 use mathlib.Core.Path.{sym, ◌∙◌}
-use borrow.Author.Tests.{not-true, not-false}
 use Rattle.circle.proofs.laws.Work.{bend-plane, bend-wrong, bend-unfit, bend-slow, bend-on, speed-small}
 use Rattle.circle.proofs.plan.bend.Goals as goal
 

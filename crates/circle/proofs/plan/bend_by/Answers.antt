@@ -1,7 +1,5 @@
 -- `circle::plan::bend_by` meets its contract. Assumes nothing.
-use borrow.Author.Rules.{rules}
 use mathlib.Core.Path.{sym, ◌∙◌}
-use borrow.Author.Tests.{not-true, not-false}
 use Rattle.circle.proofs.laws.Work.{plane-small, counted-parts, going-out, going_on, going-none}
 use Rattle.circle.proofs.plan.bend_by.Goals as goal
 

@@ -1,5 +1,4 @@
 -- `circle::plan::centre_of` meets its contract. Assumes nothing.
-use borrow.Author.Rules.{rules}
 use Rattle.circle.specs.Plan.{centre_of}
 use Rattle.circle.proofs.plan.centre_of.Goals as goal
 

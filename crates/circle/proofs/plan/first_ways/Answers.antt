@@ -1,5 +1,4 @@
 -- `circle::plan::first_ways` meets its contract. Assumes nothing.
-use borrow.Author.Rules.{rules}
 use Rattle.circle.specs.Plan.{first_ways}
 use Rattle.circle.proofs.plan.first_ways.Goals as goal
 

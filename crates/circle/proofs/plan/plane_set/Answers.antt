@@ -1,5 +1,4 @@
 -- `circle::plan::plane_set` meets its contract. Assumes nothing.
-use borrow.Author.Rules.{rules}
 use Rattle.circle.proofs.plan.plane_set.Goals as goal
 
 pub returns-in-XY : goal.returns-in-XY

@@ -1,5 +1,4 @@
 -- `circle::plan::start_count` meets its contract. Assumes nothing.
-use borrow.Author.Rules.{rules}
 use native.Mathlib.Omega.{arith}
 use Rattle.count.proofs.laws.Laws.{signed_low, signed_high}
 use Rattle.circle.proofs.laws.Work.{start-low, start-high}

@@ -1,5 +1,4 @@
 -- `circle::plan::start_of` meets its contract. Assumes nothing.
-use borrow.Author.Rules.{rules}
 use Rattle.circle.proofs.laws.Work.{arc-starts}
 use Rattle.circle.proofs.plan.start_of.Goals as goal
 

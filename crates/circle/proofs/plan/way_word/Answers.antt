@@ -1,5 +1,4 @@
 -- `circle::plan::way_word` meets its contract. Assumes nothing.
-use borrow.Author.Rules.{rules}
 use Rattle.count.specs.Numbers.{word}
 use Rattle.circle.proofs.plan.way_word.Goals as goal
 

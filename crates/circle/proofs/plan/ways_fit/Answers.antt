@@ -1,5 +1,4 @@
 -- `circle::plan::ways_fit` meets its contract. Assumes nothing.
-use borrow.Author.Rules.{rules}
 use Rattle.circle.proofs.plan.ways_fit.Goals as goal
 
 pub returns : goal.returns

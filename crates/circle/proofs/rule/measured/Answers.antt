@@ -1,5 +1,4 @@
 -- `circle::rule::measured` meets its contract. Assumes nothing.
-use borrow.Author.Rules.{rules}
 use Rattle.circle.specs.Rule.{measure}
 use Rattle.circle.proofs.rule.measured.Goals as goal
 

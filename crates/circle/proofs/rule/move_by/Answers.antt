@@ -1,5 +1,4 @@
 -- `circle::rule::move_by` meets its contract. Assumes nothing.
-use borrow.Author.Rules.{rules}
 use mathlib.Core.Path.{sym, ◌∙◌}
 use Rattle.circle.proofs.laws.Work.{move-second, move-first, move-one, move-two}
 use Rattle.circle.proofs.rule.move_by.Goals as goal

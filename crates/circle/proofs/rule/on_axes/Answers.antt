@@ -1,5 +1,4 @@
 -- `circle::rule::on_axes` meets its contract. Assumes nothing.
-use borrow.Author.Rules.{rules}
 use Rattle.circle.proofs.rule.on_axes.Goals as goal
 
 pub returns-in-XY : goal.returns-in-XY

@@ -1,5 +1,4 @@
 -- `circle::rule::on_plane` meets its contract. Assumes nothing.
-use borrow.Author.Rules.{rules}
 use Rattle.circle.proofs.rule.on_plane.Goals as goal
 
 pub returns-in-XY : goal.returns-in-XY

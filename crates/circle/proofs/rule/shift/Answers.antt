@@ -1,5 +1,4 @@
 -- `circle::rule::shift` meets its contract. Assumes nothing.
-use borrow.Author.Rules.{rules}
 use native.Mathlib.Omega.{arith}
 use Rattle.circle.proofs.rule.shift.Goals as goal
 

@@ -1,5 +1,4 @@
 -- `circle::rule::shifted_by` meets its contract. Assumes nothing.
-use borrow.Author.Rules.{rules}
 use Rattle.circle.proofs.rule.shifted_by.Goals as goal
 
 pub returns : goal.returns

@@ -1,5 +1,4 @@
 -- `circle::rule::turned` meets its contract. Assumes nothing.
-use borrow.Author.Rules.{rules}
 use Rattle.circle.proofs.rule.turned.Goals as goal
 
 pub returns-in-Clockwise : goal.returns-in-Clockwise

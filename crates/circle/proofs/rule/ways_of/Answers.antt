@@ -1,5 +1,4 @@
 -- `circle::rule::ways_of` meets its contract. Assumes nothing.
-use borrow.Author.Rules.{rules}
 use Rattle.circle.specs.Rule.{ways_at}
 use Rattle.circle.proofs.rule.ways_of.Goals as goal
 

@@ -1,5 +1,4 @@
 -- `circle::sound::has_room` meets its contract. Assumes nothing.
-use borrow.Author.Rules.{rules}
 use Rattle.circle.specs.Plan.{has_room, reach_of}
 use Rattle.circle.proofs.sound.has_room.Goals as goal
 

@@ -1,5 +1,4 @@
 -- `circle::sound::point_right` meets its contract. Assumes nothing.
-use borrow.Author.Rules.{rules}
 use Rattle.circle.specs.Plan.{reach_of}
 use Rattle.circle.specs.Sound.{point_sound}
 use Rattle.circle.proofs.sound.point_right.Goals as goal

@@ -1,9 +1,7 @@
 -- `circle::sound::reaches_by` meets its contract. Assumes nothing.
-use borrow.Author.Rules.{rules}
 use native.Mathlib.Omega.{arith}
 use Prim.Native.Nat.{ℕ, ◌-◌}
 use mathlib.Core.Path.{◌≡◌, sym}
-use mathlib.Core.Logic.{⊎_elim}
 use Rattle.motion.proofs.Work.{product}
 use Rattle.circle.proofs.laws.Roots.{reaches-root}
 use Rattle.circle.proofs.sound.reaches_by.Goals as goal

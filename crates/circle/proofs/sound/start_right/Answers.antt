@@ -1,5 +1,4 @@
 -- `circle::sound::start_right` meets its contract. Assumes nothing.
-use borrow.Author.Rules.{rules}
 use Rattle.circle.specs.Sound.{start_sound}
 use Rattle.circle.proofs.sound.start_right.Goals as goal
 

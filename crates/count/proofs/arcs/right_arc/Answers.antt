@@ -1,6 +1,5 @@
 -- `count::right_arc` meets its contract. Assumes nothing.
 use Rattle.count.specs.Ranges.{right_arc}
-use borrow.Author.Rules.{rules}
 use Rattle.count.proofs.arcs.right_arc.Goals as goal
 
 pub returns : goal.returns

@@ -1,5 +1,4 @@
 -- `count::right_start` meets its contract. Assumes nothing.
-use borrow.Author.Rules.{rules}
 use Rattle.count.proofs.arcs.right_start.Goals as goal
 
 pub returns : goal.returns

@@ -1,5 +1,4 @@
 -- `count::has` meets its contract. Assumes nothing.
-use borrow.Author.Rules.{rules}
 use Rattle.count.proofs.axes.has.Goals as goal
 
 pub returns : goal.returns

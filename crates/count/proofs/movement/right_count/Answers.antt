@@ -1,7 +1,6 @@
 -- `count::right_count` meets its contract. Assumes nothing.
 use borrow.Author.Tests.{eq-eqb, ne_eqb}
 use Rattle.count.specs.Ranges.{right_count}
-use borrow.Author.Rules.{rules}
 use Rattle.count.proofs.movement.right_count.Goals as goal
 
 pub returns-then-one_pair : goal.returns-then-one_pair

@@ -1,8 +1,6 @@
 -- `count::right_distances` meets its contract. Assumes nothing.
 use borrow.Author.Tests.{eq-eqb, ne_eqb}
 use Rattle.count.specs.Ranges.{right_distances}
-use borrow.Author.Rules.{rules}
-use Rattle.count.proofs.ranges.is_24.Reads as is-24-reads
 use Rattle.count.proofs.movement.right_distances.Goals as goal
 
 pub returns-then-one_pair : goal.returns-then-one_pair

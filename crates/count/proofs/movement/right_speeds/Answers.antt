@@ -1,8 +1,6 @@
 -- `count::right_speeds` meets its contract. Assumes nothing.
 use borrow.Author.Tests.{eq-eqb, ne_eqb}
 use Rattle.count.specs.Ranges.{right_speeds}
-use borrow.Author.Rules.{rules}
-use Rattle.count.proofs.ranges.is_speed.Reads as is-speed-reads
 use Rattle.count.proofs.movement.right_speeds.Goals as goal
 
 pub returns-then-one_pair : goal.returns-then-one_pair

@@ -1,6 +1,5 @@
 -- `count::right_z2` meets its contract. Assumes nothing.
 use Rattle.count.specs.Ranges.{right_z2}
-use borrow.Author.Rules.{rules}
 use Rattle.count.proofs.movement.right_z2.Goals as goal
 
 pub returns-then-absolute : goal.returns-then-absolute

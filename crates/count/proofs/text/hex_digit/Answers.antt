@@ -1,5 +1,4 @@
 -- `count::hex_digit` meets its contract. Assumes nothing.
-use borrow.Author.Rules.{rules}
 use borrow.Author.Tests.{lt-ltb, le-ltb}
 use Rattle.count.specs.Text.{hex_digit}
 use Rattle.count.proofs.text.hex_digit.Goals as goal

@@ -7,7 +7,6 @@ use lib.Seq.{sets-eq}
 use lib.ListN.{length}
 use Rattle.count.specs.Text.{written, two_hex}
 use Rattle.count.proofs.laws.Digits.{hexes-two, wrote-short, wrote-long}
-use borrow.Author.Rules.{rules}
 use Rattle.count.proofs.text.put_byte.Goals as goal
 
 pub returns-then-text-lt2 : goal.returns-then-text-lt2

@@ -8,7 +8,6 @@ use Rattle.count.specs.Numbers.{half, value}
 use Rattle.count.specs.Text.{written, shown}
 use Rattle.count.proofs.laws.Laws.{sub-pos, sub-neg}
 use Rattle.count.proofs.laws.Digits.{wrote-short, wrote-long}
-use borrow.Author.Rules.{rules}
 use Rattle.count.proofs.text.put_count.Goals as goal
 
 below : (c : ℕ) → c < half → value c ≡ negsuc (half - 1 - c)

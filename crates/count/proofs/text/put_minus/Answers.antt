@@ -10,7 +10,6 @@ use borrow.Rule.Slice.PartMut.{put_mid}
 use Rattle.count.specs.Text.{digits, shown}
 use Rattle.count.proofs.laws.Lists.{rest, set_front, drop-one}
 use Rattle.count.proofs.laws.Digits.{digits-most}
-use borrow.Author.Rules.{rules}
 use Rattle.count.proofs.text.put_minus.Goals as goal
 
 minus-text : (n : ℕ) (s : List ℕ) {k : ℕ} {l : List ℕ} → 1 ≤ length s → k ≡ length (digits (n + 1))

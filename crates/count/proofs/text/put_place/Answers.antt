@@ -7,7 +7,6 @@ use lib.Seq.{sets-eq}
 use lib.ListN.{length, length-set}
 use Rattle.count.specs.Text.{written, four_digits}
 use Rattle.count.proofs.laws.Digits.{decimals-four, wrote-short, wrote-long}
-use borrow.Author.Rules.{rules}
 use Rattle.count.proofs.text.put_place.Goals as goal
 
 pub returns-then-text-lt4 : goal.returns-then-text-lt4

@@ -7,7 +7,6 @@ use lib.Seq.{sets-eq}
 use lib.ListN.{length, length-set}
 use Rattle.count.specs.Text.{written, report}
 use Rattle.count.proofs.laws.Digits.{hexes-six, wrote-short, wrote-long}
-use borrow.Author.Rules.{rules}
 use Rattle.count.proofs.text.put_report.Goals as goal
 
 pub returns-then-text-lt6 : goal.returns-then-text-lt6

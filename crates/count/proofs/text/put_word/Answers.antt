@@ -1,13 +1,11 @@
 -- `count::put_word` meets its contract. Assumes nothing.
-use mathlib.Core.Path.{◌≡◌, sym}
-use Prim.Native.Nat.{ℕ, suc, ◌-◌, ◌≤◌}
+use mathlib.Core.Path.{sym}
+use Prim.Native.Nat.{◌≤◌}
 use native.Mathlib.Omega.{arith}
 use lib.ListN.{length}
-use Rattle.count.specs.Numbers.{half}
 use Rattle.count.specs.Text.{written, shown}
 use Rattle.count.proofs.laws.Laws.{signed_low, signed_high}
 use Rattle.count.proofs.laws.Digits.{wrote-short, wrote-long}
-use borrow.Author.Rules.{rules}
 use Rattle.count.proofs.text.put_word.Goals as goal
 
 pub returns-then-text-lt11 : goal.returns-then-text-lt11

@@ -6,7 +6,6 @@ use native.Mathlib.Omega.{arith}
 use Rattle.count.specs.Numbers.{half, full}
 use Rattle.count.specs.Text.{twos24}
 use Rattle.count.proofs.laws.Laws.{sub-pos, sub-neg}
-use borrow.Author.Rules.{rules}
 use Rattle.count.proofs.text.twos_24.Goals as goal
 
 back : (c : ℕ) → c < half → 16777215 - (half - suc c) % full ≡ c + half

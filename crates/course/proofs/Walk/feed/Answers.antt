@@ -1,6 +1,5 @@
 -- `course::Walk::feed` meets its contract. Assumes nothing.
 use Rattle.course.proofs.laws.Feeds.{feed-stays, feed-goes}
-use borrow.Author.Rules.{rules}
 use Rattle.course.proofs.Walk.feed.Goals as goal
 
 pub returns-then-self-taken : goal.returns-then-self-taken

@@ -2,14 +2,12 @@
 use Prim.Native.Nat.{ℕ}
 use mathlib.Core.Path.{ap, sym, ◌∙◌}
 use native.Mathlib.Omega.{arith}
-use borrow.Author.Tests.{not-true, not-false}
 use Rattle.record.specs.Memory.{memory}
 use Rattle.course.specs.declared.Portion.{Portion}
 use Rattle.course.specs.Run.{run_outcome}
 use Rattle.course.specs.Walk.{walk, ready}
 use Rattle.course.specs.Walk.{done_of}
 use Rattle.course.proofs.Portions.{on-over, on-unready, on-made, run-few}
-use borrow.Author.Rules.{rules}
 use Rattle.course.proofs.Walk.go_on.Goals as goal
 
 pub returns-then-self : goal.returns-then-self

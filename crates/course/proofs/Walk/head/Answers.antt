@@ -4,7 +4,6 @@ use Rattle.count.proofs.laws.Digits.{wrote-short}
 use Rattle.course.specs.Text.{head_text}
 use Rattle.course.specs.Walk.{head_done}
 use Rattle.course.proofs.Portions.{written_of}
-use borrow.Author.Rules.{rules}
 use Rattle.course.proofs.Walk.head.Goals as goal
 
 pub returns-then-out-lt64 : goal.returns-then-out-lt64

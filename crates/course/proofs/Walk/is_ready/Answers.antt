@@ -1,5 +1,4 @@
 -- `course::Walk::is_ready` meets its contract. Assumes nothing.
-use borrow.Author.Rules.{rules}
 use Rattle.course.proofs.Walk.is_ready.Goals as goal
 
 pub returns : goal.returns

@@ -1,5 +1,4 @@
 -- `course::Walk::new` meets its contract. Assumes nothing.
-use borrow.Author.Rules.{rules}
 use Rattle.course.proofs.Walk.new.Goals as goal
 
 pub returns : goal.returns

@@ -12,7 +12,6 @@ use Rattle.course.specs.Walk.{walk, ready}
 use Rattle.course.specs.Walk.{done_of}
 use Rattle.course.proofs.Portions.{ready-parts}
 use Rattle.course.proofs.Bytes.{next-on, next-unready, next-made, next-still, framed-here, reply-fits, line-fits, run_fits, mid-long}
-use borrow.Author.Rules.{rules}
 use Rattle.course.proofs.Walk.next.Goals as goal
 
 pub returns-then-not-self : goal.returns-then-not-self

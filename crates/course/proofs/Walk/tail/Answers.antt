@@ -4,7 +4,6 @@ use Rattle.count.proofs.laws.Digits.{wrote-short}
 use Rattle.course.specs.Walk.{tail_done}
 use Rattle.course.proofs.Behind.{wrote_then}
 use Rattle.course.proofs.Portions.{tail-over, tail-on}
-use borrow.Author.Rules.{rules}
 use Rattle.course.proofs.Walk.tail.Goals as goal
 
 pub returns-then-out-lt64 : goal.returns-then-out-lt64

@@ -1,5 +1,4 @@
 -- `course::glide` meets its contract: by the kind. Assumes nothing.
-use borrow.Author.Rules.{rules}
 use Rattle.course.proofs.glide.glide.Goals as goal
 
 pub returns-in-Straight : goal.returns-in-Straight

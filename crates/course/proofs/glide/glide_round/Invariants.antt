@@ -1,16 +1,9 @@
 -- `course::glide_round` meets its contract: the loop of `Pulses`. What moves is what was given with other pulses made. Assumes nothing.
 use Prim.Native.Nat.{◌-◌, ◌*◌, ◌≤◌}
-use mathlib.Core.Path.{ap, ◌∙◌}
-use native.Mathlib.Omega.{arith}
 use lib.ListN.{length}
 use Rattle.travel.specs.declared.Travel.TheVariants as travel
 use Rattle.travel.specs.work.Beat.{with_made}
-use Rattle.course.specs.declared.Glided.{Glided}
-use Rattle.course.proofs.laws.Machine.{way-off, way-none}
-use Rattle.course.specs.work.Glide.{here, glides, glide_on, glide_said, glided}
-use Rattle.course.proofs.Loop.{kept-first}
-use Rattle.course.proofs.Pulses.{GKept, pulse-short, behind-long, round-beat, over, last, room, turn}
-use borrow.Author.Rules.{rules}
+use Rattle.course.proofs.Pulses.{GKept}
 use Rattle.course.proofs.glide.glide_round.Given as goal
 
 abbrev pub invariant-loop-n : goal.invariant-loop-n

@@ -1,5 +1,4 @@
 -- `course::glided_to` meets its contract. Assumes nothing.
-use borrow.Author.Rules.{rules}
 use Rattle.course.proofs.glide.glided_to.Goals as goal
 
 pub returns : goal.returns

@@ -1,6 +1,5 @@
 -- `course::glide_on` meets its contract. Assumes nothing.
 use Rattle.course.proofs.Turns.{stays-left, going-left}
-use borrow.Author.Rules.{rules}
 use Rattle.course.proofs.going.glide_on.Goals as goal
 
 pub returns-in_default : goal.returns-in_default

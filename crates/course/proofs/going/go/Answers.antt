@@ -1,9 +1,8 @@
 -- `course::go` meets its contract: each turn is a clock call and the pulses that follow it. Assumes nothing.
-use Prim.Native.Nat.{ℕ, ◌-◌, ◌+◌, ◌*◌, ◌≤◌}
+use Prim.Native.Nat.{ℕ, ◌-◌, ◌+◌}
 use mathlib.Core.Path.{◌≡◌, refl, sym, ◌∙◌}
 use mathlib.Core.List.{List}
 use native.Mathlib.Omega.{arith}
-use borrow.Author.Tests.{not-true, not-false}
 use borrow.Rule.Slice.PartMut.{put_mid}
 use lib.ListN.{length}
 use Rattle.record.specs.Memory.{memory}
@@ -13,7 +12,6 @@ use Rattle.course.specs.work.Going.{tick_next, tick_said}
 use Rattle.course.proofs.Loop.{kept-first, kept-last}
 use Rattle.course.proofs.Pulses.{behind-long}
 use Rattle.course.proofs.Turns.{RKept, turned, gone}
-use borrow.Author.Rules.{rules}
 use Rattle.course.proofs.going.go.Goals as goal
 use Rattle.course.proofs.going.go.Goals.{After-put_answer-k, After-glide_on-w}
 

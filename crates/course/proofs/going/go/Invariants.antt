@@ -1,19 +1,8 @@
 -- `course::go` meets its contract: each turn is a clock call and the pulses that follow it. Assumes nothing.
-use Prim.Native.Nat.{ℕ, ◌-◌, ◌+◌, ◌*◌, ◌≤◌}
-use mathlib.Core.Path.{sym, ◌∙◌}
-use mathlib.Core.List.{List}
-use native.Mathlib.Omega.{arith}
-use borrow.Author.Tests.{not-true, not-false}
-use borrow.Rule.Slice.PartMut.{put_mid}
+use Prim.Native.Nat.{◌-◌, ◌*◌, ◌≤◌}
 use lib.ListN.{length}
 use Rattle.record.specs.Memory.{memory}
-use Rattle.engine.specs.Tick.{runs_of}
-use Rattle.course.proofs.laws.Machine.{way-off, way-none}
-use Rattle.course.specs.work.Going.{tick_next, tick_said}
-use Rattle.course.proofs.Loop.{kept-first, kept-last}
-use Rattle.course.proofs.Pulses.{behind-long}
-use Rattle.course.proofs.Turns.{RKept, turned, gone}
-use borrow.Author.Rules.{rules}
+use Rattle.course.proofs.Turns.{RKept}
 use Rattle.course.proofs.going.go.Given as goal
 
 abbrev pub invariant-loop-n : goal.invariant-loop-n

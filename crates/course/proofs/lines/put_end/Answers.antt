@@ -7,7 +7,6 @@ use Rattle.count.specs.Numbers.{value}
 use Rattle.count.specs.declared.Axis.{Axis}
 use native.Mathlib.Omega.{arith}
 use mathlib.Core.List.{◌∷◌}
-use borrow.Author.Rules.{rules}
 use Rattle.course.proofs.lines.put_end.Goals as goal
 
 pub returns : goal.returns

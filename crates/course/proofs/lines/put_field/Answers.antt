@@ -1,15 +1,8 @@
 -- `course::put_field` meets its contract: the position behind the space. Assumes nothing.
-use Prim.Native.Nat.{◌+◌, ◌-◌}
-use mathlib.Core.List.{◌∷◌}
 use native.Mathlib.Omega.{arith}
-use borrow.Rule.Slice.PartMut.{put_mid}
-use lib.ListN.{length, set}
 use Rattle.count.specs.Numbers.{value}
-use Rattle.count.specs.Text.{shown}
 use Rattle.count.proofs.laws.Digits.{shown-most}
-use Rattle.course.specs.work.Work.{Wrote}
 use Rattle.course.proofs.Behind.{byte-before}
-use borrow.Author.Rules.{rules}
 use Rattle.course.proofs.lines.put_field.Goals as goal
 
 pub overflow_add-result : goal.overflow_add-result

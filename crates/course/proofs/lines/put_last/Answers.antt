@@ -1,7 +1,6 @@
 -- `course::lines::put_last` meets its contract. Assumes nothing.
 use mathlib.Core.Path.{refl}
 use native.Mathlib.Omega.{arith}
-use borrow.Author.Rules.{rules}
 use Rattle.course.proofs.lines.put_last.Goals as goal
 
 pub returns-then-turns : goal.returns-then-turns

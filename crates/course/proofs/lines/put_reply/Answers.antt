@@ -2,7 +2,6 @@
 use native.Mathlib.Omega.{arith}
 use lib.ListN.{length-set}
 use Rattle.course.proofs.Bytes.{reply-framed}
-use borrow.Author.Rules.{rules}
 use Rattle.course.proofs.lines.put_reply.Goals as goal
 
 pub bounds-out-1 : goal.bounds-out-1

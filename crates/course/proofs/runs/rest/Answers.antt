@@ -1,5 +1,4 @@
 -- `course::rest` meets its contract. Assumes nothing.
-use borrow.Author.Rules.{rules}
 use Rattle.course.proofs.runs.rest.Goals as goal
 
 pub returns : goal.returns

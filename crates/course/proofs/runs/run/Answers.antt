@@ -2,14 +2,12 @@
 use Prim.Native.Nat.{ℕ}
 use mathlib.Core.Path.{◌≡◌, refl, ap, sym, ◌∙◌}
 use mathlib.Core.Bool.{not}
-use borrow.Author.Tests.{not-true, not-false}
 use Rattle.record.specs.Memory.{memory}
 use Rattle.course.specs.declared.Ran.{Ran}
 use Rattle.course.specs.Run.{allowed, did_run}
 use Rattle.course.specs.work.Machine.{left_by}
 use Rattle.course.specs.work.Going.{go_way}
 use Rattle.course.proofs.Outcomes.{refused-102, refused-103, refused-104, rests-there, went}
-use borrow.Author.Rules.{rules}
 use Rattle.course.proofs.runs.run.Goals as goal
 
 pub returns-then-store-ne16384 : goal.returns-then-store-ne16384

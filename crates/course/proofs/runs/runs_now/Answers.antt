@@ -1,6 +1,5 @@
 -- `course::runs_now` meets its contract. Assumes nothing.
 use Rattle.course.specs.Run.{runs_now}
-use borrow.Author.Rules.{rules}
 use Rattle.course.proofs.runs.runs_now.Goals as goal
 
 pub returns : goal.returns

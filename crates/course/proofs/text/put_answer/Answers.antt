@@ -1,5 +1,4 @@
 -- `course::put_answer` meets its contract. Assumes nothing.
-use borrow.Author.Rules.{rules}
 use Rattle.course.proofs.text.put_answer.Goals as goal
 
 pub returns-in-Pulse : goal.returns-in-Pulse

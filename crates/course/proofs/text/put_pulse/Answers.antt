@@ -4,7 +4,6 @@ use Rattle.course.proofs.Digits.{behind-six, behind-seven}
 use Rattle.course.specs.Text.{pulse_text}
 use Rattle.count.specs.Text.{digits}
 use mathlib.Core.List.{[], ◌∷◌, ◌++◌}
-use borrow.Author.Rules.{rules}
 use Rattle.course.proofs.text.put_pulse.Goals as goal
 
 pub overflow_add-result : goal.overflow_add-result

@@ -1,11 +1,8 @@
 -- `course::put_signs` meets its contract. Assumes nothing.
-use mathlib.Core.Path.{◌≡◌, refl, sym, ap, ◌∙◌}
-use mathlib.Core.List.{List, [], ◌∷◌, ◌++◌}
+use mathlib.Core.List.{[], ◌∷◌}
 use native.Mathlib.Omega.{arith}
-use lib.ListN.{length, drop, length-set}
+use lib.ListN.{length-set}
 use lib.Seq.{sets-eq}
-use Rattle.course.specs.work.Work.{Wrote}
-use borrow.Author.Rules.{rules}
 use Rattle.course.proofs.text.put_signs.Goals as goal
 
 pub bounds-out-1 : goal.bounds-out-1

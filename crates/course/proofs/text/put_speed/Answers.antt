@@ -1,12 +1,10 @@
 -- `course::put_speed` meets its contract: the digits one after the other. Assumes nothing.
-use mathlib.Core.Path.{◌≡◌, refl, sym, ap, ◌∙◌}
-use mathlib.Core.List.{List, [], ◌∷◌, ◌++◌}
+use mathlib.Core.Path.{refl}
+use mathlib.Core.List.{[], ◌∷◌}
 use native.Mathlib.Omega.{arith}
-use lib.ListN.{length, drop, length-set}
+use lib.ListN.{length-set}
 use lib.Seq.{sets-eq}
-use Rattle.course.specs.work.Work.{Wrote}
 use Rattle.course.proofs.Digits.{digits1, digits2, digits3, digits4, digits5}
-use borrow.Author.Rules.{rules}
 use Rattle.course.proofs.text.put_speed.Goals as goal
 
 pub bounds-out-1 : goal.bounds-out-1

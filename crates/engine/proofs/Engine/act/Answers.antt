@@ -1,5 +1,4 @@
 -- `engine::Engine::act` meets its contract. Assumes nothing.
-use borrow.Author.Rules.{rules}
 use Rattle.engine.proofs.Engine.act.Goals as goal
 
 pub returns-in-Wrong : goal.returns-in-Wrong

@@ -1,6 +1,5 @@
 -- `engine::Engine::begin` meets its contract. Assumes nothing.
 use Rattle.engine.specs.State.{begin_of}
-use borrow.Author.Rules.{rules}
 use Rattle.engine.proofs.Engine.begin.Goals as goal
 
 pub returns : goal.returns

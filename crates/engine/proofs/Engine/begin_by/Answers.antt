@@ -1,6 +1,5 @@
 -- `engine::Engine::begin_by` meets its contract. Assumes nothing.
 use borrow.Author.Tests.{eq-eqb, ne_eqb}
-use borrow.Author.Rules.{rules}
 use Rattle.engine.proofs.Engine.begin_by.Goals as goal
 
 pub returns-then-left-eq0 : goal.returns-then-left-eq0

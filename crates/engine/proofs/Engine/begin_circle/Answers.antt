@@ -1,6 +1,5 @@
 -- `engine::Engine::begin_circle` meets its contract. Assumes nothing.
 use Rattle.engine.specs.State.{circle_begun}
-use borrow.Author.Rules.{rules}
 use Rattle.engine.proofs.Engine.begin_circle.Goals as goal
 
 pub returns : goal.returns

@@ -1,5 +1,4 @@
 -- `engine::Engine::cease` meets its contract. Assumes nothing.
-use borrow.Author.Rules.{rules}
 use Rattle.engine.proofs.Engine.cease.Goals as goal
 
 pub returns : goal.returns

@@ -1,6 +1,5 @@
 -- `engine::Engine::delay` meets its contract. Assumes nothing.
 use Rattle.engine.proofs.laws.Work.{delay-on}
-use borrow.Author.Rules.{rules}
 use Rattle.engine.proofs.Engine.delay.Goals as goal
 
 pub returns-then-t-eq0 : goal.returns-then-t-eq0

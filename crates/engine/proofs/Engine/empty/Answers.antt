@@ -1,5 +1,4 @@
 -- `engine::Engine::empty` meets its contract. Assumes nothing.
-use borrow.Author.Rules.{rules}
 use Rattle.engine.proofs.Engine.empty.Goals as goal
 
 pub returns : goal.returns

@@ -1,5 +1,4 @@
 -- `engine::Engine::fail` meets its contract. Assumes nothing.
-use borrow.Author.Rules.{rules}
 use Rattle.engine.proofs.Engine.fail.Goals as goal
 
 pub returns : goal.returns

@@ -1,5 +1,4 @@
 -- `engine::Engine::finish` meets its contract. Assumes nothing.
-use borrow.Author.Rules.{rules}
 use Rattle.engine.proofs.Engine.finish.Goals as goal
 
 pub returns : goal.returns

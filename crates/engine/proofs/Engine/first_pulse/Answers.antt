@@ -1,6 +1,5 @@
 -- `engine::Engine::first_pulse` meets its contract. Assumes nothing.
 use Rattle.engine.proofs.laws.Acts.{first_made, first-over}
-use borrow.Author.Rules.{rules}
 use Rattle.engine.proofs.Engine.first_pulse.Goals as goal
 
 pub returns-in-Made : goal.returns-in-Made

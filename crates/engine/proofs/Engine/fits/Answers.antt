@@ -1,6 +1,5 @@
 -- `engine::Engine::fits` meets its contract. Assumes nothing.
 use Rattle.engine.specs.work.Acts.{fits_of}
-use borrow.Author.Rules.{rules}
 use Rattle.engine.proofs.Engine.fits.Goals as goal
 
 pub returns : goal.returns

@@ -1,5 +1,4 @@
 -- `engine::Engine::fresh` meets its contract. Assumes nothing.
-use borrow.Author.Rules.{rules}
 use Rattle.engine.proofs.Engine.fresh.Goals as goal
 
 pub returns : goal.returns

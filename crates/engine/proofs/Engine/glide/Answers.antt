@@ -1,6 +1,5 @@
 -- `engine::Engine::glide` meets its contract. Assumes nothing.
 use Rattle.engine.specs.work.Glide.{glided}
-use borrow.Author.Rules.{rules}
 use Rattle.engine.proofs.Engine.glide.Goals as goal
 
 pub returns-in-Idle : goal.returns-in-Idle

@@ -1,5 +1,4 @@
 -- `engine::Engine::go_to` meets its contract. Assumes nothing.
-use borrow.Author.Rules.{rules}
 use Rattle.engine.proofs.Engine.go_to.Goals as goal
 
 pub returns : goal.returns

@@ -1,7 +1,6 @@
 -- `engine::Engine::hear` meets its contract. Assumes nothing.
 use borrow.Author.Tests.{eq-eqb, ne_eqb}
 use Rattle.engine.specs.State.{heard}
-use borrow.Author.Rules.{rules}
 use Rattle.engine.proofs.Engine.hear.Goals as goal
 
 pub returns-then-byte-c : goal.returns-then-byte-c

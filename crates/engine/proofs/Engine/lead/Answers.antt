@@ -2,7 +2,6 @@
 use native.Mathlib.Omega.{arith}
 use Rattle.program.proofs.laws.Leaps.{leap-way}
 use Rattle.engine.proofs.laws.Work.{awaited-small}
-use borrow.Author.Rules.{rules}
 use Rattle.engine.proofs.Engine.lead.Goals as goal
 
 pub overflow_cast-c : goal.overflow_cast-c

@@ -1,5 +1,4 @@
 -- `engine::Engine::move_to` meets its contract. Assumes nothing.
-use borrow.Author.Rules.{rules}
 use Rattle.engine.proofs.Engine.move_to.Goals as goal
 
 pub returns : goal.returns

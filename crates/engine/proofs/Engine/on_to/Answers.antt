@@ -1,5 +1,4 @@
 -- `engine::Engine::on_to` meets its contract. Assumes nothing.
-use borrow.Author.Rules.{rules}
 use Rattle.engine.proofs.Engine.on_to.Goals as goal
 
 pub returns : goal.returns

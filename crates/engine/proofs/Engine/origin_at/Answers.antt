@@ -1,5 +1,4 @@
 -- `engine::Engine::origin_at` meets its contract. Assumes nothing.
-use borrow.Author.Rules.{rules}
 use Rattle.engine.proofs.Engine.origin_at.Goals as goal
 
 pub returns : goal.returns

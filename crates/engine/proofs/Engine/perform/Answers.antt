@@ -6,7 +6,6 @@ use Rattle.travel.specs.work.Beat.{next_of}
 use Rattle.engine.proofs.laws.Work.{movement-code, performs-movement}
 use native.Mathlib.Omega.{arith}
 use Rattle.engine.specs.Tick.{performed}
-use borrow.Author.Rules.{rules}
 use Rattle.engine.proofs.Engine.perform.Goals as goal
 
 pub on_to-requires : goal.on_to-requires

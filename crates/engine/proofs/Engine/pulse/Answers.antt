@@ -1,5 +1,4 @@
 -- `engine::Engine::pulse` meets its contract. Assumes nothing.
-use borrow.Author.Rules.{rules}
 use Rattle.engine.proofs.Engine.pulse.Goals as goal
 
 pub returns : goal.returns

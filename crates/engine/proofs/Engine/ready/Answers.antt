@@ -4,7 +4,6 @@ use Rattle.record.specs.Table.{fetch_of}
 use Rattle.engine.proofs.laws.Work.{got, got-end, got-wrong}
 use native.Mathlib.Omega.{arith}
 use Rattle.engine.proofs.laws.Work.{ready-fits}
-use borrow.Author.Rules.{rules}
 use Rattle.engine.proofs.Engine.ready.Goals as goal
 
 pub perform-requires : goal.perform-requires

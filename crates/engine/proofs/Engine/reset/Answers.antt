@@ -1,6 +1,5 @@
 -- `engine::Engine::reset` meets its contract. Assumes nothing.
 use Rattle.engine.specs.State.{reset_of}
-use borrow.Author.Rules.{rules}
 use Rattle.engine.proofs.Engine.reset.Goals as goal
 
 pub returns-in-Idle : goal.returns-in-Idle

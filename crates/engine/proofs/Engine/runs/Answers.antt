@@ -1,6 +1,5 @@
 -- `engine::Engine::runs` meets its contract. Assumes nothing.
 use Rattle.engine.specs.Tick.{runs_of}
-use borrow.Author.Rules.{rules}
 use Rattle.engine.proofs.Engine.runs.Goals as goal
 
 pub returns-in-Idle : goal.returns-in-Idle

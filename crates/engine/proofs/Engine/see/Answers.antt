@@ -1,7 +1,5 @@
 -- `engine::Engine::see` meets its contract. Assumes nothing.
-use borrow.Author.Tests.{not-true, not-false}
 use Rattle.engine.proofs.laws.Acts.{seen_by}
-use borrow.Author.Rules.{rules}
 use Rattle.engine.proofs.Engine.see.Goals as goal
 
 pub returns-then-not-fits : goal.returns-then-not-fits

@@ -1,6 +1,5 @@
 -- `engine::Engine::set_axes` meets its contract. Assumes nothing.
 use borrow.Author.Tests.{eq-eqb, ne_eqb}
-use borrow.Author.Rules.{rules}
 use Rattle.engine.proofs.Engine.set_axes.Goals as goal
 
 pub returns-then-axes-eq8 : goal.returns-then-axes-eq8

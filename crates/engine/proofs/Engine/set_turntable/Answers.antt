@@ -1,5 +1,4 @@
 -- `engine::Engine::set_turntable` meets its contract. Assumes nothing.
-use borrow.Author.Rules.{rules}
 use Rattle.engine.proofs.Engine.set_turntable.Goals as goal
 
 pub returns : goal.returns

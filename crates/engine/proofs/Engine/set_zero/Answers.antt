@@ -1,5 +1,4 @@
 -- `engine::Engine::set_zero` meets its contract. Assumes nothing.
-use borrow.Author.Rules.{rules}
 use Rattle.engine.proofs.Engine.set_zero.Goals as goal
 
 pub returns : goal.returns

@@ -1,7 +1,6 @@
 -- `engine::Engine::sound` meets its contract. Assumes nothing.
 use Rattle.engine.specs.Sound.{sound_of}
 use Rattle.engine.specs.work.Acts.{fits_of}
-use borrow.Author.Rules.{rules}
 use Rattle.engine.proofs.Engine.sound.Goals as goal
 
 pub returns : goal.returns

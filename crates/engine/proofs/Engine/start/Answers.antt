@@ -1,5 +1,4 @@
 -- `engine::Engine::start` meets its contract. Assumes nothing.
-use borrow.Author.Rules.{rules}
 use Rattle.engine.proofs.Engine.start.Goals as goal
 
 pub returns : goal.returns

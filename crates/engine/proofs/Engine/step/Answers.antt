@@ -1,5 +1,4 @@
 -- `engine::Engine::step` meets its contract. Assumes nothing.
-use borrow.Author.Rules.{rules}
 use Rattle.engine.proofs.Engine.step.Goals as goal
 
 pub returns : goal.returns

@@ -1,5 +1,4 @@
 -- `engine::Engine::store` meets its contract. Assumes nothing.
-use borrow.Author.Rules.{rules}
 use Rattle.engine.proofs.Engine.store.Goals as goal
 
 pub returns : goal.returns

@@ -2,7 +2,6 @@
 use Rattle.record.specs.Memory.{memory}
 use Rattle.record.specs.Table.{fetch_of}
 use Rattle.engine.proofs.laws.Acts.{acted-is-ticked}
-use borrow.Author.Rules.{rules}
 use Rattle.engine.proofs.Engine.tick.Goals as goal
 
 pub returns : goal.returns

@@ -1,5 +1,4 @@
 -- `engine::Engine::travel` meets its contract. Assumes nothing.
-use borrow.Author.Rules.{rules}
 use Rattle.engine.proofs.Engine.travel.Goals as goal
 
 pub returns : goal.returns

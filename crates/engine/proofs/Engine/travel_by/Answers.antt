@@ -1,5 +1,4 @@
 -- `engine::Engine::travel_by` meets its contract. Assumes nothing.
-use borrow.Author.Rules.{rules}
 use Rattle.engine.proofs.Engine.travel_by.Goals as goal
 
 pub returns-in-Going : goal.returns-in-Going

@@ -1,5 +1,4 @@
 -- `engine::Engine::turn` meets its contract. Assumes nothing.
-use borrow.Author.Rules.{rules}
 use Rattle.engine.proofs.Engine.turn.Goals as goal
 
 pub returns : goal.returns

@@ -1,5 +1,4 @@
 -- `engine::Engine::with_job` meets its contract. Assumes nothing.
-use borrow.Author.Rules.{rules}
 use Rattle.engine.proofs.Engine.with_job.Goals as goal
 
 pub returns : goal.returns

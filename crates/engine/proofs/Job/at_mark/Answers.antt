@@ -1,5 +1,4 @@
 -- `engine::Job::at_mark` meets its contract. Assumes nothing.
-use borrow.Author.Rules.{rules}
 use Rattle.engine.proofs.Job.at_mark.Goals as goal
 
 pub returns-in-Direct : goal.returns-in-Direct

@@ -1,5 +1,4 @@
 -- `engine::Run::first` meets its contract. Assumes nothing.
-use borrow.Author.Rules.{rules}
 use Rattle.engine.proofs.Run.first.Goals as goal
 
 pub returns : goal.returns

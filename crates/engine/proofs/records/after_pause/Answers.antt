@@ -1,7 +1,6 @@
 -- `engine::records::after_pause` meets its contract. Assumes nothing.
 use mathlib.Core.Path.{sym}
 use Rattle.engine.proofs.laws.Work.{pause-on}
-use borrow.Author.Rules.{rules}
 use Rattle.engine.proofs.records.after_pause.Goals as goal
 
 pub returns : goal.returns

@@ -1,5 +1,4 @@
 -- `engine::sound::is_known` meets its contract. Assumes nothing.
-use borrow.Author.Rules.{rules}
 use Rattle.engine.proofs.sound.is_known.Goals as goal
 
 pub returns : goal.returns

@@ -1,5 +1,4 @@
 -- `engine::sound::is_sound` meets its contract. Assumes nothing.
-use borrow.Author.Rules.{rules}
 use Rattle.engine.proofs.sound.is_sound.Goals as goal
 
 pub returns-in-Direct : goal.returns-in-Direct

@@ -1,6 +1,5 @@
 -- `engine::state::mix` meets its contract. Assumes nothing.
 use Rattle.engine.specs.State.{mixed}
-use borrow.Author.Rules.{rules}
 use Rattle.engine.proofs.state.mix.Goals as goal
 
 pub returns : goal.returns

@@ -1,7 +1,6 @@
 -- `engine::tick::act_of` meets its contract. Assumes nothing.
 use mathlib.Core.Path.{◌∙◌}
 use Rattle.engine.proofs.laws.Acts.{act-made, act-over, act-none}
-use borrow.Author.Rules.{rules}
 use Rattle.engine.proofs.tick.act_of.Goals as goal
 
 pub returns-in_default : goal.returns-in_default

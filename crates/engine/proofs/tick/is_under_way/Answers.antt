@@ -1,5 +1,4 @@
 -- `engine::tick::is_under_way` meets its contract. Assumes nothing.
-use borrow.Author.Rules.{rules}
 use Rattle.engine.proofs.tick.is_under_way.Goals as goal
 
 pub returns-in-Direct : goal.returns-in-Direct

@@ -3,7 +3,6 @@ use mathlib.Core.Path.{ap, sym, ◌∙◌}
 use Rattle.motion.specs.declared.Look.{Look}
 use Rattle.engine.specs.work.Acts.{look_act}
 use Rattle.engine.proofs.laws.Acts.{look-so, look_none}
-use borrow.Author.Rules.{rules}
 use Rattle.engine.proofs.tick.look_at.Goals as goal
 
 pub returns-in_default : goal.returns-in_default

@@ -1,5 +1,4 @@
 -- `engine::tick::rest_of` meets its contract. Assumes nothing.
-use borrow.Author.Rules.{rules}
 use Rattle.engine.proofs.tick.rest_of.Goals as goal
 
 pub returns-in-Delay : goal.returns-in-Delay

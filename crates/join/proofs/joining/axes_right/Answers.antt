@@ -1,6 +1,5 @@
 -- `join::joining::axes_right` meets its contract. Assumes nothing.
 use Rattle.join.specs.Join.{axes_right}
-use borrow.Author.Rules.{rules}
 use Rattle.join.proofs.joining.axes_right.Goals as goal
 
 pub returns : goal.returns

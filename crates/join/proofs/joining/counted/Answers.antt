@@ -1,6 +1,5 @@
 -- `join::joining::counted` meets its contract. Assumes nothing.
 use Rattle.join.specs.Join.{counted}
-use borrow.Author.Rules.{rules}
 use Rattle.join.proofs.joining.counted.Goals as goal
 
 pub returns : goal.returns

@@ -5,7 +5,6 @@ use Rattle.record.specs.Memory.{memory}
 use Rattle.join.specs.Join.{both, end_to_end}
 use Rattle.join.proofs.laws.Passed.{passed, long, few, not-refused, refused}
 use Rattle.join.proofs.laws.Joined.{joined-so}
-use borrow.Author.Rules.{rules}
 use Rattle.join.proofs.joining.join.Goals as goal
 
 pub returns-then-refusal-ne0 : goal.returns-then-refusal-ne0

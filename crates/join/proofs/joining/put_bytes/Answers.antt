@@ -1,12 +1,11 @@
 -- `join::joining::put_bytes` meets its contract: one byte a turn. Assumes nothing.
-use Prim.Native.Nat.{ℕ, ◌+◌, ◌-◌, ◌≤◌, ◌<◌}
+use Prim.Native.Nat.{ℕ, ◌+◌, ◌<◌}
 use mathlib.Core.List.{List}
 use mathlib.Core.Path.{◌≡◌, refl, ap, ◌∙◌}
 use native.Mathlib.Numerals.{add-one}
 use native.Mathlib.Omega.{arith}
-use lib.ListN.{length, get_or, set, length-set}
+use lib.ListN.{get_or, set, length-set}
 use lib.Seq.{paste, paste-zero, paste-suc}
-use borrow.Author.Rules.{rules}
 use Rattle.join.proofs.joining.put_bytes.Goals as goal
 
 pub loop-i-init : goal.loop-i-init

@@ -3,7 +3,6 @@ use mathlib.Core.Bool.{not}
 use mathlib.Core.Path.{sym, ap, ◌∙◌}
 use Rattle.record.specs.Memory.{memory}
 use Rattle.join.proofs.Deciding.{stores-so, accepts-so, is-102, is-104, is-3, is-g, is-6, is-0}
-use borrow.Author.Rules.{rules}
 use Rattle.join.proofs.joining.refusal_of.Goals as goal
 
 pub returns-then-store-other : goal.returns-then-store-other

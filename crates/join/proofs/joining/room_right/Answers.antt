@@ -1,7 +1,6 @@
 -- `join::joining::room_right` meets its contract. Assumes nothing.
 use mathlib.Core.Path.{refl}
 use Rattle.join.specs.Join.{room_right}
-use borrow.Author.Rules.{rules}
 use Rattle.join.proofs.joining.room_right.Goals as goal
 
 pub returns : goal.returns

@@ -4,7 +4,6 @@ use mathlib.Core.Path.{◌≡◌, ◌∙◌}
 use native.Mathlib.Omega.{arith}
 use lib.ListN.{length}
 use Rattle.line.proofs.Shapes.{ends-alone, ends_more}
-use borrow.Author.Rules.{rules}
 use Rattle.line.proofs.codes.end_line.Goals as goal
 
 pub returns-then-line-eq1 : goal.returns-then-line-eq1

@@ -5,7 +5,6 @@ use Rattle.line.specs.declared.Code.{Code}
 use Rattle.line.specs.declared.Code.TheVariants.{Record}
 use Rattle.line.specs.Lines.{behind, by_code}
 use Rattle.line.proofs.Shapes.{with-code-is, stored-none, stored-first}
-use borrow.Author.Rules.{rules}
 use Rattle.line.proofs.codes.stored_line.Goals as goal
 
 pub returns-then-line-eq0 : goal.returns-then-line-eq0

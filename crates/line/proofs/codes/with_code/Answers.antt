@@ -1,5 +1,4 @@
 -- `line::with_code` meets its contract: a code with the numbers read behind it, or a wrong shape. Assumes nothing.
-use borrow.Author.Rules.{rules}
 use Rattle.line.proofs.codes.with_code.Goals as goal
 
 pub returns-then-read : goal.returns-then-read

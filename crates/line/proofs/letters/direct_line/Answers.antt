@@ -9,7 +9,6 @@ use Rattle.line.specs.Numbers.{numbers_of}
 use Rattle.line.specs.Lines.{behind, letter_of, direct, direct_of}
 use Rattle.line.specs.work.Reading.{lettered}
 use Rattle.line.proofs.Shapes.{with-letter-is, direct-short, direct-first, direct-second, direct-third, by-letter}
-use borrow.Author.Rules.{rules}
 use Rattle.line.proofs.letters.direct_line.Goals as goal
 
 pub returns-then-line-lt3 : goal.returns-then-line-lt3

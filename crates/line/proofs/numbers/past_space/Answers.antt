@@ -3,7 +3,6 @@ use borrow.Author.Tests.{ne_eqb}
 use lib.ListN.{drop_of_length-le}
 use Rattle.count.proofs.laws.Lists.{next}
 use Rattle.line.specs.work.Reading.{spaced}
-use borrow.Author.Rules.{rules}
 use Rattle.line.proofs.numbers.past_space.Goals as goal
 
 pub returns-then-s-at : goal.returns-then-s-at

@@ -7,7 +7,6 @@ use Rattle.line.specs.Lines.{behind}
 use Rattle.line.specs.work.Reading.{items}
 use Rattle.line.proofs.Shapes.{behind-spaced}
 use Rattle.line.proofs.Spaces.{spaced-on}
-use borrow.Author.Rules.{rules}
 use Rattle.line.proofs.numbers.read_behind.Goals as goal
 
 pub returns-then-s-at : goal.returns-then-s-at

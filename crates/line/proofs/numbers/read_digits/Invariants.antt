@@ -1,13 +1,8 @@
 -- `line::read_digits` meets its contract: the loop keeps what the whole text comes to, and the size below its power of ten. Assumes nothing.
 use Prim.Native.Nat.{◌≤◌, ◌<◌, ◌-◌, ◌^◌}
-use mathlib.Core.Path.{◌≡◌, sym, ◌∙◌}
-use native.Mathlib.Omega.{arith}
-use lib.ListN.{length, drop, drop_of_length-le}
-use Rattle.count.specs.Pick.{tests}
-use Rattle.count.proofs.laws.Lists.{next}
+use mathlib.Core.Path.{◌≡◌}
+use lib.ListN.{length, drop}
 use Rattle.line.specs.work.Reading.{reading}
-use Rattle.line.proofs.Digits.{eight, digit-more}
-use borrow.Author.Rules.{rules}
 use Rattle.line.proofs.numbers.read_digits.Given as goal
 
 abbrev pub invariant-loop-i : goal.invariant-loop-i

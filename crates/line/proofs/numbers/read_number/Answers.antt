@@ -4,7 +4,6 @@ use borrow.Author.Tests.{ne_eqb}
 use lib.ListN.{drop_of_length-le}
 use Rattle.count.proofs.laws.Lists.{next}
 use Rattle.line.specs.work.Reading.{reading, item_from}
-use borrow.Author.Rules.{rules}
 use Rattle.line.proofs.numbers.read_number.Goals as goal
 
 pub returns-then-s-at : goal.returns-then-s-at

@@ -1,13 +1,9 @@
 -- `line::read_numbers` meets its contract: the loop keeps what the whole text comes to. Assumes nothing.
-use Prim.Native.Nat.{suc, ◌≤◌, ◌-◌}
-use mathlib.Core.Path.{◌≡◌, refl, sym, ◌∙◌}
+use mathlib.Core.Path.{refl, sym, ◌∙◌}
 use native.Mathlib.Omega.{arith}
-use lib.ListN.{length, drop, length-set}
-use Rattle.line.specs.Numbers.{numbers_of, parted}
-use Rattle.line.specs.work.Reading.{items}
+use lib.ListN.{drop, length-set}
 use Rattle.line.proofs.Spaces.{spaced-on}
-use Rattle.line.proofs.Items.{items_from, from_start, turn, past-comma, ahead}
-use borrow.Author.Rules.{rules}
+use Rattle.line.proofs.Items.{from_start, turn, past-comma, ahead}
 use Rattle.line.proofs.numbers.read_numbers.Goals as goal
 
 pub loop-w-init : goal.loop-w-init

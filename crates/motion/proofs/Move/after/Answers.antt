@@ -3,7 +3,6 @@ use native.Mathlib.Omega.{arith}
 use borrow.Author.Tests.{ne_eqb}
 use Rattle.motion.specs.Next.{after_of}
 use Rattle.motion.proofs.laws.Pulses.{pulses-small}
-use borrow.Author.Rules.{rules}
 use Rattle.motion.proofs.Move.after.Goals as goal
 
 pub overflow_add-result : goal.overflow_add-result

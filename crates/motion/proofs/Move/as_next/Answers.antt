@@ -1,5 +1,4 @@
 -- `motion::Move::as_next` meets its contract. Assumes nothing.
-use borrow.Author.Rules.{rules}
 use Rattle.motion.proofs.Move.as_next.Goals as goal
 
 pub returns-in-Made : goal.returns-in-Made

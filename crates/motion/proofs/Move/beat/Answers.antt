@@ -1,6 +1,5 @@
 -- `motion::Move::beat` meets its contract. Assumes nothing.
 use Rattle.motion.proofs.laws.Beats.{beaten-settled}
-use borrow.Author.Rules.{rules}
 use Rattle.motion.proofs.Move.beat.Goals as goal
 
 pub returns : goal.returns

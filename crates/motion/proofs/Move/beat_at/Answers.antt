@@ -2,7 +2,6 @@
 use native.Mathlib.Omega.{arith}
 use Rattle.motion.specs.work.Beat.{at_mark}
 use Rattle.motion.proofs.Work.{ready, beat-made, beat-over}
-use borrow.Author.Rules.{rules}
 use Rattle.motion.proofs.Move.beat_at.Goals as goal
 
 pub signs_at-signs-requires : goal.signs_at-signs-requires

@@ -1,5 +1,4 @@
 -- `motion::Move::beat_by` meets its contract. Assumes nothing.
-use borrow.Author.Rules.{rules}
 use Rattle.motion.proofs.Move.beat_by.Goals as goal
 
 pub returns : goal.returns

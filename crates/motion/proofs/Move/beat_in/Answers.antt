@@ -3,7 +3,6 @@ use native.Mathlib.Omega.{arith}
 use Rattle.motion.specs.work.Beat.{at_mark}
 use Rattle.motion.specs.Next.{from_of, to_of}
 use Rattle.motion.proofs.Work.{ready, beat-made, beat-over}
-use borrow.Author.Rules.{rules}
 use Rattle.motion.proofs.Move.beat_in.Goals as goal
 
 pub signs_at-signs-requires : goal.signs_at-signs-requires

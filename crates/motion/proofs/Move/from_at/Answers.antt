@@ -1,7 +1,6 @@
 -- `motion::Move::from_at` meets its contract. Assumes nothing.
 use Rattle.motion.specs.work.Beat.{at_mark}
 use Rattle.motion.proofs.laws.Beats.{from-by-axis}
-use borrow.Author.Rules.{rules}
 use Rattle.motion.proofs.Move.from_at.Goals as goal
 
 pub returns : goal.returns

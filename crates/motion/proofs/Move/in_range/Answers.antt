@@ -1,6 +1,5 @@
 -- `motion::Move::in_range` meets its contract. Assumes nothing.
 use Rattle.motion.specs.Sound.{in_range}
-use borrow.Author.Rules.{rules}
 use Rattle.motion.proofs.Move.in_range.Goals as goal
 
 pub returns : goal.returns

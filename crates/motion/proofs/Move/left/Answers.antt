@@ -4,7 +4,6 @@ use Rattle.motion.proofs.Standing.{after_small}
 use Rattle.motion.specs.Next.{left_of, from_of, to_of}
 use Rattle.motion.proofs.laws.Pulses.{pulses-small}
 use Rattle.motion.proofs.laws.Beats.{leg-marked}
-use borrow.Author.Rules.{rules}
 use Rattle.motion.proofs.Move.left.Goals as goal
 
 pub returns-then-n-k : goal.returns-then-n-k

@@ -1,5 +1,4 @@
 -- `motion::Move::leg_at` meets its contract. Assumes nothing.
-use borrow.Author.Rules.{rules}
 use Rattle.motion.proofs.Move.leg_at.Goals as goal
 
 pub returns : goal.returns

@@ -1,10 +1,8 @@
 -- `motion::Move::look` meets its contract. Assumes nothing.
 use mathlib.Core.Path.{ap, sym, ◌∙◌}
 use native.Mathlib.Omega.{arith}
-use borrow.Author.Tests.{not-true, not-false}
 use Rattle.motion.specs.declared.Mark.{Mark}
 use Rattle.motion.proofs.Looks.{under-refused, passed, asked, under-stood, look-wrong, look-made, look-past}
-use borrow.Author.Rules.{rules}
 use Rattle.motion.proofs.Move.look.Goals as goal
 
 pub returns-then-in_range-self : goal.returns-then-in_range-self

@@ -1,7 +1,6 @@
 -- `motion::Move::look_on` meets its contract. Assumes nothing.
 use Rattle.motion.specs.work.Here.{next_of}
 use Rattle.motion.proofs.laws.Beats.{looked-made, looked-over}
-use borrow.Author.Rules.{rules}
 use Rattle.motion.proofs.Move.look_on.Goals as goal
 
 pub returns-in-Made : goal.returns-in-Made

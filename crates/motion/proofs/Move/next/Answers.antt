@@ -1,6 +1,5 @@
 -- `motion::Move::next` meets its contract. Assumes nothing.
 use Rattle.motion.proofs.laws.Beats.{next-back}
-use borrow.Author.Rules.{rules}
 use Rattle.motion.proofs.Move.next.Goals as goal
 
 pub returns : goal.returns

@@ -1,6 +1,5 @@
 -- `motion::Move::phase_from` meets its contract. Assumes nothing.
 use Rattle.motion.proofs.laws.Beats.{from-by-axis}
-use borrow.Author.Rules.{rules}
 use Rattle.motion.proofs.Move.phase_from.Goals as goal
 
 pub returns : goal.returns

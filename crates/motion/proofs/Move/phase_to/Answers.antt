@@ -1,6 +1,5 @@
 -- `motion::Move::phase_to` meets its contract. Assumes nothing.
 use Rattle.motion.proofs.laws.Beats.{to-by-axis}
-use borrow.Author.Rules.{rules}
 use Rattle.motion.proofs.Move.phase_to.Goals as goal
 
 pub returns : goal.returns

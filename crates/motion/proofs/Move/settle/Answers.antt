@@ -1,6 +1,5 @@
 -- `motion::Move::settle` meets its contract. Assumes nothing.
 use Rattle.motion.proofs.laws.Beats.{settled-left, settled_on}
-use borrow.Author.Rules.{rules}
 use Rattle.motion.proofs.Move.settle.Goals as goal
 
 pub returns-then-self-here : goal.returns-then-self-here

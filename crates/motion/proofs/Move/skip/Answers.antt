@@ -1,7 +1,6 @@
 -- `motion::Move::skip` meets its contract. Assumes nothing.
 use borrow.Author.Tests.{le-leb, lt-leb, lt-ltb, le-ltb}
 use Rattle.motion.specs.Next.{skipped}
-use borrow.Author.Rules.{rules}
 use Rattle.motion.proofs.Move.skip.Goals as goal
 
 pub returns-then-p-ge3 : goal.returns-then-p-ge3

@@ -1,7 +1,6 @@
 -- `motion::Move::sound` meets its contract. Assumes nothing.
 use mathlib.Core.Path.{sym}
 use Rattle.motion.proofs.Looks.{under-refused, passed, asked, under-stood}
-use borrow.Author.Rules.{rules}
 use Rattle.motion.proofs.Move.sound.Goals as goal
 
 pub returns-then-in_range-self : goal.returns-then-in_range-self

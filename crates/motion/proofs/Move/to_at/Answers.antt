@@ -1,7 +1,6 @@
 -- `motion::Move::to_at` meets its contract. Assumes nothing.
 use Rattle.motion.specs.work.Beat.{at_mark}
 use Rattle.motion.proofs.laws.Beats.{to-by-axis}
-use borrow.Author.Rules.{rules}
 use Rattle.motion.proofs.Move.to_at.Goals as goal
 
 pub returns : goal.returns

@@ -2,7 +2,6 @@
 use mathlib.Core.Path.{refl}
 use Rattle.motion.specs.Next.{at_phase}
 use Rattle.motion.proofs.laws.Beats.{within-back}
-use borrow.Author.Rules.{rules}
 use Rattle.motion.proofs.Move.within.Goals as goal
 
 pub returns : goal.returns

@@ -2,7 +2,6 @@
 use mathlib.Core.Path.{◌≡◌}
 use borrow.Author.Tests.{lt-ltb, le-ltb}
 use Rattle.motion.specs.Phase.{most, pulses}
-use borrow.Author.Rules.{rules}
 use Rattle.motion.proofs.phase.pulses_of.Goals as goal
 
 pub returns-then-n-gt16777215 : goal.returns-then-n-gt16777215

@@ -7,7 +7,6 @@ use Rattle.motion.specs.declared.Sign.TheVariants.{Minus, Rest, Plus}
 use Rattle.motion.specs.work.Here.{sign_here}
 use Rattle.motion.proofs.laws.Room.{room_of}
 use Rattle.motion.proofs.Work.{product}
-use borrow.Author.Rules.{rules}
 use Rattle.motion.proofs.phase.sign_here.Goals as goal
 
 pub overflow_mul-wide_k-2 : goal.overflow_mul-wide_k-2

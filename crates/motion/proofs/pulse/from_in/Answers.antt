@@ -1,5 +1,4 @@
 -- `motion::pulse::from_in` meets its contract. Assumes nothing.
-use borrow.Author.Rules.{rules}
 use Rattle.motion.proofs.pulse.from_in.Goals as goal
 
 pub returns : goal.returns

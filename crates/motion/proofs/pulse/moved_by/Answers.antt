@@ -1,6 +1,5 @@
 -- `motion::pulse::moved_by` meets its contract. Assumes nothing.
 use native.Mathlib.Omega.{arith}
-use borrow.Author.Rules.{rules}
 use Rattle.motion.proofs.pulse.moved_by.Goals as goal
 
 pub overflow_sub-result : goal.overflow_sub-result

@@ -1,5 +1,4 @@
 -- `motion::pulse::pulsed` meets its contract. Assumes nothing.
-use borrow.Author.Rules.{rules}
 use Rattle.motion.proofs.pulse.pulsed.Goals as goal
 
 pub returns : goal.returns

@@ -1,5 +1,4 @@
 -- `motion::pulse::signs_at` meets its contract. Assumes nothing.
-use borrow.Author.Rules.{rules}
 use Rattle.motion.proofs.pulse.signs_at.Goals as goal
 
 pub returns : goal.returns

@@ -1,6 +1,5 @@
 -- `motion::route::first_speed` meets its contract. Assumes nothing.
 use Rattle.motion.specs.Plan.{first_speed}
-use borrow.Author.Rules.{rules}
 use Rattle.motion.proofs.route.first_speed.Goals as goal
 
 pub returns : goal.returns

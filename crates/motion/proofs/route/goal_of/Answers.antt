@@ -1,6 +1,5 @@
 -- `motion::route::goal_of` meets its contract. Assumes nothing.
 use Rattle.motion.specs.Plan.{goal}
-use borrow.Author.Rules.{rules}
 use Rattle.motion.proofs.route.goal_of.Goals as goal
 
 pub returns-then-absolute : goal.returns-then-absolute

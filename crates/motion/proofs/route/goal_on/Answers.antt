@@ -1,5 +1,4 @@
 -- `motion::route::goal_on` meets its contract. Assumes nothing.
-use borrow.Author.Rules.{rules}
 use Rattle.motion.proofs.route.goal_on.Goals as goal
 
 pub returns-then-has : goal.returns-then-has

@@ -1,5 +1,4 @@
 -- `motion::route::goal_z2` meets its contract. Assumes nothing.
-use borrow.Author.Rules.{rules}
 use Rattle.motion.proofs.route.goal_z2.Goals as goal
 
 pub returns-then-moves : goal.returns-then-moves

@@ -3,7 +3,6 @@ use mathlib.Core.Path.{sym, ◌∙◌}
 use Rattle.count.specs.Ranges.{right_distances, right_speeds}
 use Rattle.count.proofs.laws.Truth.{and_right}
 use Rattle.motion.specs.Plan.{plan_of}
-use borrow.Author.Rules.{rules}
 use Rattle.motion.proofs.route.plan.Goals as goal
 
 pub routed_from-requires : goal.routed_from-requires

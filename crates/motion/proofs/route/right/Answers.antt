@@ -1,5 +1,4 @@
 -- `motion::route::right` meets its contract. Assumes nothing.
-use borrow.Author.Rules.{rules}
 use Rattle.motion.proofs.route.right.Goals as goal
 
 pub returns : goal.returns

@@ -1,8 +1,7 @@
 -- `motion::route::route_of` meets its contract. Assumes nothing.
 use mathlib.Core.Bool.{true}
-use Rattle.motion.specs.Plan.{asked, first_speed, later_speed}
+use Rattle.motion.specs.Plan.{asked, first_speed}
 use Rattle.motion.proofs.Routes.{later-own, route-made}
-use borrow.Author.Rules.{rules}
 use Rattle.motion.proofs.route.route_of.Goals as goal
 
 pub narrow-requires : goal.narrow-requires

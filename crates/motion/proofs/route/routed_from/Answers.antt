@@ -1,7 +1,6 @@
 -- `motion::route::routed_from` meets its contract. Assumes nothing.
 use Rattle.motion.specs.Plan.{asked, goal_of, first_speed, later_speed, route}
 use Rattle.motion.proofs.Routes.{a-by, speeds-fit, out-x, out-y, out-z, out-a, out-z2, all_in}
-use borrow.Author.Rules.{rules}
 use Rattle.motion.proofs.route.routed_from.Goals as goal
 
 pub returns-in_default : goal.returns-in_default

@@ -1,7 +1,5 @@
 -- `motion::sound::counted_at` meets its contract. Assumes nothing.
 use Rattle.motion.specs.Sound.{counted}
-use borrow.Author.Rules.{rules}
-use Rattle.count.proofs.in_range.Reads as in-range-reads
 use Rattle.motion.proofs.sound.counted_at.Goals as goal
 
 pub returns : goal.returns

@@ -2,7 +2,6 @@
 use native.Mathlib.Omega.{arith}
 use Rattle.motion.proofs.Standing.{made-test}
 use Rattle.motion.proofs.Work.{product}
-use borrow.Author.Rules.{rules}
 use Rattle.motion.proofs.sound.has_made.Goals as goal
 
 pub overflow_mul-sum-2 : goal.overflow_mul-sum-2

@@ -1,5 +1,4 @@
 -- `motion::sound::stand_at` meets its contract. Assumes nothing.
-use borrow.Author.Rules.{rules}
 use Rattle.motion.proofs.sound.stand_at.Goals as goal
 
 pub returns : goal.returns

@@ -1,6 +1,5 @@
 -- `motion::sound::stands` meets its contract. Assumes nothing.
 use Rattle.motion.proofs.Standing.{stands-empty, stands-back, stands_on}
-use borrow.Author.Rules.{rules}
 use Rattle.motion.proofs.sound.stands.Goals as goal
 
 pub returns-then-n-eq0 : goal.returns-then-n-eq0

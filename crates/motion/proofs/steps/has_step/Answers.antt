@@ -1,5 +1,4 @@
 -- `motion::steps::has_step` meets its contract. Assumes nothing.
-use borrow.Author.Rules.{rules}
 use Rattle.motion.proofs.laws.Steps.{step-up}
 use Rattle.motion.proofs.steps.has_step.Goals as goal
 

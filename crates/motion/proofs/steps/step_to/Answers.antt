@@ -1,6 +1,5 @@
 -- `motion::steps::step_to` meets its contract. Assumes nothing.
 use mathlib.Core.Path.{sym, ◌∙◌}
-use borrow.Author.Rules.{rules}
 use Rattle.motion.proofs.laws.Steps.{steps-room, tested, to_made, to_none}
 use Rattle.motion.proofs.steps.step_to.Goals as goal
 

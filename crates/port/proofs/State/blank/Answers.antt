@@ -1,5 +1,4 @@
 -- `port::State::blank` meets its contract. Assumes nothing.
-use borrow.Author.Rules.{rules}
 use Rattle.port.proofs.State.blank.Goals as goal
 
 pub returns : goal.returns

@@ -1,5 +1,4 @@
 -- `port::State::engine` meets its contract. Assumes nothing.
-use borrow.Author.Rules.{rules}
 use Rattle.port.proofs.State.engine.Goals as goal
 
 pub returns : goal.returns

@@ -1,5 +1,4 @@
 -- `port::State::open` meets its contract. Assumes nothing.
-use borrow.Author.Rules.{rules}
 use Rattle.port.proofs.State.open.Goals as goal
 
 pub returns : goal.returns

@@ -1,5 +1,4 @@
 -- `port::State::with_board` meets its contract. Assumes nothing.
-use borrow.Author.Rules.{rules}
 use Rattle.port.proofs.State.with_board.Goals as goal
 
 pub returns : goal.returns

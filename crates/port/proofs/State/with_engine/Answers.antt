@@ -1,5 +1,4 @@
 -- `port::State::with_engine` meets its contract. Assumes nothing.
-use borrow.Author.Rules.{rules}
 use Rattle.port.proofs.laws.Codes.{straight-under, round_under-over, kind-under}
 use Rattle.port.proofs.State.with_engine.Goals as goal
 

@@ -1,6 +1,5 @@
 -- `port::answers::clocked` meets its contract. Assumes nothing.
 use mathlib.Core.Path.{refl}
-use borrow.Author.Rules.{rules}
 use Rattle.port.specs.Calls.{signs_of}
 use Rattle.port.proofs.laws.Codes.{sign_kept}
 use Rattle.port.proofs.answers.clocked.Goals as goal

@@ -1,5 +1,4 @@
 -- `port::answers::sign_value` meets its contract. Assumes nothing.
-use borrow.Author.Rules.{rules}
 use Rattle.port.proofs.answers.sign_value.Goals as goal
 
 pub returns-in-Minus : goal.returns-in-Minus

@@ -1,5 +1,4 @@
 -- `port::calls::board_fresh` meets its contract. Assumes nothing.
-use borrow.Author.Rules.{rules}
 use Rattle.port.proofs.calls.board_fresh.Goals as goal
 
 pub returns : goal.returns

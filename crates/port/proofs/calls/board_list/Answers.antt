@@ -1,8 +1,7 @@
 -- `port::calls::board_list` meets its contract. Assumes nothing.
 use mathlib.Core.Bool.{not}
 use mathlib.Core.Path.{sym, ap, ◌∙◌}
-use borrow.Author.Tests.{eq-eqb, ne_eqb, not-false}
-use borrow.Author.Rules.{rules}
+use borrow.Author.Tests.{eq-eqb, ne_eqb}
 use Rattle.port.specs.Calls.{listed}
 use Rattle.port.specs.Calls.{listing_state}
 use Rattle.port.proofs.laws.Calls.{listed-so}

@@ -1,5 +1,4 @@
 -- `port::calls::board_show` meets its contract. Assumes nothing.
-use borrow.Author.Rules.{rules}
 use Rattle.port.proofs.laws.Calls.{shown-refused, shown-so}
 use Rattle.port.proofs.calls.board_show.Goals as goal
 

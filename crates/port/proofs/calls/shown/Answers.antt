@@ -1,5 +1,4 @@
 -- `port::calls::shown` meets its contract. Assumes nothing.
-use borrow.Author.Rules.{rules}
 use Rattle.port.proofs.calls.shown.Goals as goal
 
 pub returns : goal.returns

@@ -1,7 +1,6 @@
 -- `port::calls::tick` meets its contract. Assumes nothing.
 use mathlib.Core.Bool.{◌||◌}
 use mathlib.Core.Path.{refl, sym, ap, ◌∙◌}
-use borrow.Author.Rules.{rules}
 use Rattle.engine.specs.work.Acts.{seen_of, acted_by}
 use Rattle.record.specs.Table.{fetch_of}
 use Rattle.record.specs.Memory.{memory, RightMemory}

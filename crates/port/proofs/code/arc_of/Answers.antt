@@ -1,5 +1,4 @@
 -- `port::code::arc_of` meets its contract. Assumes nothing.
-use borrow.Author.Rules.{rules}
 use Rattle.port.proofs.code.arc_of.Goals as goal
 
 pub returns : goal.returns

@@ -1,5 +1,4 @@
 -- `port::code::kind_over` meets its contract. Assumes nothing.
-use borrow.Author.Rules.{rules}
 use Rattle.port.specs.work.Work.{kind_under}
 use Rattle.port.proofs.code.kind_over.Goals as goal
 

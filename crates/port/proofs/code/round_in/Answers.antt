@@ -1,5 +1,4 @@
 -- `port::code::round_in` meets its contract. Assumes nothing.
-use borrow.Author.Rules.{rules}
 use Rattle.port.proofs.code.round_in.Goals as goal
 
 pub returns-in-Round : goal.returns-in-Round

@@ -1,5 +1,4 @@
 -- `port::code::round_of` meets its contract. Assumes nothing.
-use borrow.Author.Rules.{rules}
 use Rattle.port.proofs.code.round_of.Goals as goal
 
 pub returns : goal.returns

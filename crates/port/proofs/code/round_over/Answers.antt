@@ -1,5 +1,4 @@
 -- `port::code::round_over` meets its contract. Assumes nothing.
-use borrow.Author.Rules.{rules}
 use Rattle.port.specs.work.Work.{round_under}
 use Rattle.port.proofs.code.round_over.Goals as goal
 

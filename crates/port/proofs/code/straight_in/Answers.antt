@@ -1,5 +1,4 @@
 -- `port::code::straight_in` meets its contract. Assumes nothing.
-use borrow.Author.Rules.{rules}
 use Rattle.port.proofs.code.straight_in.Goals as goal
 
 pub returns-in-Straight : goal.returns-in-Straight

@@ -1,5 +1,4 @@
 -- `port::code::straight_over` meets its contract. Assumes nothing.
-use borrow.Author.Rules.{rules}
 use Rattle.port.specs.work.Work.{straight_under}
 use Rattle.port.proofs.code.straight_over.Goals as goal
 

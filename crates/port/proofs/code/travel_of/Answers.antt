@@ -1,6 +1,5 @@
 -- `port::code::travel_of` meets its contract. Assumes nothing.
 use borrow.Author.Tests.{eq-eqb, ne_eqb}
-use borrow.Author.Rules.{rules}
 use Rattle.port.specs.Code.{travel_of}
 use Rattle.port.proofs.code.travel_of.Goals as goal
 

@@ -3,7 +3,6 @@ use mathlib.Core.Path.{◌≡◌}
 use native.Mathlib.Omega.{arith}
 use lib.ListN.{length}
 use lib.Seq.{set_out}
-use Rattle.program.proofs.Steps.{unmapped}
 use borrow.Author.Rules.{rules}
 use Rattle.program.proofs.Lead.loops.Goals as goal
 

@@ -4,7 +4,6 @@ use mathlib.Core.Bool.{not}
 use Rattle.program.proofs.Gather.{all_read, not-read}
 use Rattle.program.proofs.Reading.{not-asked, asked, told-read, told-unread}
 use Rattle.program.proofs.laws.Accepting.{sized-parts}
-use borrow.Author.Rules.{rules}
 use Rattle.program.proofs.accepting.accepts.Goals as goal
 
 pub returns-then-not-is_sized-axes_set : goal.returns-then-not-is_sized-axes_set

@@ -1,9 +1,6 @@
 -- `program::accepting::leads` meets its contract. Assumes nothing.
-use mathlib.Core.Path.{◌≡◌, refl}
-use Rattle.program.specs.work.Edges.{kind_is, leads}
-use Rattle.program.specs.work.Work.{far_in}
+use mathlib.Core.Path.{refl}
 use Rattle.program.proofs.Reading.{sought-none, sought-here, sought-on}
-use borrow.Author.Rules.{rules}
 use Rattle.program.proofs.accepting.leads.Goals as goal
 
 pub loop-q-init : goal.loop-q-init

@@ -1,9 +1,7 @@
 -- `program::accepting::leads` meets its contract. Assumes nothing.
-use mathlib.Core.Path.{◌≡◌, refl}
+use mathlib.Core.Path.{◌≡◌}
 use Rattle.program.specs.work.Edges.{kind_is, leads}
 use Rattle.program.specs.work.Work.{far_in}
-use Rattle.program.proofs.Reading.{sought-none, sought-here, sought-on}
-use borrow.Author.Rules.{rules}
 use Rattle.program.proofs.accepting.leads.Given as goal
 
 abbrev pub invariant-loop-q : goal.invariant-loop-q

@@ -1,6 +1,5 @@
 -- `program::accepting::told` meets its contract. Assumes nothing.
 use mathlib.Core.Path.{◌∙◌}
-use borrow.Author.Rules.{rules}
 use Rattle.program.proofs.accepting.told.Goals as goal
 
 pub returns-in-Sound : goal.returns-in-Sound

@@ -1,5 +1,4 @@
 -- `program::early` meets its contract. Assumes nothing.
-use borrow.Author.Rules.{rules}
 use Rattle.program.specs.work.Marks.{early}
 use Rattle.program.proofs.arrays.early.Goals as goal
 

@@ -1,5 +1,4 @@
 -- `program::is_turn` meets its contract. Assumes nothing.
-use borrow.Author.Rules.{rules}
 use Rattle.program.proofs.arrays.is_turn.Goals as goal
 
 pub returns : goal.returns

@@ -1,5 +1,4 @@
 -- `program::outside` meets its contract. Assumes nothing.
-use borrow.Author.Rules.{rules}
 use Rattle.program.specs.work.Marks.{outside}
 use Rattle.program.proofs.arrays.outside.Goals as goal
 

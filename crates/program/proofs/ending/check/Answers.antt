@@ -2,7 +2,6 @@
 use mathlib.Core.Path.{refl, ◌∙◌}
 use Rattle.program.proofs.Gather.{all_read, not-read}
 use Rattle.program.proofs.Reading.{too_many, unreadable, verdict-read}
-use borrow.Author.Rules.{rules}
 use Rattle.program.proofs.ending.check.Goals as goal
 
 pub returns-then-n-gt1000 : goal.returns-then-n-gt1000

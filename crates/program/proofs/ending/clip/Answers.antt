@@ -1,7 +1,6 @@
 -- `program::clip` meets its contract. Assumes nothing.
 use borrow.Author.Tests.{lt-ltb, le-ltb}
 use Rattle.program.specs.work.Decode.{clip}
-use borrow.Author.Rules.{rules}
 use Rattle.program.proofs.ending.clip.Goals as goal
 
 pub returns-then-w-lt32768 : goal.returns-then-w-lt32768

@@ -1,13 +1,10 @@
 -- `program::ending::decode` meets its contract. Assumes nothing.
-use Prim.Native.Nat.{ℕ, ◌+◌, ◌*◌, ◌≤◌}
-use mathlib.Core.List.{List}
-use mathlib.Core.Path.{◌≡◌, sym, ◌∙◌}
-use native.Mathlib.Omega.{arith}
-use lib.ListN.{length, replicate, length-set, length-replicate}
+use Prim.Native.Nat.{◌+◌, ◌*◌, ◌≤◌}
+use mathlib.Core.Path.{◌≡◌}
+use lib.ListN.{length}
 use Rattle.record.specs.Places.{records_of}
 use Rattle.program.specs.work.Decode.{arrays_on}
-use Rattle.program.proofs.Gather.{walk, start, lost, gone-on, over}
-use borrow.Author.Rules.{rules}
+use Rattle.program.proofs.Gather.{walk}
 use Rattle.program.proofs.ending.decode.Given as goal
 
 abbrev pub invariant-loop-left : goal.invariant-loop-left

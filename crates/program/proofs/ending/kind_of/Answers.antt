@@ -1,7 +1,6 @@
 -- `program::kind_of` meets its contract. Assumes nothing.
 use borrow.Author.Tests.{eq-eqb, ne_eqb}
 use Rattle.program.specs.work.Aims.{aim_of}
-use borrow.Author.Rules.{rules}
 use Rattle.program.proofs.ending.kind_of.Goals as goal
 
 pub returns-then-words-eq0 : goal.returns-then-words-eq0

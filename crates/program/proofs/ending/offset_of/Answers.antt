@@ -2,7 +2,6 @@
 use borrow.Author.Tests.{eq-eqb, ne_eqb}
 use mathlib.Core.Path.{◌∙◌}
 use Rattle.program.specs.work.Decode.{kept}
-use borrow.Author.Rules.{rules}
 use Rattle.program.proofs.ending.offset_of.Goals as goal
 
 pub returns-then-item-eq51 : goal.returns-then-item-eq51

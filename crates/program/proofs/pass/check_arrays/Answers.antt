@@ -1,12 +1,7 @@
 -- `program::check_arrays` meets its contract. Assumes nothing.
-use Prim.Native.Nat.{◌-◌, ◌≤◌}
-use mathlib.Core.Path.{◌≡◌}
 use native.Mathlib.Omega.{arith}
-use lib.ListN.{length, length-set}
-use Rattle.program.specs.work.Work.{loop_in, far_in}
-use Rattle.program.specs.work.Ranges.{Counts}
+use lib.ListN.{length-set}
 use Rattle.program.proofs.Notes.{counts-none, counts-more, counts_all}
-use borrow.Author.Rules.{rules}
 use Rattle.program.proofs.pass.check_arrays.Goals as goal
 
 pub loop-i-init : goal.loop-i-init

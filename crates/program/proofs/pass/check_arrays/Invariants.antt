@@ -1,12 +1,9 @@
 -- `program::check_arrays` meets its contract. Assumes nothing.
 use Prim.Native.Nat.{◌-◌, ◌≤◌}
 use mathlib.Core.Path.{◌≡◌}
-use native.Mathlib.Omega.{arith}
-use lib.ListN.{length, length-set}
+use lib.ListN.{length}
 use Rattle.program.specs.work.Work.{loop_in, far_in}
 use Rattle.program.specs.work.Ranges.{Counts}
-use Rattle.program.proofs.Notes.{counts-none, counts-more, counts_all}
-use borrow.Author.Rules.{rules}
 use Rattle.program.proofs.pass.check_arrays.Given as goal
 
 abbrev pub invariant-loop-i : goal.invariant-loop-i

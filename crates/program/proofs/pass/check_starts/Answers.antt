@@ -1,12 +1,11 @@
 -- `program::check_starts` meets its contract. Assumes nothing.
-use Prim.Native.Nat.{◌-◌, ◌≤◌}
-use mathlib.Core.Path.{◌≡◌, refl}
+use Prim.Native.Nat.{◌-◌}
+use mathlib.Core.Path.{refl}
 use native.Mathlib.Omega.{arith}
-use lib.ListN.{length, length-set}
+use lib.ListN.{length-set}
 use Rattle.program.specs.work.Work.{loop_in, far_in}
 use Rattle.program.proofs.laws.Backs.{start-most}
-use Rattle.program.proofs.Notes.{Noted, noted-none, noted_small, noted_more, backs-from}
-use borrow.Author.Rules.{rules}
+use Rattle.program.proofs.Notes.{noted-none, noted_small, noted_more, backs-from}
 use Rattle.program.proofs.pass.check_starts.Goals as goal
 
 pub loop-q-init : goal.loop-q-init

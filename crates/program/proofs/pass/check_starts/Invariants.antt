@@ -1,12 +1,9 @@
 -- `program::check_starts` meets its contract. Assumes nothing.
-use Prim.Native.Nat.{◌-◌, ◌≤◌}
-use mathlib.Core.Path.{◌≡◌, refl}
-use native.Mathlib.Omega.{arith}
-use lib.ListN.{length, length-set}
+use Prim.Native.Nat.{◌≤◌}
+use mathlib.Core.Path.{◌≡◌}
+use lib.ListN.{length}
 use Rattle.program.specs.work.Work.{loop_in, far_in}
-use Rattle.program.proofs.laws.Backs.{start-most}
-use Rattle.program.proofs.Notes.{Noted, noted-none, noted_small, noted_more, backs-from}
-use borrow.Author.Rules.{rules}
+use Rattle.program.proofs.Notes.{Noted}
 use Rattle.program.proofs.pass.check_starts.Given as goal
 
 abbrev pub invariant-loop-q : goal.invariant-loop-q

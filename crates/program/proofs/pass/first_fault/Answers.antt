@@ -1,14 +1,12 @@
 -- `program::first_fault` meets its contract. Assumes nothing.
-use Prim.Native.Nat.{◌+◌, ◌-◌, ◌≤◌}
-use mathlib.Core.Path.{◌≡◌, ◌∙◌}
+use Prim.Native.Nat.{◌+◌}
+use mathlib.Core.Path.{◌∙◌}
 use native.Mathlib.Omega.{arith}
-use Rattle.program.specs.Check.{tally, fault_from}
-use Rattle.program.specs.work.Marks.{letter, checked}
-use Rattle.program.specs.work.Work.{loop_in, turn_in, far_in}
+use Rattle.program.specs.Check.{tally}
+use Rattle.program.specs.work.Work.{loop_in, far_in}
 use Rattle.program.specs.work.Ranges.{goes_on, opens}
 use Rattle.program.proofs.laws.Ranges.{none_before, letter-same, pass-next, tally-most, up_to-most}
 use Rattle.program.proofs.Walks.{walk_start, walk-hit, walk-on, walk_end}
-use borrow.Author.Rules.{rules}
 use Rattle.program.proofs.pass.first_fault.Goals as goal
 
 pub loop-p-init : goal.loop-p-init

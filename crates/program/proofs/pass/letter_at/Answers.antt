@@ -2,7 +2,6 @@
 use mathlib.Core.Path.{sym, ◌∙◌}
 use borrow.Author.Tests.{lt-ltb, le-ltb}
 use Rattle.program.specs.work.Ranges.{letter_by}
-use borrow.Author.Rules.{rules}
 use Rattle.program.proofs.pass.letter_at.Goals as goal
 
 pub returns-then-outside : goal.returns-then-outside

@@ -1,7 +1,6 @@
 -- `program::opening` meets its contract. Assumes nothing.
 use native.Mathlib.Omega.{arith}
 use Rattle.program.proofs.Notes.{opening-yes, opening-no}
-use borrow.Author.Rules.{rules}
 use Rattle.program.proofs.pass.opening.Goals as goal
 
 pub overflow_cast-result : goal.overflow_cast-result

@@ -1,7 +1,6 @@
 -- `program::strays` meets its contract. Assumes nothing.
 use native.Mathlib.Omega.{arith}
 use Rattle.program.proofs.laws.Backs.{stray-off, target-in, stray-high, stray-low}
-use borrow.Author.Rules.{rules}
 use Rattle.program.proofs.pass.strays.Goals as goal
 
 pub overflow_cast-t : goal.overflow_cast-t

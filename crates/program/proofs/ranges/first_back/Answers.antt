@@ -1,11 +1,7 @@
 -- `program::first_back` meets its contract. Assumes nothing.
-use Prim.Native.Nat.{◌-◌, ◌≤◌}
 use mathlib.Core.Path.{sym, ◌∙◌}
 use native.Mathlib.Omega.{arith}
-use Rattle.program.specs.work.Work.{loop_in, far_in}
-use Rattle.program.specs.work.Ranges.{reach}
-use Rattle.program.proofs.laws.Backs.{Passed, passed_none, first-hit, first-end, passed_on, entry_of}
-use borrow.Author.Rules.{rules}
+use Rattle.program.proofs.laws.Backs.{passed_none, first-hit, first-end, passed_on, entry_of}
 use Rattle.program.proofs.ranges.first_back.Goals as goal
 
 pub loop-i-init : goal.loop-i-init

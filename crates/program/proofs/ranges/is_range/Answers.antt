@@ -1,5 +1,4 @@
 -- `program::is_range` meets its contract. Assumes nothing.
-use borrow.Author.Rules.{rules}
 use Rattle.program.specs.work.Ranges.{ranged}
 use Rattle.program.proofs.ranges.is_range.Goals as goal
 

@@ -2,7 +2,6 @@
 use native.Mathlib.Omega.{arith}
 use Rattle.program.proofs.Notes.{backs-from}
 use Rattle.program.proofs.laws.Backs.{asked-off, asked-late, asked-first}
-use borrow.Author.Rules.{rules}
 use Rattle.program.proofs.ranges.overlaps.Goals as goal
 
 pub first_back-requires : goal.first_back-requires

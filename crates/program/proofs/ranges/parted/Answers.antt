@@ -1,10 +1,7 @@
 -- `program::parted` meets its contract. Assumes nothing.
-use Prim.Native.Nat.{◌+◌, ◌-◌, ◌≤◌}
 use native.Mathlib.Omega.{arith}
-use Rattle.program.specs.work.Work.{loop_in, far_in}
 use Rattle.program.proofs.Notes.{backs-from}
-use Rattle.program.proofs.laws.Backs.{at_mark, near-mark, Alike, part-first, alike-start, part-hit, alike_next, alike_end}
-use borrow.Author.Rules.{rules}
+use Rattle.program.proofs.laws.Backs.{at_mark, near-mark, part-first, alike-start, part-hit, alike_next, alike_end}
 use Rattle.program.proofs.ranges.parted.Goals as goal
 
 pub first_back-first-requires : goal.first_back-first-requires

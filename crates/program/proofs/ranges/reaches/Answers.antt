@@ -1,5 +1,4 @@
 -- `program::reaches` meets its contract. Assumes nothing.
-use borrow.Author.Rules.{rules}
 use Rattle.program.specs.work.Ranges.{reach}
 use Rattle.program.proofs.ranges.reaches.Goals as goal
 

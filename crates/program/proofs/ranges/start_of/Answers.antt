@@ -1,6 +1,5 @@
 -- `program::start_of` meets its contract. Assumes nothing.
 use Rattle.program.proofs.laws.Backs.{start-yes, start-no}
-use borrow.Author.Rules.{rules}
 use Rattle.program.proofs.ranges.start_of.Goals as goal
 
 pub returns-then-is_range : goal.returns-then-is_range

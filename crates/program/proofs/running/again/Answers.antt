@@ -5,7 +5,6 @@ use borrow.Author.Tests.{eq-eqb, ne_eqb}
 use lib.ListN.{length}
 use Rattle.program.specs.Onward.{again}
 use Rattle.program.proofs.laws.Leaps.{top-same, top-less, leap-sets}
-use Rattle.program.proofs.Steps.{unmapped}
 use borrow.Author.Rules.{rules}
 use Rattle.program.proofs.running.again.Goals as goal
 

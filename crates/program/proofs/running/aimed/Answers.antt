@@ -3,7 +3,6 @@ use mathlib.Core.Path.{sym, ap, ◌∙◌}
 use borrow.Author.Tests.{lt-ltb, le-ltb, eq-eqb, ne_eqb}
 use Rattle.program.specs.work.Leap.{leap_by}
 use Rattle.program.proofs.laws.Target.{aimed-in, aimed-out}
-use borrow.Author.Rules.{rules}
 use Rattle.program.proofs.running.aimed.Goals as goal
 
 pub returns-in_default : goal.returns-in_default

@@ -3,7 +3,6 @@ use mathlib.Core.Path.{◌≡◌, sym}
 use native.Mathlib.Omega.{arith}
 use lib.ListN.{length, get_or-eq_default}
 use Rattle.program.specs.Onward.{counter}
-use Rattle.program.proofs.Steps.{unmapped}
 use borrow.Author.Rules.{rules}
 use Rattle.program.proofs.running.entry.Goals as goal
 

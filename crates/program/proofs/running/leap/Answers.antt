@@ -4,7 +4,6 @@ use borrow.Author.Tests.{le-leb}
 use Rattle.program.specs.Onward.{onward_of}
 use Rattle.program.specs.work.Leap.{leap_by, leap_of}
 use Rattle.program.proofs.laws.Leaps.{onward-by}
-use borrow.Author.Rules.{rules}
 use Rattle.program.proofs.running.leap.Goals as goal
 
 pub returns-then-end-place : goal.returns-then-end-place

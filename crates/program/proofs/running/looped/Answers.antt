@@ -4,7 +4,6 @@ use Rattle.std.proofs.Common.{ltb, eqb, ◌&&◌, false}
 use borrow.Author.Tests.{lt-ltb, le-ltb, eq-eqb}
 use Rattle.program.specs.Onward.{looped, last_of}
 use Rattle.program.proofs.Steps.{none_open, last-other}
-use borrow.Author.Rules.{rules}
 use Rattle.program.proofs.running.looped.Goals as goal
 use Rattle.program.proofs.running.looped.Goals.{then-depth-gt0+else-last-place, else-depth-gt0}
 

@@ -1,6 +1,5 @@
 -- `program::onward` meets its contract. Assumes nothing.
 use Rattle.program.proofs.laws.Leaps.{leap-way}
-use borrow.Author.Rules.{rules}
 use Rattle.program.proofs.running.onward.Goals as goal
 
 pub returns : goal.returns

@@ -5,7 +5,6 @@ use borrow.Author.Tests.{le-leb, lt-leb}
 use lib.ListN.{length}
 use Rattle.program.specs.Onward.{opens}
 use Rattle.program.proofs.laws.Leaps.{top-more, leap-sets}
-use Rattle.program.proofs.Steps.{unmapped}
 use borrow.Author.Rules.{rules}
 use Rattle.program.proofs.running.opens.Goals as goal
 

@@ -1,7 +1,6 @@
 -- `program::stays` meets its contract. Assumes nothing.
 use mathlib.Core.Path.{sym}
 use Rattle.program.proofs.laws.Leaps.{leap-stays}
-use borrow.Author.Rules.{rules}
 use Rattle.program.proofs.running.stays.Goals as goal
 
 pub returns : goal.returns

@@ -2,7 +2,6 @@
 use mathlib.Core.Path.{sym, ◌∙◌}
 use borrow.Author.Tests.{le-leb, lt-leb}
 use Rattle.program.proofs.laws.Target.{leads-up, leads-below, leads-down}
-use borrow.Author.Rules.{rules}
 use Rattle.program.proofs.running.target_of.Goals as goal
 
 pub returns-then-p-w : goal.returns-then-p-w

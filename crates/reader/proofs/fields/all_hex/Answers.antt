@@ -1,13 +1,8 @@
 -- `reader::all_hex` meets its contract: the loop keeps what the bytes left say. Assumes nothing.
-use Prim.Native.Nat.{◌-◌}
-use mathlib.Core.Path.{◌≡◌, sym, ◌∙◌}
+use mathlib.Core.Path.{sym, ◌∙◌}
 use native.Mathlib.Omega.{arith}
-use lib.ListN.{length, drop}
-use borrow.Author.Tests.{not-true, not-false}
-use Rattle.count.specs.Pick.{every}
 use Rattle.reader.specs.Fields.{is_hex}
 use Rattle.reader.proofs.laws.Fields.{every-next, every-none}
-use borrow.Author.Rules.{rules}
 use Rattle.reader.proofs.fields.all_hex.Goals as goal
 
 pub returns-then-not-is_hex : goal.returns-then-not-is_hex

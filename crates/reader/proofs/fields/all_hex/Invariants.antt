@@ -1,13 +1,9 @@
 -- `reader::all_hex` meets its contract: the loop keeps what the bytes left say. Assumes nothing.
 use Prim.Native.Nat.{◌-◌}
-use mathlib.Core.Path.{◌≡◌, sym, ◌∙◌}
-use native.Mathlib.Omega.{arith}
+use mathlib.Core.Path.{◌≡◌}
 use lib.ListN.{length, drop}
-use borrow.Author.Tests.{not-true, not-false}
 use Rattle.count.specs.Pick.{every}
 use Rattle.reader.specs.Fields.{is_hex}
-use Rattle.reader.proofs.laws.Fields.{every-next, every-none}
-use borrow.Author.Rules.{rules}
 use Rattle.reader.proofs.fields.all_hex.Given as goal
 
 abbrev pub invariant-loop-i : goal.invariant-loop-i

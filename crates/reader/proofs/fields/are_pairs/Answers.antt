@@ -1,6 +1,5 @@
 -- `reader::are_pairs` meets its contract. Assumes nothing.
 use Rattle.reader.specs.Fields.{are_pairs}
-use borrow.Author.Rules.{rules}
 use Rattle.reader.proofs.fields.are_pairs.Goals as goal
 
 pub returns : goal.returns

@@ -12,7 +12,6 @@ use Rattle.reader.specs.Fields.{whole}
 use Rattle.reader.specs.work.Sizes.{sized_whole}
 use Rattle.reader.proofs.laws.Fields.{minus-right, minus-wrong}
 use Rattle.reader.proofs.laws.Size.{below-fits}
-use borrow.Author.Rules.{rules}
 use Rattle.reader.proofs.fields.below_zero.Goals as goal
 
 -- one taken off, and then the rest

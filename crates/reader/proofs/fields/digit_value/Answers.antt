@@ -2,7 +2,6 @@
 use mathlib.Core.Path.{refl}
 use native.Mathlib.Omega.{arith}
 use Rattle.reader.proofs.laws.Fields.{digit-range}
-use borrow.Author.Rules.{rules}
 use Rattle.reader.proofs.fields.digit_value.Goals as goal
 
 pub overflow_sub-result : goal.overflow_sub-result

@@ -1,11 +1,10 @@
 -- `reader::field_end` meets its contract: the loop keeps where the field ends. Assumes nothing.
-use Prim.Native.Nat.{◌+◌, ◌-◌}
+use Prim.Native.Nat.{◌+◌}
 use mathlib.Core.Path.{◌≡◌}
 use native.Mathlib.Omega.{arith}
-use lib.ListN.{length, drop}
-use Rattle.reader.specs.Fields.{field_length, field_end}
+use lib.ListN.{drop}
+use Rattle.reader.specs.Fields.{field_length}
 use Rattle.reader.proofs.laws.Fields.{field-none, field-stops, field-goes}
-use borrow.Author.Rules.{rules}
 use Rattle.reader.proofs.fields.field_end.Goals as goal
 
 pub returns-then-text-at-eq32 : goal.returns-then-text-at-eq32

@@ -1,11 +1,8 @@
 -- `reader::field_end` meets its contract: the loop keeps where the field ends. Assumes nothing.
 use Prim.Native.Nat.{◌+◌, ◌-◌}
 use mathlib.Core.Path.{◌≡◌}
-use native.Mathlib.Omega.{arith}
 use lib.ListN.{length, drop}
 use Rattle.reader.specs.Fields.{field_length, field_end}
-use Rattle.reader.proofs.laws.Fields.{field-none, field-stops, field-goes}
-use borrow.Author.Rules.{rules}
 use Rattle.reader.proofs.fields.field_end.Given as goal
 
 abbrev pub invariant-loop-at : goal.invariant-loop-at

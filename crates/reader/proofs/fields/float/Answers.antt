@@ -5,7 +5,6 @@ use lib.Ieee.{Float, nan, inf, fin, binary64, is_nan, of_bits, div}
 use lib.Ieee.Bits.{nan_bits_is, nan_bits_above}
 use borrow.Author.Tests.{le-ltb, lt-ltb}
 use Rattle.count.proofs.laws.Truth.{never}
-use borrow.Author.Rules.{rules}
 use Rattle.reader.proofs.fields.float.Goals as goal
 
 -- what is no number is the one that there is

@@ -6,7 +6,6 @@ use mir.Syntax.{w64}
 use mir.ValLaws.{to_z_pos}
 use Rattle.reader.specs.Fields.{whole}
 use Rattle.reader.proofs.laws.Fields.{plus-right, plus-wrong}
-use borrow.Author.Rules.{rules}
 use Rattle.reader.proofs.fields.from_zero.Goals as goal
 
 pub returns-then-size-gt9223372036854775807 : goal.returns-then-size-gt9223372036854775807

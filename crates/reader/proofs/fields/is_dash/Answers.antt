@@ -1,7 +1,6 @@
 -- `reader::is_dash` meets its contract. Assumes nothing.
 use mathlib.Core.Path.{sym}
 use Rattle.reader.proofs.laws.Pairs.{dash-not, dash-is}
-use borrow.Author.Rules.{rules}
 use Rattle.reader.proofs.fields.is_dash.Goals as goal
 
 pub returns-then-field-ne1 : goal.returns-then-field-ne1

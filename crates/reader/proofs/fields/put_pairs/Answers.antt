@@ -1,5 +1,5 @@
 -- `reader::put_pairs` meets its contract: one byte a turn. Assumes nothing.
-use Prim.Native.Nat.{ℕ, ◌-◌, ◌/◌, ◌≤◌, ◌<◌}
+use Prim.Native.Nat.{ℕ, ◌/◌, ◌<◌}
 use mathlib.Core.List.{List}
 use mathlib.Core.Path.{◌≡◌, refl, ap, ◌∙◌}
 use native.Mathlib.Omega.{arith}
@@ -7,7 +7,6 @@ use lib.ListN.{length, set, length-set}
 use lib.Seq.{paste, paste-zero}
 use Rattle.reader.specs.Fields.{pairs}
 use Rattle.reader.proofs.laws.Pairs.{pair-at, pairs-more, pairs-all}
-use borrow.Author.Rules.{rules}
 use Rattle.reader.proofs.fields.put_pairs.Goals as goal
 
 pub loop-i-init : goal.loop-i-init

@@ -1,13 +1,9 @@
 -- `reader::put_pairs` meets its contract: one byte a turn. Assumes nothing.
-use Prim.Native.Nat.{ℕ, ◌-◌, ◌/◌, ◌≤◌, ◌<◌}
-use mathlib.Core.List.{List}
-use mathlib.Core.Path.{◌≡◌, refl, ap, ◌∙◌}
-use native.Mathlib.Omega.{arith}
-use lib.ListN.{length, set, length-set}
-use lib.Seq.{paste, paste-zero}
+use Prim.Native.Nat.{◌-◌, ◌/◌, ◌≤◌}
+use mathlib.Core.Path.{◌≡◌}
+use lib.ListN.{length}
+use lib.Seq.{paste}
 use Rattle.reader.specs.Fields.{pairs}
-use Rattle.reader.proofs.laws.Pairs.{pair-at, pairs-more, pairs-all}
-use borrow.Author.Rules.{rules}
 use Rattle.reader.proofs.fields.put_pairs.Given as goal
 
 abbrev pub invariant-loop-i : goal.invariant-loop-i

@@ -2,9 +2,8 @@
 use mathlib.Core.Path.{◌≡◌, ◌∙◌}
 use lib.ListN.{length, take}
 use lib.Seq.{take-length}
-use borrow.Author.Tests.{eq-eqb, ne_eqb, not-true, not-false}
+use borrow.Author.Tests.{eq-eqb, ne_eqb}
 use Rattle.reader.specs.Fields.{bits_of}
-use borrow.Author.Rules.{rules}
 use Rattle.reader.proofs.fields.read_bits.Goals as goal
 
 pub returns-then-field-ne16 : goal.returns-then-field-ne16

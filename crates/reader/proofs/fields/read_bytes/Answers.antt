@@ -1,11 +1,6 @@
 -- `reader::read_bytes` meets its contract: each return by the tests that led there. Assumes nothing.
-use mathlib.Core.Path.{◌≡◌, sym, ◌∙◌}
-use mathlib.Core.Bool.{true, false}
-use lib.ListN.{length}
-use borrow.Author.Tests.{not-true, not-false}
-use Rattle.reader.specs.Fields.{is_dash, are_pairs}
+use mathlib.Core.Path.{sym, ◌∙◌}
 use Rattle.reader.proofs.laws.Pairs.{pairs-room, bytes-none, bytes-wrong, bytes_read}
-use borrow.Author.Rules.{rules}
 use Rattle.reader.proofs.fields.read_bytes.Goals as goal
 
 pub returns-then-is_dash : goal.returns-then-is_dash

@@ -6,7 +6,6 @@ use mathlib.Core.List.{List}
 use Rattle.count.proofs.laws.Lists.{rest}
 use Rattle.reader.specs.Fields.{signed_whole}
 use Rattle.reader.proofs.laws.Fields.{whole-empty, whole-minus, whole-plus}
-use borrow.Author.Rules.{rules}
 use Rattle.reader.proofs.fields.read_whole.Goals as goal
 
 pub returns-then-field-eq0 : goal.returns-then-field-eq0

@@ -10,7 +10,6 @@ use Rattle.reader.specs.Reader.{is_digit}
 use Rattle.reader.specs.Fields.{signed_whole}
 use Rattle.reader.specs.work.Sizes.{sized_whole, size_from}
 use Rattle.reader.proofs.laws.Fields.{bad_length, few, size-right, size-found, signed-short, signed-letters, signed_is}
-use borrow.Author.Rules.{rules}
 use Rattle.reader.proofs.fields.signed_whole.Goals as goal
 
 -- all are digits, and the size is what they come to

@@ -1,14 +1,7 @@
 -- `reader::size_of` meets its contract: the loop keeps what the digits left come to, and that the size has so many digits. Assumes nothing.
-use Prim.Native.Nat.{◌+◌, ◌-◌, ◌*◌, ◌^◌, ◌≤◌, ◌<◌}
-use mathlib.Core.Path.{◌≡◌, sym, ◌∙◌}
-use mathlib.Core.Bool.{true}
+use mathlib.Core.Path.{sym, ◌∙◌}
 use native.Mathlib.Omega.{arith}
-use lib.ListN.{length, drop, get_or}
-use borrow.Author.Tests.{not-true, not-false}
-use Rattle.reader.specs.Reader.{is_digit}
-use Rattle.reader.specs.work.Sizes.{size_from}
 use Rattle.reader.proofs.laws.Fields.{size_none, size-stops, size-goes, size_room, size-more}
-use borrow.Author.Rules.{rules}
 use Rattle.reader.proofs.fields.size_of.Goals as goal
 
 pub returns-then-not-is_digit : goal.returns-then-not-is_digit

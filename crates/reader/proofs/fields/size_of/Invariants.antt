@@ -1,14 +1,8 @@
 -- `reader::size_of` meets its contract: the loop keeps what the digits left come to, and that the size has so many digits. Assumes nothing.
-use Prim.Native.Nat.{◌+◌, ◌-◌, ◌*◌, ◌^◌, ◌≤◌, ◌<◌}
-use mathlib.Core.Path.{◌≡◌, sym, ◌∙◌}
-use mathlib.Core.Bool.{true}
-use native.Mathlib.Omega.{arith}
-use lib.ListN.{length, drop, get_or}
-use borrow.Author.Tests.{not-true, not-false}
-use Rattle.reader.specs.Reader.{is_digit}
+use Prim.Native.Nat.{◌-◌, ◌^◌, ◌≤◌, ◌<◌}
+use mathlib.Core.Path.{◌≡◌}
+use lib.ListN.{length, drop}
 use Rattle.reader.specs.work.Sizes.{size_from}
-use Rattle.reader.proofs.laws.Fields.{size_none, size-stops, size-goes, size_room, size-more}
-use borrow.Author.Rules.{rules}
 use Rattle.reader.proofs.fields.size_of.Given as goal
 
 abbrev pub invariant-loop-i : goal.invariant-loop-i

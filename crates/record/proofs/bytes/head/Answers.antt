@@ -3,7 +3,6 @@ use native.Mathlib.Omega.{arith}
 use borrow.Author.Tests.{le-ltb}
 use Rattle.count.specs.Pick.{tests}
 use Rattle.record.specs.work.Work.{head_of}
-use borrow.Author.Rules.{rules}
 use Rattle.record.proofs.bytes.head.Goals as goal
 
 pub returns-then-s-lt4 : goal.returns-then-s-lt4

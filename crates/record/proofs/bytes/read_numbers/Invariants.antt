@@ -1,11 +1,8 @@
 -- `record::read_numbers` meets its contract: one number a turn. Assumes nothing.
 use Prim.Native.Nat.{◌≤◌, ◌-◌}
-use mathlib.Core.Path.{◌≡◌, ◌∙◌}
-use native.Mathlib.Omega.{arith}
+use mathlib.Core.Path.{◌≡◌}
 use Rattle.count.specs.Words.{pad}
 use Rattle.record.specs.Bytes.{words_of}
-use Rattle.record.proofs.laws.Work.{read_more}
-use borrow.Author.Rules.{rules}
 use Rattle.record.proofs.bytes.read_numbers.Given as goal
 
 abbrev pub invariant-loop-i : goal.invariant-loop-i

@@ -2,7 +2,6 @@
 use mathlib.Core.Path.{ap, sym, ◌∙◌}
 use Rattle.record.specs.Places.{answered}
 use Rattle.record.proofs.laws.Work.{at-past, at_part, part-within}
-use borrow.Author.Rules.{rules}
 use Rattle.record.proofs.bytes.record_at.Goals as goal
 
 pub returns-then-end-at : goal.returns-then-end-at

@@ -3,7 +3,6 @@ use mathlib.Core.Path.{ap, sym, ◌∙◌}
 use native.Mathlib.Omega.{arith}
 use Rattle.record.specs.Places.{answered}
 use Rattle.record.proofs.laws.Work.{head-room, front-none, front-wrong, front-right}
-use borrow.Author.Rules.{rules}
 use Rattle.record.proofs.bytes.record_in.Goals as goal
 
 pub returns-then-n-gt8 : goal.returns-then-n-gt8

@@ -1,6 +1,5 @@
 -- `record::word` meets its contract. Assumes nothing.
 use Rattle.record.specs.Bytes.{word_at}
-use borrow.Author.Rules.{rules}
 use Rattle.record.proofs.bytes.word.Goals as goal
 
 pub returns : goal.returns

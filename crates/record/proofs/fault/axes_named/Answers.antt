@@ -1,6 +1,5 @@
 -- `record::axes_named` meets its contract. Assumes nothing.
 use Rattle.record.specs.Fault.{named_by}
-use borrow.Author.Rules.{rules}
 use Rattle.record.proofs.fault.axes_named.Goals as goal
 
 pub returns : goal.returns

@@ -1,7 +1,6 @@
 -- `record::axes_right` meets its contract. Assumes nothing.
 use borrow.Author.Tests.{eq-eqb, ne_eqb}
 use Rattle.record.proofs.laws.Rows.{axes-so}
-use borrow.Author.Rules.{rules}
 use Rattle.record.proofs.fault.axes_right.Goals as goal
 
 pub returns-then-code-eq110 : goal.returns-then-code-eq110

@@ -1,7 +1,6 @@
 -- `record::count_right` meets its contract. Assumes nothing.
 use borrow.Author.Tests.{eq-eqb, ne_eqb}
 use Rattle.record.proofs.laws.Rows.{count-so}
-use borrow.Author.Rules.{rules}
 use Rattle.record.proofs.fault.count_right.Goals as goal
 
 pub returns-then-is_movement : goal.returns-then-is_movement

@@ -1,6 +1,5 @@
 -- `record::is_code` meets its contract. Assumes nothing.
 use Rattle.record.proofs.laws.Rows.{code-so}
-use borrow.Author.Rules.{rules}
 use Rattle.record.proofs.fault.is_code.Goals as goal
 
 pub returns : goal.returns

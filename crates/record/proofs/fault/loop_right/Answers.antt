@@ -1,6 +1,5 @@
 -- `record::loop_right` meets its contract. Assumes nothing.
 use Rattle.record.specs.Fault.{loop_right}
-use borrow.Author.Rules.{rules}
 use Rattle.record.proofs.fault.loop_right.Goals as goal
 
 pub returns : goal.returns

@@ -3,7 +3,6 @@ use mathlib.Core.Path.{sym}
 use borrow.Author.Tests.{ne_eqb}
 use Rattle.record.specs.Fault.{ranges_right}
 use Rattle.record.proofs.laws.Rows.{ranges-none}
-use borrow.Author.Rules.{rules}
 use Rattle.record.proofs.fault.ranges_right.Goals as goal
 
 pub returns-in-48 : goal.returns-in-48

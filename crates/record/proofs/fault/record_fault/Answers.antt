@@ -1,8 +1,6 @@
 -- `record::record_fault` meets its contract. Assumes nothing.
 use mathlib.Core.Path.{sym, ◌∙◌}
-use borrow.Author.Tests.{not-false}
 use Rattle.record.specs.Fault.{fault_of}
-use borrow.Author.Rules.{rules}
 use Rattle.record.proofs.fault.record_fault.Goals as goal
 
 pub returns-then-not-is_code : goal.returns-then-not-is_code

@@ -1,7 +1,6 @@
 -- `record::speeds_right` meets its contract. Assumes nothing.
 use borrow.Author.Tests.{eq-eqb, ne_eqb}
 use Rattle.record.proofs.laws.Rows.{speeds-so}
-use borrow.Author.Rules.{rules}
 use Rattle.record.proofs.fault.speeds_right.Goals as goal
 
 pub returns-then-is_movement : goal.returns-then-is_movement

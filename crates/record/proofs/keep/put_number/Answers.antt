@@ -4,7 +4,6 @@ use native.Mathlib.Omega.{arith}
 use lib.ListN.{length-set}
 use lib.Seq.{sets-eq}
 use Rattle.record.specs.Bytes.{bytes4}
-use borrow.Author.Rules.{rules}
 use Rattle.record.proofs.keep.put_number.Goals as goal
 
 pub bounds-s-1 : goal.bounds-s-1

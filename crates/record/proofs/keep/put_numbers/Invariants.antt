@@ -1,13 +1,9 @@
 -- `record::put_numbers` meets its contract: one number a turn. Assumes nothing.
 use Prim.Native.Nat.{◌≤◌, ◌-◌, ◌*◌}
-use mathlib.Core.Path.{◌≡◌, refl, ◌∙◌}
+use mathlib.Core.Path.{◌≡◌}
 use mathlib.Core.List.{◌++◌}
-use native.Mathlib.Omega.{arith}
 use lib.ListN.{length, take, drop}
-use borrow.Rule.Slice.PartMut.{same_len_mid}
 use Rattle.record.specs.Bytes.{num_bytes}
-use Rattle.record.proofs.laws.Put.{put-more}
-use borrow.Author.Rules.{rules}
 use Rattle.record.proofs.keep.put_numbers.Given as goal
 
 abbrev pub invariant-loop-i : goal.invariant-loop-i

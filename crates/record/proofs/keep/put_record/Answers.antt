@@ -5,7 +5,6 @@ use native.Mathlib.Omega.{arith}
 use lib.ListN.{length}
 use borrow.Rule.Slice.PartMut.{put_mid}
 use Rattle.record.proofs.laws.Put.{record-put}
-use borrow.Author.Rules.{rules}
 use Rattle.record.proofs.keep.put_record.Goals as goal
 
 pub returns : goal.returns

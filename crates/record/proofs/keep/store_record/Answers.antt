@@ -1,7 +1,6 @@
 -- `record::store_record` meets its contract. Assumes nothing.
 use mathlib.Core.Path.{◌≡◌, sym, ◌∙◌}
 use native.Mathlib.Omega.{arith}
-use borrow.Author.Tests.{not-true, not-false}
 use lib.ListN.{length}
 use Rattle.record.specs.Memory.{memory}
 use Rattle.record.proofs.laws.Put.{room-so, kept-not, kept-so}

@@ -2,11 +2,9 @@
 use Prim.Native.Nat.{◌≤◌}
 use mathlib.Core.Path.{sym, ◌∙◌}
 use native.Mathlib.Omega.{arith}
-use borrow.Author.Tests.{not-true, not-false}
 use Rattle.record.specs.Bytes.{Below}
 use Rattle.record.proofs.laws.Walk.{end-part}
 use Rattle.record.proofs.laws.Told.{told-103, told-106, told-71, told-0, told-list, told-room, records-part}
-use borrow.Author.Rules.{rules}
 use Rattle.record.proofs.listing.list.Goals as goal
 
 pub returns-then-held-gt16384 : goal.returns-then-held-gt16384

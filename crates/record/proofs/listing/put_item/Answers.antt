@@ -1,7 +1,6 @@
 -- `record::put_item` meets its contract. Assumes nothing.
 use native.Mathlib.Omega.{arith}
 use Rattle.record.proofs.laws.Writing.{item-first, item-later, item-most}
-use borrow.Author.Rules.{rules}
 use Rattle.record.proofs.listing.put_item.Goals as goal
 
 pub returns-then-i-eq0 : goal.returns-then-i-eq0

@@ -1,17 +1,12 @@
 -- `record::put_lines` meets its contract: one record a turn. Assumes nothing.
-use Prim.Native.Nat.{◌≤◌, ◌+◌}
+use Prim.Native.Nat.{◌≤◌}
 use mathlib.Core.Path.{◌≡◌}
 use mathlib.Core.Bool.{true}
-use mathlib.Core.List.{[], ◌∷◌}
-use native.Mathlib.Omega.{arith}
-use lib.ListN.{length, drop, set, length-drop, length-set}
-use Rattle.count.proofs.laws.Lists.{rest}
+use lib.ListN.{length, drop}
 use Rattle.record.specs.Places.{records_from, is_list}
 use Rattle.record.specs.Listing.{list_text}
-use Rattle.record.proofs.laws.Walk.{step_room}
-use Rattle.record.proofs.laws.Writing.{Writing, write-one, write-left, write-end, lines-turn, lines-done}
+use Rattle.record.proofs.laws.Writing.{Writing}
 use Rattle.record.specs.work.Writing.{list_in}
-use borrow.Author.Rules.{rules}
 use Rattle.record.proofs.listing.put_lines.Given as goal
 
 abbrev pub invariant-loop-left : goal.invariant-loop-left

@@ -1,9 +1,9 @@
 -- `record::put_tail` meets its contract: one number a turn. Assumes nothing.
-use Prim.Native.Nat.{◌≤◌, ◌+◌, ◌-◌}
+use Prim.Native.Nat.{◌+◌}
 use native.Mathlib.Omega.{arith}
 use lib.ListN.{get_or, take, drop, length-drop}
 use Rattle.count.proofs.laws.Lists.{rest}
-use Rattle.record.proofs.laws.Writing.{Writing, write-one, write-part, write-left, write-end, tail-next, tail-done, tail-long, item-most}
+use Rattle.record.proofs.laws.Writing.{write-one, write-part, write-left, write-end, tail-next, tail-done, tail-long, item-most}
 use Rattle.record.specs.work.Writing.{item_text, line_left}
 use borrow.Author.Rules.{rules}
 use Rattle.record.proofs.listing.put_tail.Goals as goal

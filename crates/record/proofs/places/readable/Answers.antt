@@ -2,7 +2,6 @@
 use mathlib.Core.Path.{ap, sym, ◌∙◌}
 use native.Mathlib.Omega.{arith}
 use Rattle.record.proofs.laws.Walk.{ends_at, end-part, readable-here}
-use borrow.Author.Rules.{rules}
 use Rattle.record.proofs.places.readable.Goals as goal
 
 pub slice_bounds-walk-end : goal.slice_bounds-walk-end

@@ -1,11 +1,8 @@
 -- `record::walk` meets its contract: one record a turn. Assumes nothing.
-use Prim.Native.Nat.{◌≤◌}
 use mathlib.Core.Path.{◌≡◌, sym, ◌∙◌}
 use native.Mathlib.Omega.{arith}
-use lib.ListN.{length}
 use Rattle.record.specs.Places.{spot_from}
 use Rattle.record.proofs.laws.Walk.{step-wrong, step-on, step_room}
-use borrow.Author.Rules.{rules}
 use Rattle.record.proofs.places.walk.Goals as goal
 
 pub returns-then-f-eq0 : goal.returns-then-f-eq0

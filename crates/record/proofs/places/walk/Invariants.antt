@@ -1,11 +1,8 @@
 -- `record::walk` meets its contract: one record a turn. Assumes nothing.
 use Prim.Native.Nat.{◌≤◌}
-use mathlib.Core.Path.{◌≡◌, sym, ◌∙◌}
-use native.Mathlib.Omega.{arith}
+use mathlib.Core.Path.{◌≡◌}
 use lib.ListN.{length}
 use Rattle.record.specs.Places.{spot_from}
-use Rattle.record.proofs.laws.Walk.{step-wrong, step-on, step_room}
-use borrow.Author.Rules.{rules}
 use Rattle.record.proofs.places.walk.Given as goal
 
 abbrev pub invariant-loop-left : goal.invariant-loop-left

@@ -1,6 +1,5 @@
 -- `record::can_fill` meets its contract. Assumes nothing.
 use Rattle.record.specs.Table.{can_fill}
-use borrow.Author.Rules.{rules}
 use Rattle.record.proofs.table.can_fill.Goals as goal
 
 pub returns : goal.returns

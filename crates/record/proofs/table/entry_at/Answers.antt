@@ -1,6 +1,5 @@
 -- `record::entry_at` meets its contract. Assumes nothing.
 use Rattle.count.specs.Pick.{tests}
-use borrow.Author.Rules.{rules}
 use Rattle.record.proofs.table.entry_at.Goals as goal
 
 pub returns-then-i-table : goal.returns-then-i-table

@@ -4,7 +4,6 @@ use borrow.Author.Tests.{eq-eqb, ne_eqb}
 use Rattle.record.specs.declared.Spot.{Spot}
 use Rattle.record.specs.Places.{answered}
 use Rattle.record.specs.Table.{record_from, fetch_of}
-use borrow.Author.Rules.{rules}
 use Rattle.record.proofs.table.fetch.Goals as goal
 
 pub returns-then-place-held : goal.returns-then-place-held

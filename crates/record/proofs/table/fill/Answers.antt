@@ -1,11 +1,9 @@
 -- `record::fill` meets its contract. Assumes nothing.
 use mathlib.Core.Path.{sym, ◌∙◌}
 use native.Mathlib.Omega.{arith}
-use borrow.Author.Tests.{not-true, not-false}
 use Rattle.record.specs.Memory.{memory}
 use Rattle.record.proofs.laws.Walk.{end-part}
 use Rattle.record.proofs.laws.Fills.{is-102, is-104, is-g, fill-ready, fill_done}
-use borrow.Author.Rules.{rules}
 use Rattle.record.proofs.table.fill.Goals as goal
 
 pub returns-then-store-ne16384 : goal.returns-then-store-ne16384

@@ -7,7 +7,6 @@ use Rattle.count.specs.Pick.{tests}
 use Rattle.record.specs.declared.Spot.TheVariants as spot
 use Rattle.record.specs.Table.{spot_of}
 use Rattle.record.proofs.laws.Work.{part-within}
-use borrow.Author.Rules.{rules}
 use Rattle.record.proofs.table.find.Goals as goal
 
 pub returns-then-place-held : goal.returns-then-place-held

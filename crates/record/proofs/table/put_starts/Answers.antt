@@ -1,15 +1,14 @@
 -- `record::put_starts` meets its contract: one entry a turn. Assumes nothing.
-use Prim.Native.Nat.{ℕ, ◌≤◌, ◌-◌}
+use Prim.Native.Nat.{ℕ}
 use mathlib.Core.Path.{◌≡◌, refl, ap, ◌∙◌}
 use mathlib.Core.List.{List}
 use native.Mathlib.Omega.{arith}
-use lib.ListN.{length, set, length-set}
+use lib.ListN.{set, length-set}
 use lib.Seq.{paste, paste-zero}
 use Rattle.record.specs.Places.{records_from}
 use Rattle.record.specs.Table.{starts_of}
 use Rattle.record.proofs.laws.Walk.{step_room}
-use Rattle.record.proofs.laws.Fills.{turn-paste, Starting, start_first, start-here, start-next}
-use borrow.Author.Rules.{rules}
+use Rattle.record.proofs.laws.Fills.{turn-paste, start_first, start-here, start-next}
 use Rattle.record.proofs.table.put_starts.Goals as goal
 
 pub loop-i-init : goal.loop-i-init

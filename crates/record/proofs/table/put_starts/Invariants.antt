@@ -1,15 +1,11 @@
 -- `record::put_starts` meets its contract: one entry a turn. Assumes nothing.
-use Prim.Native.Nat.{ℕ, ◌≤◌, ◌-◌}
-use mathlib.Core.Path.{◌≡◌, refl, ap, ◌∙◌}
-use mathlib.Core.List.{List}
-use native.Mathlib.Omega.{arith}
-use lib.ListN.{length, set, length-set}
-use lib.Seq.{paste, paste-zero}
+use Prim.Native.Nat.{◌≤◌, ◌-◌}
+use mathlib.Core.Path.{◌≡◌}
+use lib.ListN.{length}
+use lib.Seq.{paste}
 use Rattle.record.specs.Places.{records_from}
 use Rattle.record.specs.Table.{starts_of}
-use Rattle.record.proofs.laws.Walk.{step_room}
-use Rattle.record.proofs.laws.Fills.{turn-paste, Starting, start_first, start-here, start-next}
-use borrow.Author.Rules.{rules}
+use Rattle.record.proofs.laws.Fills.{Starting}
 use Rattle.record.proofs.table.put_starts.Given as goal
 
 abbrev pub invariant-loop-i : goal.invariant-loop-i

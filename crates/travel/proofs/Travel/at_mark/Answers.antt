@@ -1,5 +1,4 @@
 -- `travel::Travel::at_mark` meets its contract. Assumes nothing.
-use borrow.Author.Rules.{rules}
 use Rattle.travel.proofs.Travel.at_mark.Goals as goal
 
 pub returns-in-Straight : goal.returns-in-Straight

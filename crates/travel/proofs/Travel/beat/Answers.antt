@@ -1,5 +1,4 @@
 -- `travel::Travel::beat` meets its contract. Assumes nothing.
-use borrow.Author.Rules.{rules}
 use Rattle.travel.specs.work.Beat.{next_of}
 use Rattle.travel.proofs.laws.Beats.{straight-beaten, arc-beaten}
 use Rattle.travel.proofs.Travel.beat.Goals as goal

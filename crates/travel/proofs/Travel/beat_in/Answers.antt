@@ -1,5 +1,4 @@
 -- `travel::Travel::beat_in` meets its contract. Assumes nothing.
-use borrow.Author.Rules.{rules}
 use Rattle.travel.specs.work.Beat.{within_of}
 use Rattle.travel.proofs.laws.Beats.{straight-within, arc-beaten}
 use Rattle.travel.proofs.Travel.beat_in.Goals as goal

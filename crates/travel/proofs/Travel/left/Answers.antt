@@ -1,5 +1,4 @@
 -- `travel::Travel::left` meets its contract. Assumes nothing.
-use borrow.Author.Rules.{rules}
 use Rattle.travel.specs.Next.{left_of}
 use Rattle.travel.proofs.Travel.left.Goals as goal
 

@@ -1,5 +1,4 @@
 -- `travel::Travel::look` meets its contract. Assumes nothing.
-use borrow.Author.Rules.{rules}
 use Rattle.travel.proofs.Work.{straight-look, arc-look}
 use Rattle.travel.proofs.Travel.look.Goals as goal
 

@@ -1,5 +1,4 @@
 -- `travel::Travel::made` meets its contract. Assumes nothing.
-use borrow.Author.Rules.{rules}
 use Rattle.travel.proofs.Travel.made.Goals as goal
 
 pub returns-in-Straight : goal.returns-in-Straight

@@ -1,5 +1,4 @@
 -- `travel::Travel::sound` meets its contract. Assumes nothing.
-use borrow.Author.Rules.{rules}
 use Rattle.travel.specs.Sound.{under_way}
 use Rattle.travel.proofs.Travel.sound.Goals as goal
 

@@ -1,5 +1,4 @@
 -- `travel::Travel::with_made` meets its contract. Assumes nothing.
-use borrow.Author.Rules.{rules}
 use Rattle.travel.proofs.Travel.with_made.Goals as goal
 
 pub returns-in-Straight : goal.returns-in-Straight

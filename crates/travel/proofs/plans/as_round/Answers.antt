@@ -1,5 +1,4 @@
 -- `travel::plans::as_round` meets its contract. Assumes nothing.
-use borrow.Author.Rules.{rules}
 use Rattle.travel.proofs.plans.as_round.Goals as goal
 
 pub returns-in-Going : goal.returns-in-Going

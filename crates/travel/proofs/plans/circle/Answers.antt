@@ -1,5 +1,4 @@
 -- `travel::plans::circle` meets its contract. Assumes nothing.
-use borrow.Author.Rules.{rules}
 use Rattle.travel.specs.Plan.{circle_of}
 use Rattle.travel.proofs.plans.circle.Goals as goal
 

@@ -1,5 +1,4 @@
 -- `travel::plans::plan` meets its contract. Assumes nothing.
-use borrow.Author.Rules.{rules}
 use Rattle.travel.specs.Plan.{plan_of}
 use Rattle.travel.proofs.plans.plan.Goals as goal
 

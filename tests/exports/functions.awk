@@ -1,9 +1,10 @@
 # For each `pub fn` of a Rattle source file: crate, path below proofs/ (a method's is its type's, whatever the module), how many
-# `requires` and how many `ensures` it has, and PLACE:NAME of each parameter that is lent as `&mut`, the first parameter's place being 0.
+# `requires` and how many `ensures` it has, `stream` if its result says how a read or write went, else `plain`, and PLACE:NAME of each
+# parameter that is lent as `&mut`, the first parameter's place being 0.
 BEGIN { prefix = module == "" ? "" : module "." }
 /^impl / { type = $2; sub(/[<{].*/, "", type) }
 /^}/ { type = "" }
-/^ *(#\[no_mangle\] *)?pub (extern "C" )?fn / {
+/^ *(#\[unsafe\(no_mangle\)\] *)?pub (extern "C" )?fn / {
     name = $0
     sub(/.*fn /, "", name)
     sub(/[^A-Za-z0-9_].*/, "", name)
@@ -15,7 +16,7 @@ reading && !asks && !says { signature = signature " " $0 }
 reading && /^ *requires/ { asks++ }
 reading && /^ *ensures/ { says++ }
 reading && (/^ *\{$/ || /^ *\{ .*\}$/ || /\) (-> .* )?\{/ ) {
-    print crate, (type == "" ? prefix : type ".") name, asks, says lent(signature)
+    print crate, (type == "" ? prefix : type ".") name, asks, says, (signature ~ /-> io::Result</ ? "stream" : "plain") lent(signature)
     reading = 0
 }
 

@@ -10,19 +10,27 @@ function refuse(why) {
     exit 1
 }
 
+# a function's name in one word; it may hold < and > itself
+function word(text) {
+    gsub(/ /, "_", text)
+    return text
+}
+
 # FILE:FUNCTION or FILE:LINE:COLUMN:FUNCTION, the bytes, and how they are known
 FILENAME ~ /\.su$/ {
-    name = $1
+    split($0, part, "\t")
+    name = word(part[1])
     if (!sub(/^.*:[0-9]+:[0-9]+:/, "", name)) sub(/^[^:]*:/, "", name)
-    if ($3 != "static") unclear[name] = "takes stack as it runs"
-    frame[name] = $2
+    if (part[3] != "static") unclear[name] = "takes stack as it runs"
+    frame[name] = part[2]
     told[name] = 1
     next
 }
 
 /^[0-9a-f]+ <.*>:$/ {
-    name = $2
-    gsub(/^<|>:$/, "", name)
+    name = $0
+    gsub(/^[0-9a-f]+ <|>:$/, "", name)
+    name = word(name)
     known[name] = 1
     next
 }
@@ -67,7 +75,10 @@ function unread(op, with) {
     if (unread(op, with)) unclear[name] = "may call what cannot be read: " op " " with
     if (op !~ /^b/ || with !~ /<.*>/) next
     to = with
-    gsub(/^.*<|\+0x.*$|>.*$/, "", to)
+    sub(/^[^<]*</, "", to)
+    sub(/>[^>]*$/, "", to)
+    sub(/\+0x[0-9a-f]+$/, "", to)
+    to = word(to)
     if (op ~ /^bl(eq|ne|cs|cc|hs|lo|mi|pl|vs|vc|hi|ls|ge|lt|gt|le)?$/) calls[name] = calls[name] " " to
     else if (to != name) leads[name] = leads[name] " " to
 }

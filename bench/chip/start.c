@@ -2,7 +2,7 @@
    Over the first UART the host sends how many bytes follow, as four bytes with the lowest first, and then these bytes; what the
    program writes comes back. At the end the deepest stack is told on the emulator's own channel. Lengths have 64 bits on every
    processor. */
-#include <stdint.h>
+#include "../bare.c"
 
 #define UART 0x40004000u
 #define DATA (*(volatile uint32_t *)(UART + 0x00))
@@ -70,9 +70,9 @@ __attribute__((noreturn)) void reset(void) {
     (void)DATA; /* a byte from before is none of ours; and the emulator looks for the next one only when this is read */
     left = 0;
     for (int i = 0; i < 32; i += 8) left |= (uint32_t)get() << i;
-    main();
+    int status = main();
     tell_stack();
-    leave(0x20026);
+    leave(status == 0 ? 0x20026 : 0x20023);
     __builtin_unreachable();
 }
 

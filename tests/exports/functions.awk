@@ -3,7 +3,7 @@
 BEGIN { prefix = module == "" ? "" : module "." }
 /^impl / { type = $2; sub(/[<{].*/, "", type) }
 /^}/ { type = "" }
-/^ *(#\[no_mangle\] *)?pub (extern "C" )?fn / {
+/^ *(#\[unsafe\(no_mangle\)\] *)?pub (extern "C" )?fn / {
     name = $0
     sub(/.*fn /, "", name)
     sub(/[^A-Za-z0-9_].*/, "", name)

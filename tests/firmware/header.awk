@@ -29,7 +29,7 @@ FNR == 1 { as_c = inside = 0; part = "" }
     order[++structs] = struct
 }
 
-{ as_c = 0 }
+!/^#\[/ { as_c = 0 }
 
 inside && /^    pub / {
     text = $0
@@ -70,7 +70,10 @@ function measure(s, i, t, at, each, most) {
     size[s] = int((at + most - 1) / most) * most
 }
 
-function in_c(t) { return t in plain ? plain[t] : c_name(t) }
+function in_c(t) {
+    sub(/^[a-z_]+::/, "", t)
+    return t in plain ? plain[t] : c_name(t)
+}
 
 function same(what, n) { print "_Static_assert(" what " == " n ", \"" what " is not " n "\");" }
 
@@ -144,7 +147,7 @@ awaited != "" && /[^0-9][0-9]+[^0-9]*$/ {
 
 /^pub extern "C" fn / { declared = ""; declaring = 1 }
 
-declaring && /^({|    ensures )/ {
+declaring && /^({|    (requires|ensures) )/ {
     declaring = 0
     functions++
     line[functions] = declared

@@ -7,5 +7,5 @@ build() { # PROGRAM: proves and builds it, unless it is there
         return 1
     fi
     echo "$name: the program $1 is proved and built first, which takes some minutes" >&2
-    (cd "$root" && rt check "$1") >&2
+    "$root/tools/build" "$1"
 }

@@ -116,7 +116,7 @@ def main():
                     together.append(f"{path}: {old} and {new}")
         for where, pattern, to in facts:
             if path.startswith(where):
-                text = pattern.sub(to, text)
+                text = "\n".join(l if l.lstrip().startswith(("--", "//")) else pattern.sub(to, l) for l in text.split("\n"))
         if path.endswith(".rt"):
             parts = code_and_rest(text)
             new = "".join(p if i % 2 else turn(p) for i, p in enumerate(parts))

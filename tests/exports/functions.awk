@@ -1,6 +1,5 @@
 # For each `pub fn` of a Rattle source file: crate, path below proofs/ (a method's is its type's, whatever the module), how many
-# `requires` and how many `ensures` it has, `stream` if its result says how a read or write went, else `plain`, and PLACE:NAME of each
-# parameter that is lent as `&mut`, the first parameter's place being 0.
+# `requires` and how many `ensures` it has, and PLACE:NAME of each parameter that is lent as `&mut`, the first parameter's place being 0.
 BEGIN { prefix = module == "" ? "" : module "." }
 /^impl / { type = $2; sub(/[<{].*/, "", type) }
 /^}/ { type = "" }
@@ -16,7 +15,7 @@ reading && !asks && !says { signature = signature " " $0 }
 reading && /^ *requires/ { asks++ }
 reading && /^ *ensures/ { says++ }
 reading && (/^ *\{$/ || /^ *\{ .*\}$/ || /\) (-> .* )?\{/ ) {
-    print crate, (type == "" ? prefix : type ".") name, asks, says, (signature ~ /-> io::Result</ ? "stream" : "plain") lent(signature)
+    print crate, (type == "" ? prefix : type ".") name, asks, says lent(signature)
     reading = 0
 }
 

@@ -2,13 +2,15 @@
 // of; what a step prints stands at its function.
 #![tactic(auto)]
 
+ghost use Rattle.std.specs.Io.{ReadsAtMost};
+
 use circle::{Circling, Direction, Plane};
 use engine::{Answer, Begun, Engine, Run};
 use motion::{Counters, Sign, Signs};
 use program::Loops;
 use record::{Held, Record};
 use std::io;
-use streams::read_full;
+use std::io::Read;
 
 fn byte_of(w: u32) -> u8 {
     if w < 256 { w as u8 } else { 255 }
@@ -312,6 +314,21 @@ fn run_all(rt: &impl Print, text: &[u8]) -> io::Result<()> {
         left = left - 1;
     }
     Ok(())
+}
+
+// Reads until the buffer is full or the input ends, and answers how many bytes of it then stand at the buffer's front.
+fn read_full(from: &mut impl Read, buf: &mut [u8]) -> io::Result<usize>
+    ensures { ReadsAtMost result buf.new }
+{
+    let mut done = 0;
+    while done < buf.len() {
+        let n = from.read(&mut buf[done..])?;
+        if n == 0 {
+            return Ok(done);
+        }
+        done = done + n;
+    }
+    Ok(done)
 }
 
 // At most 131,072 bytes are read: the steps need more than half of that.

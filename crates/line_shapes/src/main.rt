@@ -3,10 +3,11 @@
 #![tactic(auto)]
 
 ghost use Rattle.std.specs.Prelude.{◌≡◌, ◌≤◌, ◌<◌, length, take};
+ghost use Rattle.std.specs.Io.{ReadsAtMost};
 
 use line::{Code, Direct, Letter, Stored};
 use std::io;
-use streams::read_full;
+use std::io::Read;
 
 // The bytes of the hexadecimal pairs from byte `at` on, as many as `out` holds; answers how many.
 fn bytes_of(s: &[u8], at: usize, out: &mut [u8]) -> usize
@@ -118,6 +119,21 @@ fn show_all(rt: &impl Print, s: &[u8]) -> io::Result<()> {
         at = end + 1;
     }
     Ok(())
+}
+
+// Reads until the buffer is full or the input ends, and answers how many bytes of it then stand at the buffer's front.
+fn read_full(from: &mut impl Read, buf: &mut [u8]) -> io::Result<usize>
+    ensures { ReadsAtMost result buf.new }
+{
+    let mut done = 0;
+    while done < buf.len() {
+        let n = from.read(&mut buf[done..])?;
+        if n == 0 {
+            return Ok(done);
+        }
+        done = done + n;
+    }
+    Ok(done)
 }
 
 fn main(rt: HostRuntime) -> io::Result<()> {

@@ -3,12 +3,14 @@
 // and direction for the first two origins.
 #![tactic(auto)]
 
+ghost use Rattle.std.specs.Io.{ReadsAtMost};
+
 mod arcs;
 
 use arcs::show_arc;
 use motion::{Counters, Move, Next, Planned, Sign, Signs, Stepped};
 use std::io;
-use streams::read_full;
+use std::io::Read;
 
 fn narrow(w: u32) -> u8 {
     if w < 256 { w as u8 } else { 0 }
@@ -184,6 +186,21 @@ fn show_all(rt: &impl Print, text: &[u8]) -> io::Result<()> {
         left = left - 1;
     }
     Ok(())
+}
+
+// Reads until the buffer is full or the input ends, and answers how many bytes of it then stand at the buffer's front.
+fn read_full(from: &mut impl Read, buf: &mut [u8]) -> io::Result<usize>
+    ensures { ReadsAtMost result buf.new }
+{
+    let mut done = 0;
+    while done < buf.len() {
+        let n = from.read(&mut buf[done..])?;
+        if n == 0 {
+            return Ok(done);
+        }
+        done = done + n;
+    }
+    Ok(done)
 }
 
 fn main(rt: HostRuntime) -> io::Result<()> {

@@ -3,11 +3,13 @@
 // that it holds, so that its end line can follow once more; any other is received, and clock calls follow it until one answers nothing.
 #![tactic(auto)]
 
+ghost use Rattle.std.specs.Io.{ReadsAtMost};
+
 use board::Board;
 use engine::Answer;
 use sheet::{Axis, Converted, Rate};
 use std::io;
-use streams::read_full;
+use std::io::Read;
 
 // The board, the calls made, and a sum over what they came to.
 #[derive(Clone, Copy)]
@@ -163,6 +165,21 @@ fn take_all(
 fn show(rt: &impl Print, n: u64, last: &[u8]) -> io::Result<()> {
     print!(rt; "{n}")?;
     rt.write_all(last)
+}
+
+// Reads until the buffer is full or the input ends, and answers how many bytes of it then stand at the buffer's front.
+fn read_full(from: &mut impl Read, buf: &mut [u8]) -> io::Result<usize>
+    ensures { ReadsAtMost result buf.new }
+{
+    let mut done = 0;
+    while done < buf.len() {
+        let n = from.read(&mut buf[done..])?;
+        if n == 0 {
+            return Ok(done);
+        }
+        done = done + n;
+    }
+    Ok(done)
 }
 
 fn main(rt: HostRuntime) -> io::Result<()> {

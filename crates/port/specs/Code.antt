@@ -1,4 +1,4 @@
--- A state of plain numbers and the board that it stands for. Reading and writing keep each other's word: `read-written`, `Written-Read`
+-- A state of plain numbers and the board that it stands for. Reading and writing keep each other's word: `read-written`, `written_read`
 -- and `stays-known` in proofs/laws/Code.
 use Rattle.std.specs.Prelude.{ℕ, ◌/◌, ◌%◌, Bool, true, false, ◌&&◌, List, [], ◌∷◌, leb, eqb, replicate}
 use Rattle.count.specs.Sizes.{line_bytes}

@@ -2,11 +2,12 @@
 // bytes` in hexadecimal digits, and a line of the store's bytes, two digits each. Writes the verdict, and the places of its first 40 records.
 #![tactic(auto)]
 
+ghost use Rattle.std.specs.Io.{ReadsAtMost};
+
 use program::{Going, Loop, Loops, Verdict, Way};
 use record::Held;
 use std::io;
 use std::io::Read;
-use streams::read_full;
 
 // The two digits that start at a place of the text.
 fn byte(text: &[u8], at: usize) -> u8 {
@@ -16,6 +17,21 @@ fn byte(text: &[u8], at: usize) -> u8 {
 // The four digits that start at a place of the text.
 fn number(text: &[u8], at: usize) -> u16 {
     (reader::hex_number(text, at, 4) % 65536) as u16
+}
+
+// Reads until the buffer is full or the input ends, and answers how many bytes of it then stand at the buffer's front.
+fn read_full(from: &mut impl Read, buf: &mut [u8]) -> io::Result<usize>
+    ensures { ReadsAtMost result buf.new }
+{
+    let mut done = 0;
+    while done < buf.len() {
+        let n = from.read(&mut buf[done..])?;
+        if n == 0 {
+            return Ok(done);
+        }
+        done = done + n;
+    }
+    Ok(done)
 }
 
 // The byte of the next two digits.

@@ -2,9 +2,11 @@
 // how many kinds of record follow, and eleven numbers for each: how often it is stored, its code, its count of numbers and eight words.
 #![tactic(auto)]
 
+ghost use Rattle.std.specs.Io.{ReadsAtMost};
+
 use record::{Held, Record};
 use std::io;
-use streams::read_full;
+use std::io::Read;
 
 // The part in use of a store that was filled, and where the text goes on.
 #[derive(Clone, Copy)]
@@ -208,6 +210,21 @@ fn show_all(rt: &impl Print, text: &[u8]) -> io::Result<()> {
         left = left - 1;
     }
     Ok(())
+}
+
+// Reads until the buffer is full or the input ends, and answers how many bytes of it then stand at the buffer's front.
+fn read_full(from: &mut impl Read, buf: &mut [u8]) -> io::Result<usize>
+    ensures { ReadsAtMost result buf.new }
+{
+    let mut done = 0;
+    while done < buf.len() {
+        let n = from.read(&mut buf[done..])?;
+        if n == 0 {
+            return Ok(done);
+        }
+        done = done + n;
+    }
+    Ok(done)
 }
 
 fn main(rt: HostRuntime) -> io::Result<()> {

@@ -130,7 +130,7 @@ module _ (m : Move) (at : Counters) (s : Stood m at) (l : m.made < leg m) where
   shown-on : (i : Axis) → shows i (pulse_by formula m at).signs ≡ sign_at m.made (on i (from_of m)) (on i (to_of m)) (leg m)
   shown-on = shows-pulse (λ (i : Axis). sign_at m.made (on i (from_of m)) (on i (to_of m)) (leg m))
 
-  -- every count has RoomFor for its sign
+  -- every count has room for its sign
   rooms : HasRoom at (pulse_by formula m at).signs
   rooms =
       each_of (λ (i : Axis). RoomFor (on i at) (shows i (pulse_by formula m at).signs))

@@ -1,4 +1,4 @@
--- What the functions that change a count ask of it: that a sign fits on a count of 32 bits. Every count of a movement has RoomFor for the
+-- What the functions that change a count ask of it: that a sign fits on a count of 32 bits. Every count of a movement has room for the
 -- sign of its next pulse, sound or not (the law `room_of`), so that no exported function asks it.
 use mathlib.Core.Path.{◌≡◌, refl}
 use mathlib.Core.Bool.{Bool, true, false}
@@ -14,7 +14,7 @@ use Rattle.motion.specs.declared.Sign.TheVariants.{Minus, Rest, Plus}
 use Rattle.motion.specs.work.Here.{sign_here}
 use Rattle.motion.specs.work.Room.{RoomFor}
 
--- an axis that moves has not reached its end: its count has RoomFor for the step
+-- an axis that moves has not reached its end: its count has room for the step
 module _ (at from to k n : ℕ) (l : k < n) (f : far from to ≤ n) (a : at ≤ 4294967295) (b : from ≤ 4294967295) (e : to ≤ 4294967295) where
   near : 2 * n * (far from at + 1) ≤ 2 * (k + 1) * far from to + n → far from at < far from to
   near h = by_cases (ltb (far from at) (far from to)) refl

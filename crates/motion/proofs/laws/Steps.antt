@@ -1,4 +1,4 @@
--- One pulse on the counters: where each has a step left, there is RoomFor for the sign, and the counters after it are of 24 bits. Assumes nothing.
+-- One pulse on the counters: where each has a step left, there is room for the sign, and the counters after it are of 24 bits. Assumes nothing.
 use mathlib.Core.Path.{◌≡◌, refl, sym}
 use mathlib.Core.Bool.{Bool, true, false, ◌&&◌}
 use Prim.Native.Nat.{ℕ, ◌+◌, ◌<◌}

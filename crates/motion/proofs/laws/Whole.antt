@@ -46,7 +46,7 @@ at-resting-point m at u e =
     let p = passed m at u in
     same_point (λ i. axis-last (on i at) m.made (on i (from_of m)) (on i (to_of m)) (leg m) (p.stands i) e (leg-on m p.ranges i))
 
--- ---- no guard is met: the pulses of each phase are its greatest distance, and each count has RoomFor for its sign
+-- ---- no guard is met: the pulses of each phase are its greatest distance, and each count has room for its sign
 
 pub no-guard : (m : Move) (at : Counters) → under_way m at ≡ true
     → (pulses m.start m.first ≡ most m.start m.first) × (pulses m.first m.second ≡ most m.first m.second)

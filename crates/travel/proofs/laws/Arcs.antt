@@ -96,7 +96,7 @@ moves-by a at u (beat.Made b) e p =
     })
 moves-by a at u beat.Over e p = never p
 
--- A PULSE OF AN ARC that 103 lets pass; what its sign does to the axis's position is the law `Sum-one`
+-- A PULSE OF AN ARC that 103 lets pass; what its sign does to the axis's position is the law `sum_one`
 pub arc-moves : (a : Arc) (at : Counters) {s : Stepped} → under_way (travel.Round a) at ≡ true → pulse_of (travel.Round a) at ≡ Made s → Moves a s
 unfolding under_way pulse_of
 arc-moves a at u p = moves-by a at u (arc_beat a at) refl p

@@ -13,6 +13,10 @@ use Rattle.board.specs.Receive.{gathering, hearing}
 use Rattle.board.specs.work.Ears.{ear_for, heard_as}
 use Rattle.board.proofs.laws.Hears.{ear-so}
 
+-- the first of the control codes
+abbrev pub codes_from : ℕ
+codes_from = 253
+
 module _ (byte : ℕ) (ports : List ℕ) (b : Board) (m : Memory) where
   heard-pick : (t : Bool) (x y : Ear) → heard_as (pick t x y) byte ports b m ≡ pick t (heard_as x byte ports b m) (heard_as y byte ports b m)
   heard-pick true x y = refl

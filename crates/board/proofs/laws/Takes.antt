@@ -23,7 +23,7 @@ use Rattle.board.specs.Calls.{Lent, lent, Outcome, did, answered, receiving}
 use Rattle.board.specs.work.Work.{gathers_by}
 use Rattle.board.specs.work.Ears.{ear_for}
 use Rattle.board.specs.work.Take.{is_plain, plain_front, gathered_all, lined_of, taken_of}
-use Rattle.board.proofs.laws.Ears.{gathered-so}
+use Rattle.board.proofs.laws.Ears.{codes_from, gathered-so}
 use Rattle.board.proofs.laws.Fair.{gathered-sound}
 use Rattle.board.proofs.laws.Laws.{never-refused}
 
@@ -36,9 +36,6 @@ pub lined-first : (input : List ℕ) (l : Line) → lined_of input l ≡ lined_f
 lined-first input l = rw zero-add
 
 -- the code's test: it stops at a carriage return and from the first control code on
-abbrev codes_from : ℕ
-codes_from = 253
-
 abbrev stops : ℕ → Bool
 stops byte = eqb byte 13 || leb codes_from byte
 

@@ -1,8 +1,8 @@
 -- Worked examples of 01, "Prove these", about numbers alone: (7), (8) and (12). Assumes nothing.
+use Rattle.std.specs.Prelude.{None}
 use mathlib.Core.Path.{◌≡◌, refl}
 use mathlib.Core.List.{[], ◌∷◌}
 use lib.IntN.{pos, negsuc}
-use Rattle.count.specs.declared.Placed.TheVariants.{Outside}
 use Rattle.count.specs.Numbers.{within, count, in24, signed, word, placed, added}
 use Rattle.count.specs.Text.{hex_digit, hexes, twos24, report}
 
@@ -17,6 +17,6 @@ unfolding report twos24 hexes hex_digit
 eight = refl
 
 -- (12) 8,388,607 plus 1 lies outside
-pub twelve : added (count (pos 8388607)) (word (pos 1)) ≡ Outside
+pub twelve : added (count (pos 8388607)) (word (pos 1)) ≡ None
 unfolding added placed in24 within signed word
 twelve = refl

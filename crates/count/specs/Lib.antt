@@ -2,6 +2,7 @@ pub mod Chars
 pub mod Sizes
 pub mod Pick
 pub mod Paper
+pub mod Refusals
 pub mod Numbers
 pub mod Axes
 pub mod Ranges

@@ -1,12 +1,10 @@
 -- Numbers of 24 bits as counts, and numbers of lines and records as words of 32 bits.
-use Rattle.std.specs.Prelude.{Bool, true, false, ◌&&◌, ℕ, ◌+◌, ◌-◌, ◌%◌, ltb, ℤ, pos, negsuc, neg_ℤ, ◌+ℤ◌, [], ◌∷◌}
+use Rattle.std.specs.Prelude.{Bool, true, false, ◌&&◌, ℕ, ◌+◌, ◌-◌, ◌%◌, ltb, ℤ, pos, negsuc, neg_ℤ, ◌+ℤ◌, [], ◌∷◌, Option, Some, None}
 use Rattle.std.proofs.Math.IntN.{sub_ℕ}
 use Rattle.std.specs.Int.Signed.{le_z}
 use Rattle.count.specs.Chars.{ch}
 use Rattle.count.specs.Pick.{pick}
 use Rattle.count.specs.Paper.{Paper, says}
-use Rattle.count.specs.declared.Placed.{Placed}
-use Rattle.count.specs.declared.Placed.TheVariants.{At, Outside}
 
 -- z is from lo to hi, both included
 unfoldable pub within : ℤ → ℤ → ℤ → Bool
@@ -57,11 +55,11 @@ with_sign false n = pos n
 
 -- ---- a number as a place of an axis: its count, or that it lies outside 24 bits (01, "Lines", reply 9)
 
-unfoldable pub placed : ℤ → Placed
-placed z = pick (in24 z) (At (count z)) Outside
+unfoldable pub placed : ℤ → Option ℕ
+placed z = pick (in24 z) (Some (count z)) None
 
 -- a count and a word's distance
-unfoldable pub added : ℕ → ℕ → Placed
+unfoldable pub added : ℕ → ℕ → Option ℕ
 added c w = placed (value c +ℤ signed w)
 
 -- how far two counts are apart
@@ -69,6 +67,6 @@ abbrev pub far : ℕ → ℕ → ℕ
 far from to = (to - from) + (from - to)
 
 -- reply 9, or 0 with the place
-abbrev pub paper : Placed → Paper
-paper (At c) = says (ch "0") (value c ∷ [])
-paper Outside = says (ch "9") []
+abbrev pub paper : Option ℕ → Paper
+paper (Some c) = says (ch "0") (value c ∷ [])
+paper None = says (ch "9") []

@@ -9,6 +9,7 @@ mod arcs;
 mod axes;
 mod movement;
 mod ranges;
+mod refusals;
 mod text;
 
 pub use arcs::right_arc;
@@ -33,11 +34,34 @@ pub enum Axis {
     A,
 }
 
-// Where a number puts an axis: at a count, or outside 24 bits.
-#[derive(Clone, Copy)]
-pub enum Placed {
-    At(u32),
+// What refuses a line or a record: its shape (5); something stands stopped (W); no axes are set (4); how many numbers it has (7); axes that are
+// not set (3); a number out of its range (1); a speed that is none (D); a place outside 24 bits (9); no room (6); no program (8); a program that is
+// not accepted (G).
+#[derive(Clone, Copy, PartialEq, Eq)]
+pub enum Fault {
+    Shape,
+    Stands,
+    NoAxes,
+    Count,
+    Axes,
+    Range,
+    Speed,
     Outside,
+    Full,
+    Empty,
+    Refused,
+}
+
+// What refuses a call: the length of the reply's buffer (101), of the store (102), the state (103), the length of the table (104) or of the
+// text's buffer (106), or what is wrong with a program.
+#[derive(Clone, Copy, PartialEq, Eq)]
+pub enum Refusal {
+    Reply,
+    Store,
+    State,
+    Table,
+    Text,
+    Program(Fault),
 }
 
 // Whether a count is of 24 bits.
@@ -48,25 +72,25 @@ pub fn in_range(c: u32) -> bool
 }
 
 // A count and the distance of a word.
-pub fn add(c: u32, w: u32) -> Placed
+pub fn add(c: u32, w: u32) -> Option<u32>
     ensures { result ≡ added c w }
 {
     if w < 2147483648 {
         let s = (c as u64) + (w as u64);
         if s < 16777216 {
-            return Placed::At(s as u32);
+            return Some(s as u32);
         }
-        return Placed::Outside;
+        return None;
     }
     let m = 4294967295 - w;
     if c <= m {
-        return Placed::Outside;
+        return None;
     }
     let s = c - m - 1;
     if s < FULL {
-        return Placed::At(s);
+        return Some(s);
     }
-    Placed::Outside
+    None
 }
 
 // How far two counts are apart.
@@ -90,16 +114,16 @@ pub fn word_of(minus: bool, size: u32) -> u32
 }
 
 // The count of a word's number.
-pub fn count_of(w: u32) -> Placed
+pub fn count_of(w: u32) -> Option<u32>
     ensures { result ≡ placed (signed w) }
 {
     if w < HALF {
-        return Placed::At(w + HALF);
+        return Some(w + HALF);
     }
     if 4286578688 <= w {
-        return Placed::At(w - 4286578688);
+        return Some(w - 4286578688);
     }
-    Placed::Outside
+    None
 }
 
 // The word of a count's number.

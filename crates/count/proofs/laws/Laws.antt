@@ -1,4 +1,5 @@
 -- The laws of counts and words that every crate cites. Assumes nothing.
+use Rattle.std.specs.Prelude.{Some, None}
 use mathlib.Core.Path.{◌≡◌, refl, sym, ap, ◌∙◌}
 use mathlib.Core.Bool.{Bool, true, false, ◌&&◌, ◌||◌}
 use Prim.Native.Nat.{ℕ, zero, suc, ◌+◌, ◌-◌, ◌≤◌, ◌<◌}
@@ -9,7 +10,6 @@ use lib.IntN.{ℤ, pos, negsuc, sub_ℕ, ◌+ℤ◌}
 use lib.Signed.{mag, le_z}
 use borrow.Author.Tests.{lt-ltb, le-ltb, le-leb, lt-leb, ltb-true, ltb-false, leb-true, leb-false}
 use Rattle.count.specs.Pick.{pick}
-use Rattle.count.specs.declared.Placed.TheVariants.{At, Outside}
 use Rattle.count.specs.Numbers.{within, half, full, value, count, in24, signed, word, with_sign, placed, added}
 use Rattle.count.proofs.laws.Truth.{and-true, and-false}
 
@@ -160,25 +160,25 @@ value-count (pos n) h = sub-pos (n + half) half (omega arith) ∙ ap pos (omega 
 value-count (negsuc n) h = sub-neg (8388607 - n) half (omega arith) ∙ ap negsuc (omega arith)
 
 -- the place of a count's number
-pub placed-value : (c : ℕ) → placed (value c) ≡ pick (ltb c full) (At c) Outside
+pub placed-value : (c : ℕ) → placed (value c) ≡ pick (ltb c full) (Some c) None
 unfolding placed
 placed-value c = rw (in24-value c, count-value c)
 
 -- ---- a count and a word's distance, by counts alone
 
 module _ (c w : ℕ) where
-  pub added-low : w < 2147483648 → added c w ≡ pick (ltb (c + w) full) (At (c + w)) Outside
+  pub added-low : w < 2147483648 → added c w ≡ pick (ltb (c + w) full) (Some (c + w)) None
   unfolding added
   added-low h = rw (signed_low w h, sub-plus c half w) (placed-value (c + w))
 
   pub added-high : 2147483648 ≤ w → 4294967295 - w < c
-      → added c w ≡ pick (ltb (c - (4294967295 - w) - 1) full) (At (c - (4294967295 - w) - 1)) Outside
+      → added c w ≡ pick (ltb (c - (4294967295 - w) - 1) full) (Some (c - (4294967295 - w) - 1)) None
   unfolding added
   added-high h l =
       let n = 4294967295 - w in
       rw (signed_high w h, sub-minus c half n, sub-eq c (half + suc n) (c - n - 1) half (omega arith)) (placed-value (c - n - 1))
 
-  pub added-below : 2147483648 ≤ w → c ≤ 4294967295 - w → added c w ≡ Outside
+  pub added-below : 2147483648 ≤ w → c ≤ 4294967295 - w → added c w ≡ None
   unfolding added placed in24 within
   added-below h l =
       let n = 4294967295 - w in
@@ -187,19 +187,19 @@ module _ (c w : ℕ) where
 -- ---- a word's number as a count, and back
 
 module _ (w : ℕ) where
-  pub placed-low : w < half → placed (signed w) ≡ At (w + half)
+  pub placed-low : w < half → placed (signed w) ≡ Some (w + half)
   unfolding placed in24 within
   placed-low h = rw (signed_low w (omega arith), le-leb w 8388607 (omega arith))
 
-  pub placed-high : 4286578688 ≤ w → w ≤ 4294967295 → placed (signed w) ≡ At (w - 4286578688)
+  pub placed-high : 4286578688 ≤ w → w ≤ 4294967295 → placed (signed w) ≡ Some (w - 4286578688)
   unfolding placed in24 within
-  placed-high h f = rw (signed_high w (omega arith), le-leb (4294967295 - w) 8388607 (omega arith)) (ap At (omega arith))
+  placed-high h f = rw (signed_high w (omega arith), le-leb (4294967295 - w) 8388607 (omega arith)) (ap Some (omega arith))
 
-  pub placed-outside : half ≤ w → w < 4286578688 → placed (signed w) ≡ Outside
+  pub placed-outside : half ≤ w → w < 4286578688 → placed (signed w) ≡ None
   unfolding placed in24 within
   placed-outside h l = by (ltb w 2147483648) refl
     where
-      by : (t : Bool) → ltb w 2147483648 ≡ t → placed (signed w) ≡ Outside
+      by : (t : Bool) → ltb w 2147483648 ≡ t → placed (signed w) ≡ None
       by true p = rw (signed_low w (ltb-true w 2147483648 p), lt-leb w 8388607 (omega arith))
       by false p = rw (signed_high w (ltb-false w 2147483648 p), lt-leb (4294967295 - w) 8388607 (omega arith))
 

@@ -1,0 +1,42 @@
+// What refuses a line, a record or a call, by the paper's character or number.
+ghost use Rattle.std.specs.Prelude.{◌≡◌};
+ghost use Rattle.count.specs.Refusals.{letter_of, number_of};
+
+use super::{Fault, Refusal};
+
+impl Fault {
+    // The reply's character.
+    pub fn letter(self) -> u8
+        ensures { result ≡ letter_of self }
+    {
+        match self {
+            Fault::Shape => b'5',
+            Fault::Stands => b'W',
+            Fault::NoAxes => b'4',
+            Fault::Count => b'7',
+            Fault::Axes => b'3',
+            Fault::Range => b'1',
+            Fault::Speed => b'D',
+            Fault::Outside => b'9',
+            Fault::Full => b'6',
+            Fault::Empty => b'8',
+            Fault::Refused => b'G',
+        }
+    }
+}
+
+impl Refusal {
+    // The refusal's number, or the character of what is wrong with a program.
+    pub fn number(self) -> u16
+        ensures { result ≡ number_of self }
+    {
+        match self {
+            Refusal::Reply => 101,
+            Refusal::Store => 102,
+            Refusal::State => 103,
+            Refusal::Table => 104,
+            Refusal::Text => 106,
+            Refusal::Program(fault) => u16::from(fault.letter()),
+        }
+    }
+}

@@ -9,7 +9,7 @@ ghost use Rattle.motion.specs.Next.{from_of, to_of, leg, speed_at, at_phase, ski
 ghost use Rattle.motion.specs.work.Room.{RoomFor, HasRoom, NoFurther};
 
 use super::phase::{chosen, pulses_of, sign_here};
-use super::{Beat, Beaten, Counters, Mark, Move, Next, Sign, Signs, Stepped};
+use super::{Beat, Counters, Mark, Move, Sign, Signs, Stepped};
 
 // A count with one pulse's sign.
 fn moved_by(c: u32, s: Sign) -> u32
@@ -231,7 +231,7 @@ impl Move {
     }
 
     // The pulse after a mark, or that none is left of its phase.
-    fn beat_at(self, mark: Mark, at: Counters) -> Beaten
+    fn beat_at(self, mark: Mark, at: Counters) -> Option<Beat>
         ensures { result ≡ beaten (within_of (at_mark self mark) at) }
     {
         let from = self.from_at(mark);
@@ -239,13 +239,13 @@ impl Move {
         let n = pulses_of(from, to);
         if mark.made < n {
             let signs = signs_at(at, from, to, mark.made, n);
-            return Beaten::Made(self.beat_by(mark, at, signs));
+            return Some(self.beat_by(mark, at, signs));
         }
-        Beaten::Over
+        None
     }
 
     // The next pulse, or that none is left.
-    pub fn beat(self, at: Counters) -> Beaten
+    pub fn beat(self, at: Counters) -> Option<Beat>
         ensures { result ≡ beaten (next_of self at) }
     {
         self.beat_at(self.settle(), at)
@@ -286,7 +286,7 @@ impl Move {
 
     // The pulse after `made` of the phase under way, or that none is left of it. It is `beat_at` once more, since a function with one caller
     // becomes a part of it: in a loop over a phase, what is the same for each pulse is then worked out once.
-    pub fn beat_in(self, made: u32, at: Counters) -> Beaten
+    pub fn beat_in(self, made: u32, at: Counters) -> Option<Beat>
         ensures { result ≡ beaten (within_of (at_phase self self.phase made) at) }
     {
         let mark = Mark {
@@ -298,34 +298,34 @@ impl Move {
         let n = pulses_of(from, to);
         if made < n {
             let signs = signs_at(at, from, to, made, n);
-            return Beaten::Made(self.beat_by(mark, at, signs));
+            return Some(self.beat_by(mark, at, signs));
         }
-        Beaten::Over
+        None
     }
 
     // A pulse with the movement after it.
-    fn as_next(self, beat: Beaten) -> Next
+    fn as_next(self, beat: Option<Beat>) -> Option<Stepped>
         ensures { result ≡ next_back self beat }
     {
         match beat {
-            Beaten::Made(b) => {
+            Some(b) => {
                 let signs = b.signs;
                 let at = b.at;
                 let mark = b.mark;
                 let rest = self.at_mark(mark);
-                Next::Made(Stepped {
+                Some(Stepped {
                     signs,
                     speed: b.speed,
                     at,
                     rest,
                 })
             }
-            Beaten::Over => Next::Over,
+            None => None,
         }
     }
 
     // The same as `beat_in`, with the movement after it.
-    pub fn within(self, made: u32, at: Counters) -> Next
+    pub fn within(self, made: u32, at: Counters) -> Option<Stepped>
         ensures { result ≡ within_of (at_phase self self.phase made) at }
     {
         let mark = Mark {
@@ -336,7 +336,7 @@ impl Move {
     }
 
     // The same as `beat`.
-    pub fn next(self, at: Counters) -> Next
+    pub fn next(self, at: Counters) -> Option<Stepped>
         ensures { result ≡ next_of self at }
     {
         self.as_next(self.beat(at))

@@ -11,7 +11,7 @@ ghost use Rattle.motion.specs.work.Beat.{looked_by, look_of};
 
 use super::phase::pulses_of;
 use super::pulse::signs_at;
-use super::{Beaten, Counters, Look, Move};
+use super::{Counters, Look, Move};
 
 // A speed: 30 to 10,000.
 fn speed_right(v: u16) -> bool
@@ -103,8 +103,8 @@ impl Move {
     {
         let next = self.beat(at);
         match next {
-            Beaten::Made(b) => Look::Made(b),
-            Beaten::Over => Look::Over,
+            Some(b) => Look::Made(b),
+            None => Look::Over,
         }
     }
 

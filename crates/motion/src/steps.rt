@@ -3,7 +3,7 @@ ghost use Rattle.std.specs.Prelude.{◌≡◌};
 ghost use Rattle.motion.specs.Pulse.{has_step, step_to};
 
 use super::pulse::with_pulse;
-use super::{Counters, Moved, Sign, Signs};
+use super::{Counters, Sign, Signs};
 
 // Whether a count has a step left in the direction of a sign.
 fn has_step(c: u32, s: Sign) -> bool
@@ -17,7 +17,7 @@ fn has_step(c: u32, s: Sign) -> bool
 }
 
 // The counters with one pulse's signs, or that one of them would leave 24 bits.
-pub fn step_to(c: Counters, s: Signs) -> Moved
+pub fn step_to(c: Counters, s: Signs) -> Option<Counters>
     ensures { result ≡ step_to c s }
 {
     let sx = s.x;
@@ -29,7 +29,7 @@ pub fn step_to(c: Counters, s: Signs) -> Moved
     let z = has_step(c.z, sz);
     let a = has_step(c.a, sa);
     if x & y & z & a {
-        return Moved::To(with_pulse(c, s));
+        return Some(with_pulse(c, s));
     }
-    Moved::Outside
+    None
 }

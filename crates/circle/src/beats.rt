@@ -7,7 +7,7 @@ ghost use Rattle.circle.specs.Arc.{zero, arc_signs, counted_pair, arc_beat, with
 
 use super::rule::{measured, move_by, on_axes, on_plane, ways_of};
 use super::{Arc, Pair};
-use motion::{Beat, Beaten, Counters, Mark, Moved, Signs};
+use motion::{Beat, Counters, Mark, Signs};
 
 fn is_counted_pair(p: Pair) -> bool
     ensures { result ≡ counted_pair p }
@@ -49,25 +49,22 @@ impl Arc {
     }
 
     // The pulse after so many, or that none is left.
-    pub fn beat_in(self, made: u32, at: Counters) -> Beaten
+    pub fn beat_in(self, made: u32, at: Counters) -> Option<Beat>
         ensures { result ≡ arc_beat (with_made self made) at }
     {
         if self.length <= made {
-            return Beaten::Over;
+            return None;
         }
         if !(motion::counted_at(at) & is_counted_pair(self.centre) & is_counted_pair(self.start)) {
-            return Beaten::Over;
+            return None;
         }
         let signs = self.signs(at);
-        let step = motion::step_to(at, signs);
-        let Moved::To(there) = step else {
-            return Beaten::Over;
-        };
+        let there = motion::step_to(at, signs)?;
         let mark = Mark {
             phase: 0,
             made: made + 1,
         };
-        Beaten::Made(Beat {
+        Some(Beat {
             signs,
             speed: self.speed,
             at: there,
@@ -76,7 +73,7 @@ impl Arc {
     }
 
     // The next pulse, or that none is left.
-    pub fn beat(self, at: Counters) -> Beaten
+    pub fn beat(self, at: Counters) -> Option<Beat>
         ensures { result ≡ arc_beat self at }
     {
         self.beat_in(self.made, at)

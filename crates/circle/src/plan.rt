@@ -8,8 +8,8 @@ ghost use Rattle.circle.specs.Plan.{plane_of, direction_of, plane_set, start_of,
 use super::beats::at_centre;
 use super::rule::{on_plane, shifted_by, ways_of};
 use super::sound::has_room;
-use super::{Arc, Bent, Circling, Direction, Pair, Plane, Ways};
-use count::Axis;
+use super::{Arc, Circling, Direction, Pair, Plane, Ways};
+use count::{Axis, Fault};
 use motion::{Counters, Sign};
 
 // The plane of a number.
@@ -148,39 +148,39 @@ fn arc_of(circling: Circling, centre: Pair, start: Pair, words: [u32; 8]) -> Arc
 }
 
 // 9: the arc, if the square around its centre lies within 24 bits.
-fn bend_by(circling: Circling, at: Counters, start: Pair, words: [u32; 8]) -> Bent
+fn bend_by(circling: Circling, at: Counters, start: Pair, words: [u32; 8]) -> Result<Arc, Fault>
     requires { (start.first < 16777216) × (start.second < 16777216) × (get_or words 1 0 ≤ 10000) }
     ensures { result ≡ going_by circling at start words }
 {
     if !motion::counted_at(at) {
-        return Bent::Refused(b'9');
+        return Err(Fault::Outside);
     }
     let plane = circling.plane;
     let centre = centre_of(on_plane(plane, at), start);
     if has_room(centre, start) {
-        return Bent::Going(arc_of(circling, centre, start, words));
+        return Ok(arc_of(circling, centre, start, words));
     }
-    Bent::Refused(b'9')
+    Err(Fault::Outside)
 }
 
 // The plan of a circle, or what refuses it: 3, 1, D, 9 in this order.
-pub fn bend(axes: u8, circling: Circling, at: Counters, words: [u32; 8]) -> Bent
+pub fn bend(axes: u8, circling: Circling, at: Counters, words: [u32; 8]) -> Result<Arc, Fault>
     ensures { result ≡ bend_of axes circling at words }
 {
     let plane = circling.plane;
     let direction = circling.direction;
     if !plane_set(axes, plane) {
-        return Bent::Refused(b'3');
+        return Err(Fault::Axes);
     }
     if !count::right_arc(words) {
-        return Bent::Refused(b'1');
+        return Err(Fault::Range);
     }
     let start = start_of(words);
     if !ways_fit(first_ways(direction, start), words) {
-        return Bent::Refused(b'1');
+        return Err(Fault::Range);
     }
     if !count::is_speed(words[1]) {
-        return Bent::Refused(b'D');
+        return Err(Fault::Speed);
     }
     bend_by(circling, at, start, words)
 }

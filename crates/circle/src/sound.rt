@@ -8,7 +8,7 @@ ghost use Rattle.circle.specs.Sound.{start_sound, point_sound, arc_under_way, ar
 use super::beats::start_value;
 use super::rule::on_plane;
 use super::{Arc, Pair};
-use motion::{Beaten, Counters, Look};
+use motion::{Counters, Look};
 
 // A speed: 30 to 10,000.
 fn speed_right(v: u16) -> bool
@@ -101,8 +101,8 @@ impl Arc {
         }
         let next = self.beat(at);
         match next {
-            Beaten::Made(b) => Look::Made(b),
-            Beaten::Over => Look::Over,
+            Some(b) => Look::Made(b),
+            None => Look::Over,
         }
     }
 }

@@ -10,10 +10,11 @@ ghost use Rattle.engine.specs.work.Work.{Fits};
 ghost use Rattle.engine.specs.work.Acts.{pulsed};
 
 use super::{Answer, Engine, Job, Run, Told};
-use motion::{Beat, Beaten};
+use count::Fault;
+use motion::Beat;
 use program::{Going, Loops};
 use record::Record;
-use travel::{Planned, Travel};
+use travel::Travel;
 
 // The pauses after one.
 pub(crate) fn after_pause(q: u16) -> Job
@@ -79,23 +80,23 @@ impl Engine {
         let at = self.at;
         let next = m.beat(at);
         match next {
-            Beaten::Made(b) => {
+            Some(b) => {
                 let mark = b.mark;
                 let run = self.run;
                 self.pulse(run.at_place(Job::Moving(m.at_mark(mark)), run.place + 1), b)
             }
-            Beaten::Over => self.on_to(Job::Ready).tell(Answer::Done),
+            None => self.on_to(Job::Ready).tell(Answer::Done),
         }
     }
 
     // What moves as it is planned; what refuses it ends the program without a pulse of it.
-    fn travel_by(self, plan: Planned) -> Told
+    fn travel_by(self, plan: Result<Travel, Fault>) -> Told
         requires { self.run.place < 65535 }
         ensures { result ≡ moving_by next_of plan self }
     {
         match plan {
-            Planned::Going(m) => self.first_pulse(m),
-            Planned::Refused(b) => self.finish(b),
+            Ok(m) => self.first_pulse(m),
+            Err(fault) => self.finish(fault.letter()),
         }
     }
 

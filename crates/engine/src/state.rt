@@ -7,11 +7,11 @@ ghost use Rattle.engine.specs.State.{with_at, with_origin, with_three, with_outp
 
 use super::circles::circling_first;
 use super::{Begun, Engine, Job, Run};
-use count::Axis;
+use count::{Axis, Fault};
 use motion::Counters;
 use program::{Loop, Loops};
 use record::Held;
-use travel::{Planned, Travel};
+use travel::Travel;
 
 // The counters of all axes at 0.
 fn at_zero() -> Counters
@@ -292,11 +292,11 @@ impl Engine {
     }
 
     // A direct movement or circle as it is planned.
-    fn begin_by(self, plan: Planned) -> Begun
+    fn begin_by(self, plan: Result<Travel, Fault>) -> Begun
         ensures { result ≡ begun_by plan self }
     {
         match plan {
-            Planned::Going(m) => {
+            Ok(m) => {
                 if m.left() == 0 {
                     return Begun {
                         engine: self,
@@ -308,9 +308,9 @@ impl Engine {
                     reply: 0,
                 }
             }
-            Planned::Refused(b) => Begun {
+            Err(b) => Begun {
                 engine: self,
-                reply: b,
+                reply: b.letter(),
             },
         }
     }

@@ -8,21 +8,22 @@ ghost use Rattle.engine.specs.Tick.{fetched, ticked, runs_of};
 ghost use Rattle.engine.specs.work.Acts.{under_of, rest_of, act_by, look_by, seen_of, marked_job, pulsed, acted_by};
 
 use super::records::after_pause;
-use super::{Act, Answer, Engine, Job, Told, Under};
-use motion::{Beat, Beaten, Counters, Look, Mark};
+use super::{Act, Answer, Engine, Job, Told};
+use motion::{Beat, Counters, Look, Mark};
 use record::Found;
+use travel::Travel;
 
-fn is_under_way(job: Job) -> Under
+fn is_under_way(job: Job) -> Option<Travel>
     ensures { result ≡ under_of job }
 {
     match job {
-        Job::Idle => Under::Nothing,
-        Job::Storing => Under::Nothing,
-        Job::Direct(m) => Under::Going(m),
-        Job::Ready => Under::Nothing,
-        Job::Moving(m) => Under::Going(m),
-        Job::Delay(_) => Under::Nothing,
-        Job::Wait(_, _) => Under::Nothing,
+        Job::Idle => None,
+        Job::Storing => None,
+        Job::Direct(m) => Some(m),
+        Job::Ready => None,
+        Job::Moving(m) => Some(m),
+        Job::Delay(_) => None,
+        Job::Wait(_, _) => None,
     }
 }
 
@@ -46,13 +47,13 @@ fn act_of(job: Job, at: Counters) -> Act
     ensures { result ≡ act_by next_of job at }
 {
     let under = is_under_way(job);
-    let Under::Going(m) = under else {
+    let Some(m) = under else {
         return rest_of(job);
     };
     let next = m.beat(at);
     match next {
-        Beaten::Made(b) => Act::Pulse(b),
-        Beaten::Over => rest_of(job),
+        Some(b) => Act::Pulse(b),
+        None => rest_of(job),
     }
 }
 
@@ -61,7 +62,7 @@ fn look_at(job: Job, at: Counters) -> Act
     ensures { result ≡ look_by job at }
 {
     let under = is_under_way(job);
-    let Under::Going(m) = under else {
+    let Some(m) = under else {
         return rest_of(job);
     };
     let look = m.look(at);
@@ -91,7 +92,7 @@ impl Job {
 
 impl Engine {
     // What moves, if something does.
-    pub fn under_way(self) -> Under
+    pub fn under_way(self) -> Option<Travel>
         ensures { result ≡ under_of self.run.job }
     {
         let run = self.run;

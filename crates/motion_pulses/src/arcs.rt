@@ -67,6 +67,6 @@ pub(crate) fn show_arc(rt: &impl Print, words: [u32; 20]) -> io::Result<()> {
     let bent = circle::bend(narrow(words[0]), Circling { plane, direction }, at, given);
     match bent {
         Ok(a) => show_going(rt, a, at, words[19]),
-        Err(b) => show_refused(rt, b),
+        Err(fault) => show_refused(rt, fault.letter()),
     }
 }

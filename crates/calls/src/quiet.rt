@@ -5,6 +5,7 @@ use crate::{Play, called};
 use board::Board;
 use engine::Answer;
 use std::io;
+use travel::Travel;
 
 fn is_nothing(answer: Answer) -> bool {
     match answer {

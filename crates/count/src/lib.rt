@@ -64,6 +64,13 @@ pub enum Refusal {
     Program(Fault),
 }
 
+// One of two by a test.
+pub fn chosen<T: Copy>(b: bool, x: T, y: T) -> T
+    ensures { result ≡ pick b x y }
+{
+    if b { x } else { y }
+}
+
 // Whether a count is of 24 bits.
 pub fn in_range(c: u32) -> bool
     ensures { result ≡ ltb c full }

@@ -84,6 +84,11 @@ unfolding hexes last_digits
 hexes-last zero n = refl
 hexes-last (suc k) n = rw (hexes-last k (n / 16))
 
+-- a byte's two digits
+pub hexes-two : (n : ℕ) → hexes 2 n ≡ hex_digit (n / 16 % 16) ∷ hex_digit (n % 16) ∷ []
+unfolding hexes
+hexes-two n = refl
+
 pub decimals-last : (k n : ℕ) → decimals k n ≡ last_digits 10 k n
 unfolding decimals last_digits hex_digit
 decimals-last zero n = refl

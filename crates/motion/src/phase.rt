@@ -1,25 +1,11 @@
 // One phase: its pulses, and what the next of them does to an axis.
-ghost use Rattle.std.specs.Prelude.{◌≡◌, ◌≤◌, ◌<◌, max};
-ghost use Rattle.count.specs.Pick.{pick};
+ghost use Rattle.std.specs.Prelude.{◌≡◌, ◌≤◌, ◌<◌};
 ghost use Rattle.count.specs.Numbers.{far};
 ghost use Rattle.motion.specs.work.Here.{sign_here};
 ghost use Rattle.motion.specs.Phase.{pulses};
 ghost use Rattle.motion.specs.work.Room.{RoomFor};
 
 use super::{Counters, Sign};
-
-// One of two numbers by a test.
-pub(crate) fn chosen(b: bool, x: u32, y: u32) -> u32
-    ensures { result ≡ pick b x y }
-{
-    if b { x } else { y }
-}
-
-fn larger(a: u32, b: u32) -> u32
-    ensures { result ≡ max a b }
-{
-    if a < b { b } else { a }
-}
 
 // The pulses of a phase; none if a distance is beyond 24 bits.
 pub(crate) fn pulses_of(from: Counters, to: Counters) -> u32
@@ -29,7 +15,7 @@ pub(crate) fn pulses_of(from: Counters, to: Counters) -> u32
     let y = count::distance(from.y, to.y);
     let z = count::distance(from.z, to.z);
     let a = count::distance(from.a, to.a);
-    let n = larger(x, larger(y, larger(z, a)));
+    let n = x.max(y).max(z).max(a);
     if 16777215 < n {
         return 0;
     }
@@ -42,10 +28,10 @@ pub(crate) fn sign_here(at: u32, from: u32, to: u32, k: u32, n: u32) -> Sign
     requires { (k < n) × (n < 16777216) × (far from to ≤ n) }
     ensures { (result ≡ sign_here at from to k n) × RoomFor at result }
 {
-    let d = count::distance(from, to) as u64;
-    let s = count::distance(from, at) as u64;
-    let wide_n = n as u64;
-    let wide_k = k as u64;
+    let d = u64::from(count::distance(from, to));
+    let s = u64::from(count::distance(from, at));
+    let wide_n = u64::from(n);
+    let wide_k = u64::from(k);
     if 2 * wide_k * d + wide_n + 2 * d < 2 * wide_n * s + 2 * wide_n {
         return Sign::Rest;
     }

@@ -5,9 +5,8 @@ ghost use Rattle.count.specs.Axes.{has};
 ghost use Rattle.count.specs.Ranges.{right_distances, right_speeds};
 ghost use Rattle.motion.specs.Plan.{asked, goal, on_from, first_speed, later_speed, route, going_to, plan_of};
 
-use super::phase::chosen;
 use super::{Counters, Move};
-use count::Axis;
+use count::{Axis, chosen};
 
 // Whether the numbers are a movement's under these axes.
 fn right(axes: u8, absolute: bool, words: [u32; 8]) -> bool
@@ -30,7 +29,7 @@ fn goal_of(absolute: bool, at: u32, origin: u32, w: u32) -> Option<u32>
 fn goal_on(axis: Axis, axes: u8, absolute: bool, at: u32, origin: u32, w: u32) -> Option<u32>
     ensures { result ≡ pick (has axes axis) (goal absolute at origin w) (Some at) }
 {
-    if count::has(axes as u32, axis) {
+    if count::has(u32::from(axes), axis) {
         return goal_of(absolute, at, origin, w);
     }
     Some(at)
@@ -68,22 +67,21 @@ fn route_of(axes: u8, three: bool, at: Counters, words: [u32; 8], goals: Counter
         × (later_speed (asked axes three at at true words) 5 ≤ 10000) × (later_speed (asked axes three at at true words) 7 ≤ 10000) }
     ensures { result ≡ route (asked axes three at at true words) goals z2 }
 {
-    let own = count::has(axes as u32, Axis::Z) & !three;
+    let own = count::has(u32::from(axes), Axis::Z) & !three;
     let first = Counters {
         x: goals.x,
         y: goals.y,
         z: chosen(three, goals.z, at.z),
         a: chosen(three, goals.a, at.a),
     };
-    let mut second = first;
-    second.z = goals.z;
-    let mut third = goals;
-    third.z = z2;
     Move {
         start: at,
         first,
-        second,
-        third,
+        second: Counters {
+            z: goals.z,
+            ..first
+        },
+        third: Counters { z: z2, ..goals },
         speed1: narrow(first_speed(three, at, goals, words)),
         speed2: narrow(chosen(own, words[5], words[1])),
         speed3: narrow(chosen(own, words[7], words[1])),
@@ -107,7 +105,7 @@ fn routed_from(
     let x = goal_on(Axis::X, axes, absolute, at.x, origin.x, words[0])?;
     let y = goal_on(Axis::Y, axes, absolute, at.y, origin.y, words[2])?;
     let z = goal_on(Axis::Z, axes, absolute, at.z, origin.z, words[4])?;
-    let w = chosen(count::has(axes as u32, Axis::X), words[6], words[0]);
+    let w = chosen(count::has(u32::from(axes), Axis::X), words[6], words[0]);
     let a = goal_on(Axis::A, axes, absolute, at.a, origin.a, w)?;
     let z2 = goal_z2((axes == 7) & !three & !absolute, z, words[6])?;
     let goals = Counters { x, y, z, a };

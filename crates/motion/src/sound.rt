@@ -32,13 +32,10 @@ fn has_made(s: u32, k: u32, d: u32, n: u32) -> bool
     requires { (0 < n) × (n < 16777216) × (k ≤ n) × (d ≤ n) }
     ensures { result ≡ eqb s (steps k d n) }
 {
-    let wide_s = s as u64;
-    let wide_k = k as u64;
-    let wide_d = d as u64;
-    let wide_n = n as u64;
-    let sum = 2 * wide_k * wide_d + wide_n;
-    let low = 2 * wide_n * wide_s;
-    (low <= sum) & (sum < low + 2 * wide_n)
+    let n = u64::from(n);
+    let sum = 2 * u64::from(k) * u64::from(d) + n;
+    let low = 2 * n * u64::from(s);
+    (low <= sum) & (sum < low + 2 * n)
 }
 
 // Whether an axis stands where pulse k of n puts it.
@@ -101,8 +98,7 @@ impl Move {
     fn look_on(self, at: Counters) -> Look
         ensures { result ≡ looked_by (next_of self at) }
     {
-        let next = self.beat(at);
-        match next {
+        match self.beat(at) {
             Some(b) => Look::Made(b),
             None => Look::Over,
         }

@@ -20,14 +20,10 @@ fn has_step(c: u32, s: Sign) -> bool
 pub fn step_to(c: Counters, s: Signs) -> Option<Counters>
     ensures { result ≡ step_to c s }
 {
-    let sx = s.x;
-    let sy = s.y;
-    let sz = s.z;
-    let sa = s.a;
-    let x = has_step(c.x, sx);
-    let y = has_step(c.y, sy);
-    let z = has_step(c.z, sz);
-    let a = has_step(c.a, sa);
+    let x = has_step(c.x, s.x);
+    let y = has_step(c.y, s.y);
+    let z = has_step(c.z, s.z);
+    let a = has_step(c.a, s.a);
     if x & y & z & a {
         return Some(with_pulse(c, s));
     }

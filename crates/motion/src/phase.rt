@@ -15,7 +15,7 @@ pub(crate) fn pulses_of(from: Counters, to: Counters) -> u32
     let y = count::distance(from.y, to.y);
     let z = count::distance(from.z, to.z);
     let a = count::distance(from.a, to.a);
-    let n = x.max(y).max(z).max(a);
+    let n = x.max(y.max(z.max(a)));
     if 16777215 < n {
         return 0;
     }
@@ -28,10 +28,10 @@ pub(crate) fn sign_here(at: u32, from: u32, to: u32, k: u32, n: u32) -> Sign
     requires { (k < n) × (n < 16777216) × (far from to ≤ n) }
     ensures { (result ≡ sign_here at from to k n) × RoomFor at result }
 {
-    let d = u64::from(count::distance(from, to));
-    let s = u64::from(count::distance(from, at));
-    let wide_n = u64::from(n);
-    let wide_k = u64::from(k);
+    let d = count::distance(from, to) as u64;
+    let s = count::distance(from, at) as u64;
+    let wide_n = n as u64;
+    let wide_k = k as u64;
     if 2 * wide_k * d + wide_n + 2 * d < 2 * wide_n * s + 2 * wide_n {
         return Sign::Rest;
     }

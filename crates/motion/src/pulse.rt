@@ -184,7 +184,10 @@ impl Move {
     fn skip(self, mark: Mark) -> Mark
         ensures { result ≡ mark_of (skipped (at_mark self mark)) }
     {
-        if 3 <= mark.phase || mark.made < self.leg_at(mark) {
+        if 3 <= mark.phase {
+            return mark;
+        }
+        if mark.made < self.leg_at(mark) {
             return mark;
         }
         Mark {
@@ -198,7 +201,7 @@ impl Move {
         ensures { result ≡ mark_of (settled self) }
     {
         let mark = self.mark();
-        if mark.made < self.leg_at(mark) {
+        if self.made < self.leg_at(mark) {
             return mark;
         }
         self.skip(self.skip(self.skip(mark)))

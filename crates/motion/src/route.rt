@@ -29,7 +29,7 @@ fn goal_of(absolute: bool, at: u32, origin: u32, w: u32) -> Option<u32>
 fn goal_on(axis: Axis, axes: u8, absolute: bool, at: u32, origin: u32, w: u32) -> Option<u32>
     ensures { result ≡ pick (has axes axis) (goal absolute at origin w) (Some at) }
 {
-    if count::has(u32::from(axes), axis) {
+    if count::has(axes as u32, axis) {
         return goal_of(absolute, at, origin, w);
     }
     Some(at)
@@ -67,7 +67,7 @@ fn route_of(axes: u8, three: bool, at: Counters, words: [u32; 8], goals: Counter
         × (later_speed (asked axes three at at true words) 5 ≤ 10000) × (later_speed (asked axes three at at true words) 7 ≤ 10000) }
     ensures { result ≡ route (asked axes three at at true words) goals z2 }
 {
-    let own = count::has(u32::from(axes), Axis::Z) & !three;
+    let own = count::has(axes as u32, Axis::Z) & !three;
     let first = Counters {
         x: goals.x,
         y: goals.y,
@@ -105,7 +105,7 @@ fn routed_from(
     let x = goal_on(Axis::X, axes, absolute, at.x, origin.x, words[0])?;
     let y = goal_on(Axis::Y, axes, absolute, at.y, origin.y, words[2])?;
     let z = goal_on(Axis::Z, axes, absolute, at.z, origin.z, words[4])?;
-    let w = chosen(count::has(u32::from(axes), Axis::X), words[6], words[0]);
+    let w = chosen(count::has(axes as u32, Axis::X), words[6], words[0]);
     let a = goal_on(Axis::A, axes, absolute, at.a, origin.a, w)?;
     let z2 = goal_z2((axes == 7) & !three & !absolute, z, words[6])?;
     let goals = Counters { x, y, z, a };

@@ -32,10 +32,10 @@ fn has_made(s: u32, k: u32, d: u32, n: u32) -> bool
     requires { (0 < n) × (n < 16777216) × (k ≤ n) × (d ≤ n) }
     ensures { result ≡ eqb s (steps k d n) }
 {
-    let n = u64::from(n);
-    let sum = 2 * u64::from(k) * u64::from(d) + n;
-    let low = 2 * n * u64::from(s);
-    (low <= sum) & (sum < low + 2 * n)
+    let wide_n = n as u64;
+    let sum = 2 * (k as u64) * (d as u64) + wide_n;
+    let low = 2 * wide_n * (s as u64);
+    (low <= sum) & (sum < low + 2 * wide_n)
 }
 
 // Whether an axis stands where pulse k of n puts it.

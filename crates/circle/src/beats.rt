@@ -40,12 +40,10 @@ impl Arc {
             × (self.start.first < 16777216) × (self.start.second < 16777216) }
         ensures { result ≡ arc_signs self at }
     {
-        let circling = self.circling;
-        let plane = circling.plane;
-        let direction = circling.direction;
-        let p = on_plane(plane, at);
-        let w = ways_of(direction, self.centre, p);
-        on_axes(plane, move_by(start_value(self.start), self.centre, p, w))
+        let p = on_plane(self.circling.plane, at);
+        let w = ways_of(self.circling.direction, self.centre, p);
+        let turn = move_by(start_value(self.start), self.centre, p, w);
+        on_axes(self.circling.plane, turn)
     }
 
     // The pulse after so many, or that none is left.
@@ -60,15 +58,14 @@ impl Arc {
         }
         let signs = self.signs(at);
         let there = motion::step_to(at, signs)?;
-        let mark = Mark {
-            phase: 0,
-            made: made + 1,
-        };
         Some(Beat {
             signs,
             speed: self.speed,
             at: there,
-            mark,
+            mark: Mark {
+                phase: 0,
+                made: made + 1,
+            },
         })
     }
 
@@ -83,18 +80,13 @@ impl Arc {
     pub fn with_made(self, made: u32) -> Arc
         ensures { result ≡ with_made self made }
     {
-        let mut a = self;
-        a.made = made;
-        a
+        Arc { made, ..self }
     }
 
     // The pulses still to make.
     pub fn left(self) -> u32
         ensures { result ≡ arc_left self }
     {
-        if self.length <= self.made {
-            return 0;
-        }
-        self.length - self.made
+        self.length.saturating_sub(self.made)
     }
 }

@@ -8,7 +8,7 @@ mod sound;
 mod steps;
 
 pub use route::plan;
-pub use sound::counted_at;
+pub use sound::{counted_at, speed_right};
 pub use steps::step_to;
 
 // The positions, origins or resting points of the four axes, as counts.

@@ -14,7 +14,7 @@ use super::pulse::signs_at;
 use super::{Counters, Look, Move};
 
 // A speed: 30 to 10,000.
-fn speed_right(v: u16) -> bool
+pub fn speed_right(v: u16) -> bool
     ensures { result ≡ speed_right v }
 {
     (30 <= v) & (v <= 10000)

@@ -7,7 +7,7 @@ pub returns-then-not-sound : goal.returns-then-not-sound
 returns-then-not-sound c = let a = c.args in look-wrong a.self a.at (sym c.sound.ensures ∙ c.if-not-sound.true)
 
 pub returns-in-Some : goal.returns-in-Some
-returns-in-Some c = let a = c.args in look-made a.self a.at (sym c.sound.ensures ∙ c.if-not-sound.false) c.beat-next.ensures c.in-Some.is
+returns-in-Some c = let a = c.args in look-made a.self a.at (sym c.sound.ensures ∙ c.if-not-sound.false) c.beat.ensures c.in-Some.is
 
 pub returns-in-None : goal.returns-in-None
-returns-in-None c = let a = c.args in look-over a.self a.at (sym c.sound.ensures ∙ c.if-not-sound.false) c.beat-next.ensures c.in-None.is
+returns-in-None c = let a = c.args in look-over a.self a.at (sym c.sound.ensures ∙ c.if-not-sound.false) c.beat.ensures c.in-None.is

@@ -83,13 +83,10 @@ impl Travel {
         ensures { result ≡ with_made self made }
     {
         match self {
-            Travel::Straight(m) => {
-                let mark = Mark {
-                    phase: m.phase,
-                    made,
-                };
-                Travel::Straight(m.at_mark(mark))
-            }
+            Travel::Straight(m) => Travel::Straight(m.at_mark(Mark {
+                phase: m.phase,
+                made,
+            })),
             Travel::Round(a) => Travel::Round(a.with_made(made)),
         }
     }

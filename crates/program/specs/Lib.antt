@@ -1,3 +1,4 @@
+pub mod Verdict
 pub mod Check
 pub mod Program
 pub mod Edges

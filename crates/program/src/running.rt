@@ -7,27 +7,24 @@ ghost use Rattle.program.specs.work.Target.{leads};
 ghost use Rattle.program.specs.work.Leap.{leap_by, leap_of, loops_by};
 ghost use Rattle.program.specs.declared.Going.{Going};
 
-use crate::{Going, Lead, Loop, Loops, Target, Way};
+use crate::{Going, Lead, Loop, Loops, Way};
 use record::Record;
 
 // The entry of the loop opened last; the first one if none is open.
 fn top_of(depth: u8) -> u8
     ensures { result ≡ depth - 1 }
 {
-    if depth == 0 {
-        return 0;
-    }
-    depth - 1
+    depth.saturating_sub(1)
 }
 
 fn entry(loops: Loops, top: u8) -> Loop
     ensures { result ≡ get_or loops.at top (counter 0 0) }
 {
-    if top < 7 {
-        let i = top as usize;
-        return loops.at[i];
-    }
-    Loop { place: 0, left: 0 }
+    loops
+        .at
+        .get(usize::from(top))
+        .copied()
+        .unwrap_or(Loop { place: 0, left: 0 })
 }
 
 // The open loops stay as they are.
@@ -62,25 +59,25 @@ fn sets(place: u16, top: u8, last: Loop, depth: u8) -> Lead
 }
 
 // Own place plus the offset of word `w`.
-fn target_of(place: u16, w: u32, end: u16) -> Target
+fn target_of(place: u16, w: u32, end: u16) -> Option<u16>
     ensures { result ≡ leads place (signed w) end }
 {
-    let p = place as u32;
-    let e = end as u32;
+    let p = u32::from(place);
+    let e = u32::from(end);
     if w < 2147483648 {
         if p + w <= e {
-            return Target::At((p + w) as u16);
+            return Some((p + w) as u16);
         }
-        return Target::Outside;
+        return None;
     }
     let b = 4294967295 - w;
     if p <= b {
-        return Target::Outside;
+        return None;
     }
     if p - b - 1 <= e {
-        return Target::At((p - b - 1) as u16);
+        return Some((p - b - 1) as u16);
     }
-    Target::Outside
+    None
 }
 
 // The counter opened last is used.
@@ -142,8 +139,7 @@ fn aimed(item: Record, place: u16, end: u16, loops: Loops) -> Lead
     ensures { result ≡ leap_by loops (aimed place end (nth item.words 1) item loops) }
 {
     let words = item.words;
-    let t = target_of(place, words[1], end);
-    let Target::At(target) = t else {
+    let Some(target) = target_of(place, words[1], end) else {
         return stays(Going::Wrong, 0, 0, loops);
     };
     if item.code == b'2' {

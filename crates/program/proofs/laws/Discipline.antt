@@ -13,8 +13,7 @@ use Rattle.count.specs.Pick.{pick}
 use Rattle.count.specs.Ranges.{nth}
 use Rattle.count.proofs.laws.Truth.{never}
 use Rattle.record.specs.declared.Record.{Record}
-use Rattle.program.specs.declared.Verdict.{Verdict}
-use Rattle.program.specs.declared.Verdict.TheVariants.{Sound, Fault, Unreadable}
+use Rattle.program.specs.Verdict.{Verdict, Sound, Fault, Unreadable}
 use Rattle.program.specs.declared.Loop.{Loop}
 use Rattle.program.specs.declared.Loops.{Loops}
 use Rattle.program.specs.declared.Going.{Going}

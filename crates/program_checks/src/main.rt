@@ -4,7 +4,7 @@
 
 ghost use Rattle.std.specs.Io.{ReadsAtMost};
 
-use program::{Going, Loop, Loops, Verdict, Way};
+use program::{Flaw, Going, Loop, Loops, Way};
 use record::Held;
 use std::io;
 use std::io::Read;
@@ -55,15 +55,15 @@ fn put(rt: &impl Print, n: u16) -> io::Result<()> {
     print!(rt; "{n}")
 }
 
-fn show(rt: &impl Print, v: Verdict) -> io::Result<()> {
-    match v {
-        Verdict::Sound => print!(rt; "0"),
-        Verdict::Fault(letter, place) => {
-            let text = [letter, b' '];
+fn show(rt: &impl Print, checked: Result<(), Flaw>) -> io::Result<()> {
+    match checked {
+        Ok(()) => print!(rt; "0"),
+        Err(Flaw::Fault(rule, place)) => {
+            let text = [rule.letter(), b' '];
             rt.write_all(&text)?;
             put(rt, place)
         }
-        Verdict::Unreadable => print!(rt; "G"),
+        Err(Flaw::Unreadable) => print!(rt; "G"),
     }
 }
 

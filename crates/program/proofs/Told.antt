@@ -10,6 +10,12 @@ use Rattle.program.specs.declared.Rule.TheVariants.{Outside, Early, Overlaps, Cr
 use Rattle.program.specs.declared.Flaw.{Flaw}
 use Rattle.program.specs.declared.Flaw.TheVariants as flaw
 use Rattle.program.specs.declared.Edges.{Edges}
+use Rattle.program.specs.declared.Going as code
+use Rattle.program.specs.declared.Going.TheVariants as sent
+use Rattle.program.specs.declared.Way as made
+use Rattle.program.specs.declared.Lead as lead
+use Rattle.program.specs.Going.{Way, kind_in, place_in, target_in, way_in}
+use Rattle.program.specs.work.Leap.{Lead, lead_in}
 use Rattle.program.specs.Verdict.{letter_of, verdict}
 use Rattle.program.specs.Edges.{Acceptance, acceptance_in}
 
@@ -59,3 +65,28 @@ acceptance-only (Some d) (Some f) e =
     let o : d.out ≡ f.out = ap (λ (a : Acceptance). a.out) e in
     let q : d.first ≡ f.first = ap (λ (a : Acceptance). a.first) e in
     rw (o, q)
+
+going-only : (g h : code.Going) → kind_in g ≡ kind_in h → place_in g ≡ place_in h → target_in g ≡ target_in h → g ≡ h
+going-only (sent.To p) (sent.To q) e d t = cc
+going-only (sent.To p) (sent.Waits q u) e d t = cc
+going-only (sent.To p) sent.Wrong e d t = cc
+going-only (sent.Waits p u) (sent.To q) e d t = cc
+going-only (sent.Waits p u) (sent.Waits q v) e d t = cc
+going-only (sent.Waits p u) sent.Wrong e d t = cc
+going-only sent.Wrong (sent.To q) e d t = cc
+going-only sent.Wrong (sent.Waits q v) e d t = cc
+going-only sent.Wrong sent.Wrong e d t = refl
+
+pub way-only : (r s : made.Way) → way_in r ≡ way_in s → r ≡ s
+way-only r s e =
+    let g = going-only r.going s.going (ap (λ (w : Way). w.going) e) (ap (λ (w : Way). w.place) e) (ap (λ (w : Way). w.target) e) in
+    let o : r.loops ≡ s.loops = ap (λ (w : Way). w.loops) e in
+    rw (g, o)
+
+pub lead-only : (r s : lead.Lead) → lead_in r ≡ lead_in s → r ≡ s
+lead-only r s e =
+    let g = going-only r.going s.going (ap (λ (w : Lead). w.going) e) (ap (λ (w : Lead). w.place) e) (ap (λ (w : Lead). w.target) e) in
+    let d : r.depth ≡ s.depth = ap (λ (w : Lead). w.depth) e in
+    let t : r.top ≡ s.top = ap (λ (w : Lead). w.top) e in
+    let l : r.last ≡ s.last = ap (λ (w : Lead). w.last) e in
+    rw (g, d, t, l)

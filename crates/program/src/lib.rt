@@ -75,20 +75,18 @@ pub struct Loops {
     pub depth: u8,
 }
 
-// Where a record sends a run: to a place, into a wait, or nowhere (G).
-#[derive(Clone, Copy)]
+// Where a record sends a run: to a place, into a wait with a next place and a target, or nowhere (G).
+#[derive(Clone, Copy, PartialEq, Eq)]
 pub enum Going {
-    To,
-    Waits,
+    To(u16),
+    Waits { place: u16, target: u16 },
     Wrong,
 }
 
-// The next place, a wait's target, and the open loops.
+// Where it sends a run, and the open loops.
 #[derive(Clone, Copy)]
 pub struct Way {
     pub going: Going,
-    pub place: u16,
-    pub target: u16,
     pub loops: Loops,
 }
 
@@ -96,8 +94,6 @@ pub struct Way {
 #[derive(Clone, Copy)]
 pub struct Lead {
     pub going: Going,
-    pub place: u16,
-    pub target: u16,
     pub depth: u8,
     pub top: u8,
     pub last: Loop,

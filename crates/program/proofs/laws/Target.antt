@@ -14,8 +14,7 @@ use Rattle.record.specs.declared.Record.{Record}
 use lib.ListN.{get_or}
 use lib.Dec.{eqb}
 use Rattle.program.specs.declared.Loops.{Loops}
-use Rattle.program.specs.declared.Way.{Way}
-use Rattle.program.specs.declared.Going.TheVariants.{Waits}
+use Rattle.program.specs.Going.{Way, Waits}
 use Rattle.program.specs.Onward.{inside, target_of, aimed, looped, went, to, wrong}
 use Rattle.program.specs.work.Target.{leads}
 

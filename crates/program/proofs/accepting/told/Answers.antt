@@ -7,8 +7,8 @@ use Rattle.program.proofs.accepting.told.Goals as goal
 
 pub returns-in-Ok : goal.returns-in-Ok
 returns-in-Ok c =
-    let ks = c.args.kinds.now in
-    let far = far_in c.args.offsets.now in
+    let ks = c.args.places.now.kinds.now in
+    let far = far_in c.args.places.now.offsets.now in
     let a = c.leads.ensures ∙ leads-any (kind_is ks 2) far _ _ in
     let b = c.leads-in-Ok.ensures ∙ leads-any (kind_is ks 1) far _ _ in
     rw (← c.in-Ok.ensures, a, b, c.mark_of.ensures, c.mark_of-in-Ok.ensures)

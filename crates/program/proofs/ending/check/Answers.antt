@@ -13,7 +13,7 @@ decode-requires c = (c.if-n-gt1000.false, refl, refl)
 pub returns-then-decode : goal.returns-then-decode
 returns-then-decode c =
     let few = c.if-n-gt1000.false in
-    c.check_arrays.ensures ∙ verdict-read _ _ _ _ few (all_read _ _ few _ _ c.if-decode.true c.decode.ensures)
+    c.check_places.ensures ∙ verdict-read _ _ _ _ few (all_read _ _ few _ _ c.if-decode.true c.decode.ensures)
 
 pub returns : goal.returns
 returns c =

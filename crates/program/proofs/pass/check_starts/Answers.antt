@@ -1,4 +1,4 @@
--- `program::check_starts` meets its contract. Assumes nothing.
+-- `program::pass::check_starts` meets its contract. Assumes nothing.
 use Prim.Native.Nat.{◌+◌, ◌-◌, ◌≤◌}
 use mathlib.Core.Path.{◌≡◌, refl}
 use native.Mathlib.Omega.{arith}
@@ -15,7 +15,7 @@ pub first_back-b-requires : goal.first_back-b-requires
 first_back-b-requires c =
     let a = c.args in
     let s = c.start_of-s.ensures in
-    let m = start-most (loop_in a.kinds.now) (far_in a.offsets.now) (c.loop-i.i - 1) in
+    let m = start-most (loop_in a.places.now.kinds.now) (far_in a.places.now.offsets.now) (c.loop-i.i - 1) in
     (backs-from _ _ _ _ _ _ (omega arith) c.loop-i.invariant.backs, omega arith, omega arith)
 
 pub overflow_add-notes : goal.overflow_add-notes
@@ -29,8 +29,10 @@ pub loop-i-preserved : goal.loop-i-preserved
 loop-i-preserved c =
     let e : c.loop-i.i - 1 + 1 ≡ c.loop-i.i = omega arith in
     rw c.from.ensures
-    (noted_more _ _ _ _ _ _ _ _ (omega arith) c.requires.2 (omega arith) (omega arith) c.loop-i.invariant c.start_of-s.ensures (rw e at c.first_back-b.ensures) refl)
+    (noted_more _ _ _ _ _ _ _ _ (omega arith) c.args.places.now.few (omega arith) (omega arith) c.loop-i.invariant c.start_of-s.ensures (rw e at c.first_back-b.ensures) refl)
+
+pub invariant_of-noted : goal.invariant_of-noted
+invariant_of-noted c = record { backs = backs-from _ _ _ _ _ _ (omega arith) c.loop-i.invariant.backs }
 
 pub first_fault-requires : goal.first_fault-requires
-first_fault-requires c =
-    (c.loop-i.invariant.starts, backs-from _ _ _ _ _ _ (omega arith) c.loop-i.invariant.backs, c.requires.2)
+first_fault-requires c = c.loop-i.invariant.starts

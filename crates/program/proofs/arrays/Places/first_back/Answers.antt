@@ -1,8 +1,8 @@
--- `program::first_back` meets its contract. Assumes nothing.
+-- `program::arrays::Places::first_back` meets its contract. Assumes nothing.
 use mathlib.Core.Path.{sym, ◌∙◌}
 use native.Mathlib.Omega.{arith}
 use Rattle.program.proofs.laws.Backs.{passed_none, first-hit, first-end, passed_on, entry_of}
-use Rattle.program.proofs.ranges.first_back.Goals as goal
+use Rattle.program.proofs.arrays.Places.first_back.Goals as goal
 
 pub loop-i-init : goal.loop-i-init
 loop-i-init c = (omega arith, c.requires.1, passed_none _ _)

@@ -1,7 +1,7 @@
--- `program::opening` meets its contract. Assumes nothing.
+-- `program::arrays::Places::opening` meets its contract. Assumes nothing.
 use native.Mathlib.Omega.{arith}
 use Rattle.program.proofs.Notes.{opening-yes}
-use Rattle.program.proofs.pass.opening.Goals as goal
+use Rattle.program.proofs.arrays.Places.opening.Goals as goal
 
 pub overflow_cast-result : goal.overflow_cast-result
 overflow_cast-result c =

@@ -1,8 +1,8 @@
--- `program::check_arrays` meets its contract. Assumes nothing.
+-- `program::pass::check_places` meets its contract. Assumes nothing.
 use native.Mathlib.Omega.{arith}
 use lib.ListN.{length-set}
 use Rattle.program.proofs.Notes.{counts-none, counts-more, counts_all}
-use Rattle.program.proofs.pass.check_arrays.Goals as goal
+use Rattle.program.proofs.pass.check_places.Goals as goal
 
 pub loop-i-init : goal.loop-i-init
 loop-i-init c = record { long = omega arith; counts = counts-none _ _ }
@@ -16,4 +16,4 @@ loop-i-preserved c =
     }
 
 pub check_starts-requires : goal.check_starts-requires
-check_starts-requires c = (counts_all _ _ _ _ _ (omega arith) (omega arith) c.loop-i.invariant.counts, c.loop-i.invariant.long, c.requires)
+check_starts-requires c = (counts_all _ _ _ _ _ (omega arith) (omega arith) c.loop-i.invariant.counts, c.loop-i.invariant.long)

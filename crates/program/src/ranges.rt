@@ -62,6 +62,7 @@ impl<'a> Places<'a> {
         requires { Backs (loop_in self.now.kinds.now) (far_in self.now.offsets.now) notes.now self.now.n k × (k ≤ self.now.n) × (s ≤ mark k + 1) }
         ensures { Firstly (reach (loop_in self.now.kinds.now) (far_in self.now.offsets.now) s) k self.now.n result }
     {
+        // A jump from note to note, no count.
         let mut i = k;
         while i < self.n {
             if self.reaches(i, s) {
@@ -127,6 +128,7 @@ impl<'a> Noted<'a> {
             return true;
         }
         let s = mark_of(hi) + 1;
+        // Likewise a jump, to behind what was found.
         let mut k = hi;
         while k < self.places.n {
             let i = self.places.first_back(self.notes, k, s);

@@ -1,14 +1,11 @@
 -- `program::check` meets its contract. Assumes nothing.
-use mathlib.Core.Path.{refl, ◌∙◌}
+use mathlib.Core.Path.{◌∙◌}
 use Rattle.program.proofs.Gather.{all_read, not-read}
 use Rattle.program.proofs.Reading.{too_many, unreadable, verdict-read}
 use Rattle.program.proofs.ending.check.Goals as goal
 
 pub returns-then-n-gt1000 : goal.returns-then-n-gt1000
 returns-then-n-gt1000 c = too_many _ _ c.if-n-gt1000.true
-
-pub decode-requires : goal.decode-requires
-decode-requires c = (c.if-n-gt1000.false, refl, refl)
 
 pub returns-then-decode : goal.returns-then-decode
 returns-then-decode c =

@@ -1,7 +1,7 @@
 -- `program::pass::check_places` meets its contract. Assumes nothing.
 use native.Mathlib.Omega.{arith}
 use lib.ListN.{length-set}
-use Rattle.program.proofs.Notes.{counts-none, counts-more, counts_all}
+use Rattle.program.proofs.Notes.{counts-none, counts-more}
 use Rattle.program.proofs.pass.check_places.Goals as goal
 
 pub loop-i-init : goal.loop-i-init
@@ -14,6 +14,3 @@ loop-i-preserved c =
       long = simp length-set c.loop-i.invariant.long;
       counts = rw c.from-at.ensures (counts-more _ _ _ _ _ _ c.loop-i.invariant.long (omega arith) c.loop-i.invariant.counts c.opening.ensures.0 c.is_range.ensures x);
     }
-
-pub check_starts-requires : goal.check_starts-requires
-check_starts-requires c = (counts_all _ _ _ _ _ (omega arith) (omega arith) c.loop-i.invariant.counts, c.loop-i.invariant.long)

@@ -1,6 +1,4 @@
 -- `program::pass::check_starts` meets its contract. Assumes nothing.
-use mathlib.Core.Path.{◌≡◌}
-use lib.ListN.{length}
 use Rattle.program.specs.work.Work.{loop_in, far_in}
 use Rattle.program.proofs.Notes.{Noted}
 use Rattle.program.proofs.pass.check_starts.Given as goal

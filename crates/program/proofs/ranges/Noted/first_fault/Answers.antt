@@ -1,7 +1,7 @@
 -- `program::ranges::Noted::first_fault` meets its contract. Assumes nothing.
 use Prim.Native.Nat.{◌+◌}
 use mathlib.Core.Bool.{Bool, true, false}
-use mathlib.Core.Path.{◌≡◌, refl, sym, ◌∙◌}
+use mathlib.Core.Path.{◌≡◌, refl, ◌∙◌}
 use Rattle.std.specs.Prelude.{cond}
 use Rattle.std.specs.Int.{from_bool}
 use native.Mathlib.Omega.{arith}
@@ -10,7 +10,7 @@ use Rattle.program.specs.work.Work.{loop_in, far_in}
 use Rattle.program.specs.work.Ranges.{goes_on, opens}
 use Rattle.program.proofs.laws.Ranges.{none_before, letter-same, pass-next, tally-most, up_to-most}
 use Rattle.program.proofs.Told.{letter-some}
-use Rattle.program.proofs.Walks.{walk_start, walk-hit, walk-on, walk_end}
+use Rattle.program.proofs.Walks.{walk_start, walk-hit, walk-on}
 use Rattle.program.proofs.ranges.Noted.first_fault.Goals as goal
 
 byte-cond : (b : Bool) → from_bool b ≡ cond b 1 0

@@ -1,12 +1,7 @@
 -- `program::ranges::Noted::overlaps` meets its contract. Assumes nothing.
 use native.Mathlib.Omega.{arith}
-use Rattle.program.proofs.Notes.{backs-from}
 use Rattle.program.proofs.laws.Backs.{asked-off, asked-late, asked-first}
 use Rattle.program.proofs.ranges.Noted.overlaps.Goals as goal
-
-pub first_back-requires : goal.first_back-requires
-first_back-requires c =
-    (backs-from _ _ _ _ 0 _ (omega arith) c.args.self.now.backs, omega arith, omega arith)
 
 pub returns-then-k-from : goal.returns-then-k-from
 returns-then-k-from c =

@@ -1,12 +1,7 @@
 -- `program::ranges::Noted::parted` meets its contract. Assumes nothing.
 use native.Mathlib.Omega.{arith}
-use Rattle.program.proofs.Notes.{backs-from}
 use Rattle.program.proofs.laws.Backs.{at_mark, near-mark, part-first, alike-start, part-hit, alike_next, alike_end}
 use Rattle.program.proofs.ranges.Noted.parted.Goals as goal
-
-pub first_back-first-requires : goal.first_back-first-requires
-first_back-first-requires c =
-    (backs-from _ _ _ _ 0 _ (omega arith) c.args.self.now.backs, omega arith, omega arith)
 
 pub returns-then-first-hi : goal.returns-then-first-hi
 returns-then-first-hi c =
@@ -17,25 +12,10 @@ loop-k-init c =
     let p = c.requires in
     (omega arith, omega arith, alike-start _ _ _ _ _ p.0 _ (at_mark _ _ _ _ _ c.mark_of-m.ensures c.first_back-first.ensures) c.if-first-hi.false)
 
-pub first_back-i-requires : goal.first_back-i-requires
-first_back-i-requires c =
-    (backs-from _ _ _ _ 0 _ (omega arith) c.args.self.now.backs, omega arith, omega arith)
-
 pub returns-then-i-self : goal.returns-then-i-self
 returns-then-i-self c =
     let p = c.requires in
     part-hit _ _ _ _ _ p.0 _ _ c.loop-k.invariant.0 (at_mark _ _ _ _ _ c.mark_of-s.ensures c.first_back-i.ensures) (near-mark _ _ _ c.mark_of-m.ensures c.reaches-near.ensures) c.if-i-self.true
-
-pub overflow_add-k : goal.overflow_add-k
-overflow_add-k c =
-    let h = c.first_back-i.ensures.most in
-    omega arith
-
-pub loop-k-smaller : goal.loop-k-smaller
-loop-k-smaller c =
-    let g = c.first_back-i.ensures.from in
-    let h = c.loop-k-test.true in
-    omega arith
 
 pub loop-k-preserved : goal.loop-k-preserved
 loop-k-preserved c =

@@ -9,10 +9,6 @@ overflow_cast-t c =
     let l = d.1 in
     omega arith
 
-pub parted-requires : goal.parted-requires
-parted-requires c =
-    (omega arith, omega arith)
-
 pub returns-then-t-p : goal.returns-then-t-p
 returns-then-t-p c =
     stray-low _ _ _ _ _ c.is_turn.ensures c.if-is_turn.true c.requires.1 c.far.ensures c.place_of-t.ensures c.parted.ensures

@@ -1,4 +1,4 @@
--- `program::accepts` meets its contract. Assumes nothing.
+-- `program::accepting::accepts` meets its contract. Assumes nothing.
 use mathlib.Core.Path.{ap, refl, ◌∙◌}
 use mathlib.Core.Bool.{not}
 use Rattle.program.proofs.Gather.{all_read, not-read}
@@ -7,17 +7,17 @@ use Rattle.program.proofs.laws.Accepting.{sized-parts}
 use Rattle.program.proofs.accepting.accepts.Goals as goal
 
 pub returns-then-not-is_sized-axes_set : goal.returns-then-not-is_sized-axes_set
-returns-then-not-is_sized-axes_set c = c.refused.ensures ∙ not-asked _ _ c.is_sized.ensures c.axes_set.ensures (ap not c.if-not-is_sized-axes_set.true)
+returns-then-not-is_sized-axes_set c = not-asked _ _ c.is_sized.ensures c.axes_set.ensures (ap not c.if-not-is_sized-axes_set.true)
 
 pub decode-requires : goal.decode-requires
 decode-requires c =
     let d = asked _ c.is_sized.ensures c.axes_set.ensures (ap not c.if-not-is_sized-axes_set.false) in
     ((sized-parts _ d.0).1, refl, refl)
 
-pub told-requires : goal.told-requires
-told-requires c =
+pub invariant_of-told : goal.invariant_of-told
+invariant_of-told c =
     let d = asked _ c.is_sized.ensures c.axes_set.ensures (ap not c.if-not-is_sized-axes_set.false) in
-    (sized-parts _ d.0).1
+    record { few = (sized-parts _ d.0).1 }
 
 pub returns-then-decode : goal.returns-then-decode
 returns-then-decode c =
@@ -27,4 +27,4 @@ returns-then-decode c =
 pub returns : goal.returns
 returns c =
     let d = asked _ c.is_sized.ensures c.axes_set.ensures (ap not c.if-not-is_sized-axes_set.false) in
-    c.refused-2.ensures ∙ told-unread _ _ (not-read _ _ (sized-parts _ d.0).1 _ _ c.if-decode.false c.decode.ensures)
+    told-unread _ _ (not-read _ _ (sized-parts _ d.0).1 _ _ c.if-decode.false c.decode.ensures)

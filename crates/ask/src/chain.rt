@@ -32,7 +32,7 @@ pub(crate) fn answer(alloc: Global, mut fields: Fields) -> Result<String, Fault>
     let mut steps = vec![in alloc; 0i32; wanted.min(MANY)]?;
     let refusal = sheet::chain(axis, &distances, &mut steps);
     if refusal != 0 {
-        return Ok(show::refusal(alloc, refusal)?);
+        return Ok(format!(in alloc; "{refusal}")?);
     }
     Ok(show::chained(alloc, &steps)?)
 }

@@ -1,5 +1,5 @@
 // The fields of a question, one behind the other, with a space in front of each.
-ghost use Rattle.std.specs.Prelude.{◌≤◌, length};
+ghost use Rattle.std.specs.Prelude.{◌≤◌, length, IfOk};
 ghost use Rattle.std.specs.Iterator.{at_most};
 
 use super::Fault;
@@ -57,7 +57,9 @@ impl<'a> Fields<'a> {
     }
 
     // The next field as a number from 0 to `most`.
-    pub(crate) fn up_to(&mut self, most: usize) -> Result<usize, Fault> {
+    pub(crate) fn up_to(&mut self, most: usize) -> Result<usize, Fault>
+        ensures { IfOk result (λ n. n ≤ most) }
+    {
         let n = self.number()?;
         if n <= most { Ok(n) } else { Err(Fault::Unread) }
     }

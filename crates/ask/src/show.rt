@@ -2,11 +2,6 @@
 use record::Held;
 use std::alloc::{AllocError, Global};
 
-// The number of a refusal.
-pub(crate) fn refusal(alloc: Global, refusal: u16) -> Result<String, AllocError> {
-    format!(in alloc; "{refusal}")
-}
-
 // 0 and the numbers delivered.
 pub(crate) fn chained(alloc: Global, steps: &[i32]) -> Result<String, AllocError> {
     let mut text = format!(in alloc; "0")?;
@@ -16,7 +11,7 @@ pub(crate) fn chained(alloc: Global, steps: &[i32]) -> Result<String, AllocError
     Ok(text)
 }
 
-// The refusal of a join: its character, or the number of any other.
+// The refusal of a join: its character, or the number of any other. By numbers, as `join::join` gives them.
 pub(crate) fn refused(alloc: Global, refusal: u16) -> Result<String, AllocError> {
     match refusal {
         51 => format!(in alloc; "3"),

@@ -12,8 +12,7 @@ use mir.Val.{SFits, to_z, of_z}
 use mir.ValLaws.{to_z_pos, to_z-of_z}
 use borrow.Author.Tests.{leb-true, leb-false, le-leb, lt-leb}
 use Rattle.count.proofs.laws.Truth.{and_left}
-use Rattle.sheet.specs.declared.Converted.{Converted}
-use Rattle.sheet.specs.Sheet.{near, signed, refused, whole_steps, whole_speed, rounded}
+use Rattle.sheet.specs.Sheet.{Converted, near, signed, refused, whole_steps, whole_speed, rounded}
 use Rattle.sheet.specs.work.Work.{capped_whole}
 
 -- what refuses every size from 2 ^ 24 up answers the same of a size and of the size cut there

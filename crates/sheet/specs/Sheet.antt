@@ -8,7 +8,6 @@ use Rattle.count.specs.Pick.{pick}
 use Rattle.sheet.specs.declared.Axis.{Axis}
 use Rattle.sheet.specs.declared.Rate.{Rate}
 use Rattle.sheet.specs.declared.Rate.TheVariants.{PerSecond, PerMinute, Steps}
-use Rattle.sheet.specs.declared.Converted.{Converted}
 
 -- the 64-bit float nearest to n / d, and to -n / d
 unfoldable pub float : ℕ → ℕ → Float
@@ -68,6 +67,11 @@ signed false k = pos k
 signed true k = neg_ℤ (pos k)
 
 -- ---- 01, "The sheet", sentence 9: the whole number must be of 24 bits, or from 30 to 10,000 for a speed. An infinity and not-a-number have none
+
+-- the refusal, or 0, and the value, which is 0 where there is a refusal
+pub record Converted : Type 0 where
+  pub refusal : ℕ
+  pub value : ℤ
 
 abbrev pub refused : ℕ → Converted
 refused n = record { refusal = n; value = pos 0 }

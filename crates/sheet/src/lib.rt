@@ -4,7 +4,8 @@
 ghost use Rattle.std.specs.Prelude.{◌≡◌, ◌^◌};
 ghost use Rattle.std.specs.Float.{binary64};
 ghost use Rattle.std.specs.Float.Ieee.{of_bits};
-ghost use Rattle.sheet.specs.Sheet.{axis_right, distance_right, rate_right, between, distance_float, speed_float, half_up, whole_steps, whole_speed, distance_steps, speed_steps, refused, distance_of, speed_of};
+ghost use Rattle.sheet.specs.Sheet.{axis_right, distance_right, rate_right, between, distance_float, speed_float, half_up, whole_steps, whole_speed, distance_steps, speed_steps, distance_of, speed_of};
+ghost use Rattle.sheet.specs.Refusal.{refusal_paper, converted};
 ghost use Rattle.sheet.specs.work.Work.{Room, capped, capped_whole};
 
 mod chains;
@@ -27,35 +28,52 @@ pub enum Rate {
     Steps(i64),
 }
 
-// The refusal, or 0, and the value, which is 0 where there is a refusal.
-#[derive(Clone, Copy)]
-pub struct Converted {
-    pub refusal: u16,
-    pub value: i32,
+// Why there is no value: an output of another length than the chain, or a chain of more than 1,000 distances; an axis that is not right;
+// a distance, speed or sum that is not right; a whole number outside its range.
+#[derive(Clone, Copy, PartialEq, Eq)]
+pub enum Refusal {
+    Length,
+    Axis,
+    Value,
+    Range,
+}
+
+impl Refusal {
+    // The number by which it is told, which is never 0.
+    pub fn number(self) -> u16
+        ensures { result ≡ (refusal_paper self).number }
+    {
+        match self {
+            Refusal::Length => 105,
+            Refusal::Axis => 201,
+            Refusal::Value => 202,
+            Refusal::Range => 203,
+        }
+    }
 }
 
 // A distance in mm as steps.
-pub fn distance(axis: Axis, mm: f64) -> Converted
-    ensures { result ≡ distance_of axis mm }
+pub fn distance(axis: Axis, mm: f64) -> Result<i32, Refusal>
+    ensures { converted result ≡ distance_of axis mm }
 {
     if !axis_right(axis) {
-        return refuse(201);
+        return Err(Refusal::Axis);
     }
     if !distance_right(mm) {
-        return refuse(202);
+        return Err(Refusal::Value);
     }
     distance_steps(axis, mm)
 }
 
 // A speed as steps per second.
-pub fn speed(axis: Axis, rate: Rate) -> Converted
-    ensures { result ≡ speed_of axis rate }
+pub fn speed(axis: Axis, rate: Rate) -> Result<i32, Refusal>
+    ensures { converted result ≡ speed_of axis rate }
 {
     if !axis_right(axis) {
-        return refuse(201);
+        return Err(Refusal::Axis);
     }
     if !rate_right(rate) {
-        return refuse(202);
+        return Err(Refusal::Value);
     }
     speed_steps(axis, rate)
 }
@@ -82,8 +100,7 @@ fn rate_right(rate: Rate) -> bool
     ensures { result ≡ rate_right rate }
 {
     match rate {
-        Rate::PerSecond(v) => within(0.0, v, 1000000.0),
-        Rate::PerMinute(v) => within(0.0, v, 1000000.0),
+        Rate::PerSecond(v) | Rate::PerMinute(v) => within(0.0, v, 1000000.0),
         Rate::Steps(n) => (0 <= n) & (n <= 1000000),
     }
 }
@@ -96,16 +113,16 @@ fn within(lo: f64, x: f64, hi: f64) -> bool
 }
 
 // The formula of a distance, rounded to a whole number of steps of 24 bits, else 203.
-pub(crate) fn distance_steps(axis: Axis, mm: f64) -> Converted
-    ensures { result ≡ distance_steps axis mm }
+pub(crate) fn distance_steps(axis: Axis, mm: f64) -> Result<i32, Refusal>
+    ensures { converted result ≡ distance_steps axis mm }
 {
     let steps = mm / axis.lead * axis.steps * axis.gear;
     whole_steps(nearest(steps))
 }
 
 // The formula of a speed, rounded to whole steps per second from 30 to 10,000, else 203.
-fn speed_steps(axis: Axis, rate: Rate) -> Converted
-    ensures { result ≡ speed_steps axis rate }
+fn speed_steps(axis: Axis, rate: Rate) -> Result<i32, Refusal>
+    ensures { converted result ≡ speed_steps axis rate }
 {
     match rate {
         Rate::PerSecond(v) => whole_speed(nearest(speed_float(axis, v))),
@@ -122,37 +139,24 @@ fn speed_float(axis: Axis, v: f64) -> f64
 }
 
 // The range of a distance.
-pub(crate) fn whole_steps(n: i64) -> Converted
-    ensures { result ≡ whole_steps n }
+pub(crate) fn whole_steps(n: i64) -> Result<i32, Refusal>
+    ensures { converted result ≡ whole_steps n }
 {
     if (-8388608 <= n) & (n <= 8388607) {
-        return Converted {
-            refusal: 0,
-            value: n as i32,
-        };
+        Ok(n as i32)
+    } else {
+        Err(Refusal::Range)
     }
-    refuse(203)
 }
 
 // The range of a speed.
-fn whole_speed(n: i64) -> Converted
-    ensures { result ≡ whole_speed n }
+fn whole_speed(n: i64) -> Result<i32, Refusal>
+    ensures { converted result ≡ whole_speed n }
 {
     if (30 <= n) & (n <= 10000) {
-        return Converted {
-            refusal: 0,
-            value: n as i32,
-        };
-    }
-    refuse(203)
-}
-
-fn refuse(number: u16) -> Converted
-    ensures { result ≡ refused number }
-{
-    Converted {
-        refusal: number,
-        value: 0,
+        Ok(n as i32)
+    } else {
+        Err(Refusal::Range)
     }
 }
 
@@ -161,15 +165,15 @@ fn refuse(number: u16) -> Converted
 fn nearest(x: f64) -> i64
     ensures { result ≡ capped_whole x }
 {
-    if x != x {
+    if x.is_nan() {
         return 16777216;
     }
-    let bits = f64::to_bits(x);
+    let bits = x.to_bits();
     let size = nearest_size(bits);
     if bits < 0x8000_0000_0000_0000 {
         return size as i64;
     }
-    0 - (size as i64)
+    -(size as i64)
 }
 
 // The size of the nearest whole number, from the bits: below the exponent field 1022 a float is

@@ -10,6 +10,6 @@ unfolding whole_speed
 returns-then-n c =
     rw (to_z-of_z w64 c.args.n c.ranges.n, to_z-of_z w32 c.args.n (speed-fit c.args.n (rw (to_z-of_z w64 c.args.n c.ranges.n) at c.if-n.true)), rw (to_z-of_z w64 c.args.n c.ranges.n) at c.if-n.true)
 
-pub returns : goal.returns
+pub returns-else-n : goal.returns-else-n
 unfolding whole_speed
-returns c = rw (rw (to_z-of_z w64 c.args.n c.ranges.n) at c.if-n.false) c.refuse.ensures
+returns-else-n c = rw (rw (to_z-of_z w64 c.args.n c.ranges.n) at c.if-n.false)

@@ -99,9 +99,8 @@ fn work(
     if steps.len() < long {
         return Ok(false);
     }
-    let refusal = sheet::chain(axis, &distances[..count], &mut steps[..long]);
-    if refusal != 0 {
-        return show_first(rt, refusal, steps, 0);
+    if let Err(refusal) = sheet::chain(axis, &distances[..count], &mut steps[..long]) {
+        return show_first(rt, refusal.number(), steps, 0);
     }
     show_first(rt, 0, steps, long)
 }

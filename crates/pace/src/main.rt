@@ -42,7 +42,7 @@ fn run(start: Pace, store: &[u8], table: &[u16]) -> Pace {
         calls = calls.wrapping_add(1);
         sum = sum.wrapping_add(w);
         if w == 0 {
-            break;
+            return Pace { board, calls, sum };
         }
     }
     Pace { board, calls, sum }
@@ -120,6 +120,19 @@ fn take_byte(pace: Pace, byte: u8, store: &mut [u8], table: &mut [u16], text: &m
     }
 }
 
+fn take_all(
+    mut pace: Pace,
+    input: &[u8],
+    store: &mut [u8],
+    table: &mut [u16],
+    text: &mut [u8],
+) -> Pace {
+    for byte in input {
+        pace = take_byte(pace, *byte, store, table, text);
+    }
+    pace
+}
+
 fn main(rt: HostRuntime) -> io::Result<()> {
     let mut store = [0u8; 16384];
     let mut table = [0u16; 1000];
@@ -131,8 +144,6 @@ fn main(rt: HostRuntime) -> io::Result<()> {
         calls: 0,
         sum: 0,
     };
-    for byte in &input {
-        pace = take_byte(pace, *byte, &mut store, &mut table, &mut text);
-    }
+    pace = take_all(pace, &input, &mut store, &mut table, &mut text);
     println!(rt; "{} {}", pace.calls, pace.sum)
 }

@@ -94,12 +94,3 @@ capped-back (fin s m e) = to_z-of_z w64 (signed s (min (near m e) 16777216)) (si
 pub steps-fit : (z : ℤ) → (le_z (negsuc 8388607) z && le_z z (pos 8388607)) ≡ true → SFits w32 z
 steps-fit (pos k) h = let l : k ≤ 8388607 = leb-true k 8388607 h in record { sfits = omega arith }
 steps-fit (negsuc k) h = let l : k ≤ 8388607 = leb-true k 8388607 (and_left (leb k 8388607) true h) in record { sfits = omega arith }
-
-pub speed-fit : (z : ℤ) → (le_z (pos 30) z && le_z z (pos 10000)) ≡ true → SFits w32 z
-speed-fit (pos k) h = let l : k ≤ 10000 = leb-true k 10000 (second (leb 30 k) (leb k 10000) h) in record { sfits = omega arith }
-  where
-    second : (a b : Bool) → (a && b) ≡ true → b ≡ true
-    second true b e = e
-    second false true e = refl
-    second false false e = e
-speed-fit (negsuc k) h = let z : ◌≡◌ {A = ℕ} 0 1 = cc in absurd (omega arith)

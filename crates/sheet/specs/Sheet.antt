@@ -79,12 +79,15 @@ refused n = record { refusal = n; value = pos 0 }
 abbrev pub found : ℤ → Converted
 found z = record { refusal = 0; value = z }
 
+abbrev pub in_range : ℤ → ℤ → ℤ → Converted
+in_range low z high = pick (le_z low z && le_z z high) (found z) (refused 203)
+
 -- from -8,388,608, which is `negsuc 8388607`, to 8,388,607
 unfoldable pub whole_steps : ℤ → Converted
-whole_steps z = pick (le_z (negsuc 8388607) z && le_z z (pos 8388607)) (found z) (refused 203)
+whole_steps z = in_range (negsuc 8388607) z (pos 8388607)
 
 unfoldable pub whole_speed : ℤ → Converted
-whole_speed z = pick (le_z (pos slowest) z && le_z z (pos fastest)) (found z) (refused 203)
+whole_speed z = in_range (pos slowest) z (pos fastest)
 
 -- the float's whole number in such a range
 unfoldable pub rounded : (ℤ → Converted) → Float → Converted

@@ -4,7 +4,7 @@
 ghost use Rattle.std.specs.Prelude.{◌≡◌, ◌^◌};
 ghost use Rattle.std.specs.Float.{binary64};
 ghost use Rattle.std.specs.Float.Ieee.{of_bits};
-ghost use Rattle.sheet.specs.Sheet.{axis_right, distance_right, rate_right, between, distance_float, speed_float, half_up, whole_steps, whole_speed, distance_steps, speed_steps, distance_of, speed_of};
+ghost use Rattle.sheet.specs.Sheet.{axis_right, distance_right, rate_right, between, distance_float, speed_float, half_up, in_range, whole_steps, whole_speed, distance_steps, speed_steps, distance_of, speed_of};
 ghost use Rattle.sheet.specs.Refusal.{refusal_paper, converted};
 ghost use Rattle.sheet.specs.work.Work.{Room, capped, capped_whole};
 
@@ -139,21 +139,25 @@ fn speed_float(axis: Axis, v: f64) -> f64
 }
 
 // The range of a distance.
+#[tactic(auto, unfolding(crate::specs::Sheet::whole_steps))]
 pub(crate) fn whole_steps(n: i64) -> Result<i32, Refusal>
     ensures { converted result ≡ whole_steps n }
 {
-    if (-8388608 <= n) & (n <= 8388607) {
-        Ok(n as i32)
-    } else {
-        Err(Refusal::Range)
-    }
+    in_range(-8388608, n, 8388607)
 }
 
 // The range of a speed.
+#[tactic(auto, unfolding(crate::specs::Sheet::whole_speed))]
 fn whole_speed(n: i64) -> Result<i32, Refusal>
     ensures { converted result ≡ whole_speed n }
 {
-    if (30 <= n) & (n <= 10000) {
+    in_range(30, n, 10000)
+}
+
+fn in_range(low: i32, n: i64, high: i32) -> Result<i32, Refusal>
+    ensures { converted result ≡ in_range low n high }
+{
+    if (i64::from(low) <= n) & (n <= i64::from(high)) {
         Ok(n as i32)
     } else {
         Err(Refusal::Range)

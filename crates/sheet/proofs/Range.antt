@@ -51,8 +51,8 @@ speed-refuses false k h = rw (le-leb 30 k (omega arith), lt-leb k 10000 (omega a
 speed-refuses true zero h = absurd (omega arith)
 speed-refuses true (suc k) h = refl
 
-pub steps-by : (x : Float) → whole_steps (capped_whole x) ≡ rounded whole_steps x
-steps-by x = by-cut whole_steps steps-refuses x
+pub steps_by : (x : Float) → whole_steps (capped_whole x) ≡ rounded whole_steps x
+steps_by x = by-cut whole_steps steps-refuses x
 
 pub speed-by : (x : Float) → whole_speed (capped_whole x) ≡ rounded whole_speed x
 speed-by x = by-cut whole_speed speed-refuses x
@@ -83,11 +83,11 @@ signed-fits false n h = plus-fits n h
 signed-fits true n h = neg-fits n h
 
 -- what the machine reads back from a cut whole number is that number
-pub capped-back : (x : Float) → to_z w64 (of_z w64 (capped_whole x)) ≡ capped_whole x
+pub capped_back : (x : Float) → to_z w64 (of_z w64 (capped_whole x)) ≡ capped_whole x
 unfolding capped_whole
-capped-back nan = to_z-of_z w64 (pos 16777216) (plus-fits 16777216 (omega arith))
-capped-back (inf s) = to_z-of_z w64 (signed s 16777216) (signed-fits s 16777216 (omega arith))
-capped-back (fin s m e) = to_z-of_z w64 (signed s (min (near m e) 16777216)) (signed-fits s (min (near m e) 16777216) (omega arith))
+capped_back nan = to_z-of_z w64 (pos 16777216) (plus-fits 16777216 (omega arith))
+capped_back (inf s) = to_z-of_z w64 (signed s 16777216) (signed-fits s 16777216 (omega arith))
+capped_back (fin s m e) = to_z-of_z w64 (signed s (min (near m e) 16777216)) (signed-fits s (min (near m e) 16777216) (omega arith))
 
 -- ---- a whole number in range as an i32
 

@@ -53,6 +53,7 @@ impl Refusal {
 }
 
 // A distance in mm as steps.
+#[tactic(auto, unfolding(crate::specs::Sheet::distance_of))]
 pub fn distance(axis: Axis, mm: f64) -> Result<i32, Refusal>
     ensures { converted result ≡ distance_of axis mm }
 {
@@ -66,6 +67,7 @@ pub fn distance(axis: Axis, mm: f64) -> Result<i32, Refusal>
 }
 
 // A speed as steps per second.
+#[tactic(auto, unfolding(crate::specs::Sheet::speed_of))]
 pub fn speed(axis: Axis, rate: Rate) -> Result<i32, Refusal>
     ensures { converted result ≡ speed_of axis rate }
 {
@@ -79,6 +81,7 @@ pub fn speed(axis: Axis, rate: Rate) -> Result<i32, Refusal>
 }
 
 // The test of the axis, 201.
+#[tactic(auto, using(crate::proofs::Numbers::thousandth, crate::proofs::Numbers::million), unfolding(crate::specs::Sheet::axis_right))]
 pub(crate) fn axis_right(axis: Axis) -> bool
     ensures { result ≡ axis_right axis }
 {
@@ -89,6 +92,7 @@ pub(crate) fn axis_right(axis: Axis) -> bool
 }
 
 // The test of a distance, 202.
+#[tactic(auto, using(crate::proofs::Numbers::minus_million, crate::proofs::Numbers::million), unfolding(crate::specs::Sheet::distance_right))]
 fn distance_right(mm: f64) -> bool
     ensures { result ≡ distance_right mm }
 {
@@ -113,6 +117,7 @@ fn within(lo: f64, x: f64, hi: f64) -> bool
 }
 
 // The formula of a distance, rounded to a whole number of steps of 24 bits, else 203.
+#[tactic(auto, using(crate::proofs::Range::steps_by, crate::proofs::Range::capped_back), unfolding(crate::specs::Sheet::distance_steps))]
 pub(crate) fn distance_steps(axis: Axis, mm: f64) -> Result<i32, Refusal>
     ensures { converted result ≡ distance_steps axis mm }
 {

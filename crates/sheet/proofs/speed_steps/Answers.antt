@@ -8,13 +8,13 @@ use lib.Ieee.{Float, binary64, div, of_bits}
 use Rattle.sheet.specs.Sheet.{speed_steps, whole_speed, rounded}
 use Rattle.sheet.specs.work.Work.{capped_whole}
 use Rattle.sheet.proofs.Numbers.{sixty}
-use Rattle.sheet.proofs.Range.{capped-back, speed-by}
+use Rattle.sheet.proofs.Range.{capped_back, speed-by}
 use borrow.Author.Rules.{rules}
 use Rattle.sheet.proofs.speed_steps.Goals as goal
 
 -- what follows the nearest whole number of a float
 wanted : (x : Float) (z : ℤ) → z ≡ capped_whole x → whole_speed (to_z w64 (of_z w64 z)) ≡ rounded whole_speed x
-wanted x z e = ap (λ (y : ℤ). whole_speed (to_z w64 (of_z w64 y))) e ∙ ap whole_speed (capped-back x) ∙ speed-by x
+wanted x z e = ap (λ (y : ℤ). whole_speed (to_z w64 (of_z w64 y))) e ∙ ap whole_speed (capped_back x) ∙ speed-by x
 
 pub returns-in-PerSecond : goal.returns-in-PerSecond
 unfolding speed_steps

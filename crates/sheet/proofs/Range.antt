@@ -54,8 +54,8 @@ speed-refuses true (suc k) h = refl
 pub steps_by : (x : Float) → whole_steps (capped_whole x) ≡ rounded whole_steps x
 steps_by x = by-cut whole_steps steps-refuses x
 
-pub speed-by : (x : Float) → whole_speed (capped_whole x) ≡ rounded whole_speed x
-speed-by x = by-cut whole_speed speed-refuses x
+pub speed_by : (x : Float) → whole_speed (capped_whole x) ≡ rounded whole_speed x
+speed_by x = by-cut whole_speed speed-refuses x
 
 -- ---- a size as an i64 of either sign
 

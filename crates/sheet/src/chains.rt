@@ -73,6 +73,7 @@ fn deliver(axis: Axis, thousandths: &[i64], steps: &mut [i32]) -> Result<(), Ref
 }
 
 // Whether the sum with one distance more is right. The sum is not made here, since it need not fit.
+#[tactic(auto, using(crate::proofs::Sums::low_fits, crate::proofs::Sums::high_fits))]
 fn sum_right(sum: i64, t: i64) -> bool
     requires { sum_right sum ≡ true }
     ensures { result ≡ sum_right (sum +ℤ t) }
@@ -90,6 +91,7 @@ fn link_of(axis: Axis, before: i32, sum: i64) -> Result<Link, Refusal>
 }
 
 // A sum of thousandths divided by 1,000, and converted.
+#[tactic(auto, using(crate::proofs::Numbers::thousand, crate::proofs::Sums::sum_exact), unfolding(crate::specs::Chain::result_of, crate::specs::Chain::in_mm))]
 fn result_of(axis: Axis, sum: i64) -> Result<i32, Refusal>
     requires { sum_right sum ≡ true }
     ensures { converted result ≡ result_of axis sum }

@@ -100,6 +100,7 @@ fn distance_right(mm: f64) -> bool
 }
 
 // The test of a speed, 202.
+#[tactic(auto, using(crate::proofs::Numbers::nought, crate::proofs::Numbers::million), unfolding(crate::specs::Sheet::rate_right))]
 fn rate_right(rate: Rate) -> bool
     ensures { result ≡ rate_right rate }
 {
@@ -126,6 +127,7 @@ pub(crate) fn distance_steps(axis: Axis, mm: f64) -> Result<i32, Refusal>
 }
 
 // The formula of a speed, rounded to whole steps per second from 30 to 10,000, else 203.
+#[tactic(auto, using(crate::proofs::Range::speed_by, crate::proofs::Range::capped_back, crate::proofs::Numbers::sixty), unfolding(crate::specs::Sheet::speed_steps))]
 fn speed_steps(axis: Axis, rate: Rate) -> Result<i32, Refusal>
     ensures { converted result ≡ speed_steps axis rate }
 {
@@ -187,6 +189,7 @@ fn nearest(x: f64) -> i64
 
 // The size of the nearest whole number, from the bits: below the exponent field 1022 a float is
 // less than a half, and from 1047 on it is 2^24 or more.
+#[tactic(auto, using(crate::proofs::Pattern::digits_short, crate::proofs::Pattern::near_small, crate::proofs::Pattern::near_middle, crate::proofs::Pattern::near_large))]
 fn nearest_size(bits: u64) -> u64
     ensures { result ≡ capped (of_bits binary64 bits) }
 {
@@ -202,6 +205,7 @@ fn nearest_size(bits: u64) -> u64
 }
 
 // The whole number nearest to digits / 2^places, a half going up.
+#[tactic(auto, using(crate::proofs::Halves::unit_is, crate::proofs::Halves::down, crate::proofs::Halves::up, crate::proofs::Halves::one_more))]
 fn halves_up(digits: u64, places: u64) -> u64
     requires { Room digits places }
     ensures { result ≡ half_up digits (2 ^ places) }

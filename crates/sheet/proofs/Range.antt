@@ -11,7 +11,7 @@ use mir.Syntax.{w32, w64}
 use mir.Val.{SFits, to_z, of_z}
 use mir.ValLaws.{to_z_pos, to_z-of_z}
 use borrow.Author.Tests.{leb-true, leb-false, le-leb, lt-leb}
-use Rattle.count.proofs.laws.Truth.{and_left}
+use Rattle.count.proofs.laws.Truth.{and_left, and_right}
 use Rattle.sheet.specs.Sheet.{Converted, near, signed, refused, whole_steps, whole_speed, rounded}
 use Rattle.sheet.specs.work.Work.{capped_whole}
 
@@ -91,6 +91,11 @@ capped_back (fin s m e) = to_z-of_z w64 (signed s (min (near m e) 16777216)) (si
 
 -- ---- a whole number in range as an i32
 
+pub between-fits : (low z high : ℤ) → SFits w32 low → SFits w32 high → (le_z low z && le_z z high) ≡ true → SFits w32 z
+between-fits low (pos k) (pos h) a b e = let l : k ≤ h = leb-true k h (and_right (le_z low (pos k)) (leb k h) e) in record { sfits = omega (arith, b.sfits) }
+between-fits low (pos k) (negsuc h) a b e = let f : false ≡ true = and_right (le_z low (pos k)) false e in cc
+between-fits (negsuc n) (negsuc k) high a b e = let l : k ≤ n = leb-true k n (and_left (leb k n) (le_z (negsuc k) high) e) in record { sfits = omega (arith, a.sfits) }
+between-fits (pos n) (negsuc k) high a b e = let f : false ≡ true = and_left false (le_z (negsuc k) high) e in cc
+
 pub steps-fit : (z : ℤ) → (le_z (negsuc 8388607) z && le_z z (pos 8388607)) ≡ true → SFits w32 z
-steps-fit (pos k) h = let l : k ≤ 8388607 = leb-true k 8388607 h in record { sfits = omega arith }
-steps-fit (negsuc k) h = let l : k ≤ 8388607 = leb-true k 8388607 (and_left (leb k 8388607) true h) in record { sfits = omega arith }
+steps-fit z h = between-fits (negsuc 8388607) z (pos 8388607) (record { sfits = omega arith }) (record { sfits = omega arith }) h

@@ -30,9 +30,9 @@ pub(crate) fn answer(alloc: Global, mut fields: Fields) -> Result<String, Fault>
     let wanted: usize = fields.number()?;
     let distances = read_distances(alloc, fields)?;
     let mut steps = vec![in alloc; 0i32; wanted.min(MANY)]?;
-    let refusal = sheet::chain(axis, &distances, &mut steps);
-    if refusal != 0 {
-        return Ok(format!(in alloc; "{refusal}")?);
+    if let Err(refusal) = sheet::chain(axis, &distances, &mut steps) {
+        let number = refusal.number();
+        return Ok(format!(in alloc; "{number}")?);
     }
     Ok(show::chained(alloc, &steps)?)
 }

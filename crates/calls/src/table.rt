@@ -1,49 +1,39 @@
 // The table beside the store: what a host writes into it and reads of it, and how it is filled from the store. The table is the first
 // 1,000 entries of the slice; one of another length is the first entries of it too: a call that refuses its table leaves it alone.
-ghost use Rattle.std.specs.Prelude.{◌≤◌, length};
-
-use crate::show::{show_filled, show_value, within};
-use crate::{Play, called};
+use crate::show::show_filled;
+use crate::{Lent, Play};
+use record::Held;
 use std::io;
 
-// No more entries than there are.
-pub(crate) fn entries_of(n: usize, table: &[u16]) -> usize
-    ensures { result ≤ length table.now }
-{
-    if n <= table.len() {
-        return n;
+impl Lent {
+    fn fill(self, held: Held, space: &[u8], table: &mut [u16]) -> u16 {
+        let n = self.store.min(space.len());
+        let k = self.table.min(table.len());
+        record::fill(&space[..n], &mut table[..k], held)
     }
-    table.len()
 }
 
-// The host writes an entry.
-pub(crate) fn enter(play: Play, table: &mut [u16], at: usize, start: u16) -> Play {
-    if at < table.len() {
-        table[at] = start;
+impl Play {
+    // The host writes an entry.
+    pub(crate) fn enter(&mut self, place: usize, start: u16) {
+        if let Some(entry) = self.table.get_mut(place) {
+            *entry = start;
+        }
     }
-    play
-}
 
-// The host reads an entry.
-pub(crate) fn look(rt: &impl Print, play: Play, table: &[u16], at: usize) -> io::Result<Play> {
-    if at < table.len() {
-        show_value(rt, table[at])?;
+    // The host reads an entry.
+    pub(crate) fn look_up(&self, rt: &impl Print, place: usize) -> io::Result<()> {
+        match self.table.get(place) {
+            Some(start) => println!(rt; "V {start}"),
+            None => Ok(()),
+        }
     }
-    Ok(play)
-}
 
-// The table is filled from the store, for what the board says that it holds.
-pub(crate) fn fill(
-    rt: &impl Print,
-    play: Play,
-    space: &[u8],
-    table: &mut [u16],
-) -> io::Result<Play> {
-    let board = play.board;
-    let engine = board.engine;
-    let n = within(play.store, space);
-    let k = entries_of(play.table, table);
-    let refusal = record::fill(&space[0..n], &mut table[0..k], engine.held);
-    show_filled(rt, refusal)?;
-    Ok(called(play, board))
+    // The table is filled from the store, for what the board says that it holds.
+    pub(crate) fn fill(&mut self, rt: &impl Print) -> io::Result<()> {
+        let held = self.board.engine.held;
+        let refusal = self.lent.fill(held, &self.space, &mut self.table);
+        self.called(self.board);
+        show_filled(rt, refusal)
+    }
 }

@@ -6,17 +6,17 @@ mod host;
 mod quiet;
 mod script;
 mod show;
-mod table;
 
 use board::{Board, Received};
 use host::board_with;
+use record::Held;
 use script::Command;
-use show::{show_heard, show_listing, show_state, show_ticked};
+use show::{show_filled, show_heard, show_listing, show_state, show_ticked};
 use std::alloc::Global;
 use std::io;
 use std::io::{BufRead, BufReader};
 
-// How many bytes of the space are the store, how many entries the table has, and the bytes of the reply buffer.
+// How many bytes the store has that the next call is lent, how many entries the table, and how many bytes the reply buffer.
 #[derive(Clone, Copy)]
 pub(crate) struct Lent {
     pub store: usize,
@@ -44,10 +44,16 @@ impl Lent {
         let k = self.table.min(table.len());
         board.receive(byte, ports, reply, &mut space[..n], &mut table[..k])
     }
+
+    fn fill(self, held: Held, space: &[u8], table: &mut [u16]) -> u16 {
+        let n = self.store.min(space.len());
+        let k = self.table.min(table.len());
+        record::fill(&space[..n], &mut table[..k], held)
+    }
 }
 
-// Where a script has come to: the board, the input ports, the space for stores and tables and what of it the next call is lent, whether a run
-// is over, and whether a line may follow.
+// Where a script has come to: the board, the input ports, the bytes and entries that stores and tables are the first of, how many of them the
+// next call is lent, whether a run is over, and whether a line may follow.
 #[derive(Drop)]
 pub(crate) struct Play {
     pub board: Board,
@@ -72,8 +78,8 @@ impl Play {
         }
     }
 
-    // The store is the first 16,384 bytes of the space. A store of another length is the first bytes of it too: a call that refuses its store
-    // leaves it alone.
+    // The store is the first 16,384 bytes of the space, and the table the first 1,000 entries of its own. One of another length is the first
+    // of them too: a call that refuses its store or its table leaves it alone.
     pub(crate) fn store(&self) -> &[u8] {
         &self.space[..self.lent.store.min(self.space.len())]
     }
@@ -119,11 +125,12 @@ impl Play {
         show_listing(rt, alloc, listed.refusal, &text)
     }
 
-    // The host writes a byte of the store.
-    fn poke(&mut self, at: usize, b: u8) {
-        if let Some(place) = self.space.get_mut(at) {
-            *place = b;
-        }
+    // The table is filled from the store, for what the board says that it holds.
+    fn fill(&mut self, rt: &impl Print) -> io::Result<()> {
+        let held = self.board.engine.held;
+        let refusal = self.lent.fill(held, &self.space, &mut self.table);
+        self.called(self.board);
+        show_filled(rt, refusal)
     }
 
     // What a command does; says whether it could be done.
@@ -149,21 +156,32 @@ impl Play {
             Command::Run(n) => self.run(rt, n)?,
             Command::LendReply(n) => self.lent.reply = n,
             Command::State => show_state(rt, self.board)?,
-            Command::Enter(place, start) => self.enter(place, start),
+            Command::Enter(place, start) => set(&mut self.table, place, start),
             Command::LendTable(n) => self.lent.table = n,
-            Command::Look(place) => self.look_up(rt, place)?,
-            Command::Poke(at, b) => self.poke(at, b),
+            Command::Look(place) => {
+                if let Some(start) = self.table.get(place) {
+                    println!(rt; "V {start}")?;
+                }
+            }
+            Command::Poke(at, b) => set(&mut self.space, at, b),
         }
         Ok(true)
     }
 
-    // One line; says whether it was right.
+    // One line; says whether it was right. No command has more than five fields, so a sixth tells a longer line.
     fn take(&mut self, rt: &impl Print, alloc: Global, line: &[u8]) -> io::Result<bool> {
-        let fields: Vec<&[u8]> = line.split(|b| *b == b' ').collect(alloc)?;
+        let fields: Vec<&[u8]> = line.split(|b| *b == b' ').take(6).collect(alloc)?;
         match Command::of(&fields) {
             Some(command) => self.act(rt, alloc, command),
             None => Ok(false),
         }
+    }
+}
+
+// The host writes a byte of the store or an entry of the table.
+fn set<T: Copy>(places: &mut [T], at: usize, value: T) {
+    if let Some(place) = places.get_mut(at) {
+        *place = value;
     }
 }
 

@@ -163,8 +163,8 @@ fn keep(
 }
 
 // A byte of the store or an entry of the table as a host sets it.
-fn set<T: Copy>(place: Option<&mut T>, value: T) {
-    if let Some(place) = place {
+fn set<T: Copy>(places: &mut [T], at: u32, value: T) {
+    if let Some(place) = places.get_mut(at as usize) {
         *place = value;
     }
 }
@@ -187,7 +187,7 @@ fn act(
         6 => e.hear(byte_of(w[1])),
         7 => begun(rt, e.begin(w[1] == 1, words_of(w)))?,
         8 => {
-            set(store.get_mut(w[1] as usize), byte_of(w[2]));
+            set(store, w[1], byte_of(w[2]));
             e
         }
         9 => e.set_held(held_as(w)),
@@ -199,7 +199,7 @@ fn act(
         15 => e.empty(),
         16 => e.set_output(byte_of(w[1])),
         18 => {
-            set(table.get_mut(w[1] as usize), half_of(w[2]));
+            set(table, w[1], half_of(w[2]));
             e
         }
         19 => e.set_plane(w[1]),

@@ -2,142 +2,82 @@
 // the paper's number, how many numbers it has, and the first eight of them.
 #![tactic(auto)]
 
-ghost use Rattle.std.specs.Prelude.{◌≡◌, ◌≤◌, ◌<◌, length, take};
-ghost use Rattle.std.specs.Io.{ReadsAtMost};
+ghost use Rattle.std.specs.Prelude.{◌≡◌, ◌/◌, IfOk, min, length, vec_len};
 
-use line::{Code, Direct, Letter, Stored};
+use line::{Code, Letter};
+use std::alloc::{AllocError, Global};
 use std::io;
 use std::io::Read;
 
-// The bytes of the hexadecimal pairs from byte `at` on, as many as `out` holds; answers how many.
-fn bytes_of(s: &[u8], at: usize, out: &mut [u8]) -> usize
-    ensures { (result ≤ length out.new) × (result ≡ length (take result out.new)) }
+// The bytes of hexadecimal pairs, 4,096 at most. A digit left over is none.
+fn bytes_of(alloc: Global, pairs: &[u8]) -> Result<Vec<u8>, AllocError>
+    ensures { IfOk result (λ bytes. vec_len bytes ≡ min (length pairs.now / 2) 4096) }
 {
-    let mut i = at;
-    let mut n = 0;
-    while n < out.len() {
-        if s.len() <= i {
-            return n;
-        }
-        if s.len() - i < 2 {
-            return n;
-        }
-        out[n] = (reader::hex_number(s, i, 2) % 256) as u8;
-        i = i + 2;
-        n = n + 1;
-    }
-    n
+    pairs
+        .chunks_exact(2)
+        .take(4096)
+        .map(|pair| (reader::hex_number(pair, 0, 2) % 256) as u8)
+        .collect(alloc)
 }
 
-fn letter_number(letter: Letter) -> u64 {
+fn letter_byte(letter: Letter) -> u8 {
     match letter {
-        Letter::Wrong => 53,
-        Letter::Axes => 48,
-        Letter::Relative => 65,
-        Letter::Absolute => 77,
-        Letter::Origin => 110,
-        Letter::Zero => 78,
-        Letter::Three => 122,
-        Letter::Position => 80,
-        Letter::Input => 98,
-        Letter::Output => 66,
-        Letter::Store => 105,
-        Letter::Empty => 107,
-        Letter::Start => 83,
-        Letter::Plane => 101,
-        Letter::Direction => 102,
-        Letter::Circle => 121,
+        Letter::Wrong => b'5',
+        Letter::Axes => b'0',
+        Letter::Relative => b'A',
+        Letter::Absolute => b'M',
+        Letter::Origin => b'n',
+        Letter::Zero => b'N',
+        Letter::Three => b'z',
+        Letter::Position => b'P',
+        Letter::Input => b'b',
+        Letter::Output => b'B',
+        Letter::Store => b'i',
+        Letter::Empty => b'k',
+        Letter::Start => b'S',
+        Letter::Plane => b'e',
+        Letter::Direction => b'f',
+        Letter::Circle => b'y',
     }
 }
 
-fn code_number(code: Code) -> u64 {
+fn code_byte(code: Code) -> u8 {
     match code {
-        Code::Wrong => 53,
-        Code::Record(c) => c as u64,
-        Code::End => 57,
+        Code::Wrong => b'5',
+        Code::Record(code) => code,
+        Code::End => b'9',
     }
 }
 
-// A space and the number of a word.
-fn print_word(rt: &impl Print, w: u32) -> io::Result<()> {
-    let mut text = [0u8; 11];
-    let n = count::put_word(&mut text, w);
-    print!(rt; " ")?;
-    if n <= 11 {
-        rt.write_all(&text[..n])?;
-    }
-    Ok(())
-}
-
-fn print_row(rt: &impl Print, number: u64, many: usize, words: [u32; 8]) -> io::Result<()> {
-    print!(rt; "{number} {many}")?;
-    for i in 0..8 {
-        print_word(rt, words[i])?;
+fn print_row(rt: &impl Print, byte: u8, count: usize, words: [u32; 8]) -> io::Result<()> {
+    print!(rt; "{byte} {count}")?;
+    for word in words {
+        print!(rt; " {}", word.cast_signed())?;
     }
     println!(rt;)
 }
 
 // One input line.
-fn show(rt: &impl Print, s: &[u8]) -> io::Result<()> {
-    if s.len() < 2 {
+fn show(rt: &impl Print, alloc: Global, row: &[u8]) -> io::Result<()> {
+    if row.len() < 2 {
         return Ok(());
     }
-    let mut bytes = [0u8; 4096];
-    let n = bytes_of(s, 2, &mut bytes);
-    if s[0] == 68 {
-        let d = line::direct_line(&bytes[..n]);
-        let letter = d.letter;
-        let words = d.words;
-        return print_row(rt, letter_number(letter), d.count, words);
+    let bytes = bytes_of(alloc, &row[2..])?;
+    if row[0] == b'D' {
+        let direct = line::direct_line(&bytes);
+        print_row(rt, letter_byte(direct.letter), direct.count, direct.words)
+    } else {
+        let stored = line::stored_line(&bytes);
+        print_row(rt, code_byte(stored.code), stored.count, stored.words)
     }
-    let t = line::stored_line(&bytes[..n]);
-    let code = t.code;
-    let words = t.words;
-    print_row(rt, code_number(code), t.count, words)
 }
 
-// The byte of the first line feed from `at` on, or the length.
-fn line_end(s: &[u8], at: usize) -> usize
-    requires { at ≤ length s.now }
-    ensures { (at ≤ result) × (result ≤ length s.now) }
-{
-    let mut i = at;
-    while i < s.len() {
-        if s[i] == 10 {
-            return i;
-        }
-        i = i + 1;
-    }
-    i
-}
-
-fn show_all(rt: &impl Print, s: &[u8]) -> io::Result<()> {
-    let mut at = 0;
-    while at < s.len() {
-        let end = line_end(s, at);
-        show(rt, &s[at..end])?;
-        at = end + 1;
+// At most 65,536 bytes are read.
+fn main(rt: HostRuntime) -> io::Result<()> {
+    let mut input = Vec::new(rt.alloc());
+    rt.stdin().take(65536).read_to_end(&mut input)?;
+    for row in input.split(|b| *b == b'\n') {
+        show(&rt, rt.alloc(), row)?;
     }
     Ok(())
-}
-
-// Reads until the buffer is full or the input ends, and answers how many bytes of it then stand at the buffer's front.
-fn read_full(from: &mut impl Read, buf: &mut [u8]) -> io::Result<usize>
-    ensures { ReadsAtMost result buf.new }
-{
-    let mut done = 0;
-    while done < buf.len() {
-        let n = from.read(&mut buf[done..])?;
-        if n == 0 {
-            return Ok(done);
-        }
-        done = done + n;
-    }
-    Ok(done)
-}
-
-fn main(rt: HostRuntime) -> io::Result<()> {
-    let mut input = [0u8; 65536];
-    let n = read_full(&mut rt.stdin(), &mut input)?;
-    show_all(&rt, &input[..n])
 }

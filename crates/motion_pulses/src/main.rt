@@ -3,25 +3,46 @@
 // and direction for the first two origins.
 #![tactic(auto)]
 
-ghost use Rattle.std.specs.Io.{ReadsAtMost};
-
 mod arcs;
 
 use arcs::show_arc;
-use motion::{Counters, Move, Sign, Signs, Stepped};
+use motion::{Counters, Move, Sign, Signs};
 use std::io;
 use std::io::Read;
 
+// What pulses are made of: a movement or an arc.
+trait Pulsing: Copy {
+    // The pulses still to make.
+    fn left(self) -> u32;
+
+    // Whether it passes the test of 103 at these counters.
+    fn sound(self, at: Counters) -> bool;
+
+    // The next pulse's signs and speed, the counters after it, and what follows it.
+    fn next(self, at: Counters) -> Option<(Signs, u16, Counters, Self)>;
+}
+
+impl Pulsing for Move {
+    fn left(self) -> u32 {
+        Move::left(self)
+    }
+
+    fn sound(self, at: Counters) -> bool {
+        Move::sound(self, at)
+    }
+
+    fn next(self, at: Counters) -> Option<(Signs, u16, Counters, Move)> {
+        let s = Move::next(self, at)?;
+        Some((s.signs, s.speed, s.at, s.rest))
+    }
+}
+
 fn narrow(w: u32) -> u8 {
-    if w < 256 { w as u8 } else { 0 }
+    u8::try_from(w).unwrap_or(0)
 }
 
 fn counted(w: u32) -> u32 {
-    let p = count::count_of(w);
-    match p {
-        Some(c) => c,
-        None => 0,
-    }
+    count::count_of(w).unwrap_or(0)
 }
 
 fn point(x: u32, y: u32, z: u32, a: u32) -> Counters {
@@ -33,178 +54,103 @@ fn point(x: u32, y: u32, z: u32, a: u32) -> Counters {
     }
 }
 
-fn sign_byte(s: Sign) -> u8 {
-    match s {
-        Sign::Minus => 45,
-        Sign::Rest => 46,
-        Sign::Plus => 43,
-    }
-}
-
-fn show_number(rt: &impl Print, w: u32) -> io::Result<()> {
-    print!(rt; "{w}")
-}
-
-fn show_count(rt: &impl Print, c: u32) -> io::Result<()> {
-    print!(rt; " ")?;
-    if c < 8388608 {
-        print!(rt; "-")?;
-        show_number(rt, 8388608 - c)
-    } else {
-        show_number(rt, c - 8388608)
-    }
+// The number of a count.
+fn number_of(c: u32) -> i64 {
+    i64::from(c) - 8388608
 }
 
 fn show_point(rt: &impl Print, c: Counters) -> io::Result<()> {
-    show_count(rt, c.x)?;
-    show_count(rt, c.y)?;
-    show_count(rt, c.z)?;
-    show_count(rt, c.a)?;
-    println!(rt;)
+    println!(rt;
+        " {} {} {} {}",
+        number_of(c.x),
+        number_of(c.y),
+        number_of(c.z),
+        number_of(c.a)
+    )
 }
 
-fn show_signs(rt: &impl Print, signs: Signs, speed: u16) -> io::Result<()> {
-    let x = signs.x;
-    let y = signs.y;
-    let z = signs.z;
-    let a = signs.a;
-    let bytes = [
-        80,
-        32,
-        sign_byte(x),
-        sign_byte(y),
-        sign_byte(z),
-        sign_byte(a),
-        32,
-    ];
-    rt.write_all(&bytes)?;
-    show_number(rt, speed as u32)?;
-    println!(rt;)
-}
-
-fn show_pulse(rt: &impl Print, s: Stepped) -> io::Result<()> {
-    let signs = s.signs;
-    show_signs(rt, signs, s.speed)
-}
-
-// One count beside.
-fn beside_of(at: Counters) -> Counters {
-    Counters {
-        x: at.x,
-        y: at.y ^ 1,
-        z: at.z,
-        a: at.a,
+fn sign(s: Sign) -> char {
+    match s {
+        Sign::Minus => '-',
+        Sign::Rest => '.',
+        Sign::Plus => '+',
     }
 }
 
-fn show_two(rt: &impl Print, here: bool, beside: bool) -> io::Result<()> {
-    if here {
-        print!(rt; "S 1")?;
-    } else {
-        print!(rt; "S 0")?;
-    }
-    if beside {
-        println!(rt; " 1")
-    } else {
-        println!(rt; " 0")
-    }
+fn show_pulse(rt: &impl Print, s: Signs, speed: u16) -> io::Result<()> {
+    println!(rt;
+        "P {}{}{}{} {speed}",
+        sign(s.x),
+        sign(s.y),
+        sign(s.z),
+        sign(s.a)
+    )
 }
 
-// Whether the movement passes the test of 103 here, and one count beside.
-fn show_sound(rt: &impl Print, m: Move, at: Counters) -> io::Result<()> {
-    let beside = beside_of(at);
-    show_two(rt, m.sound(at), m.sound(beside))
+// Whether it passes the test of 103 here, and one count beside.
+fn show_sound<P: Pulsing>(rt: &impl Print, p: P, at: Counters) -> io::Result<()> {
+    let beside = Counters { y: at.y ^ 1, ..at };
+    println!(rt; "S {} {}", u8::from(p.sound(at)), u8::from(p.sound(beside)))
 }
 
-// All pulses of a movement, of which the first and the last few are printed.
-fn run(rt: &impl Print, start: Move, from: Counters, few: u32) -> io::Result<()> {
+// All pulses, of which the first and the last few are printed; answers what is left after them.
+fn show_pulses<P: Pulsing>(
+    rt: &impl Print,
+    start: P,
+    from: Counters,
+    few: u32,
+) -> io::Result<Option<P>> {
     let total = start.left();
-    let mut m = start;
+    let mut p = start;
     let mut at = from;
-    let mut left = total;
-    while 0 < left {
-        let next = m.next(at);
-        let Some(s) = next else {
-            return Ok(());
+    for made in 0..total {
+        let Some((signs, speed, there, rest)) = p.next(at) else {
+            return Ok(None);
         };
-        if (left <= few) | (total - left < few) {
-            show_pulse(rt, s)?;
+        if made < few || total - made <= few {
+            show_pulse(rt, signs, speed)?;
         }
-        let rest = s.rest;
-        let there = s.at;
-        m = rest;
+        p = rest;
         at = there;
-        left = left - 1;
     }
-    show_sound(rt, m, at)?;
+    show_sound(rt, p, at)?;
     print!(rt; "E")?;
     show_point(rt, at)?;
-    print!(rt; "R")?;
-    show_point(rt, m.resting())
+    Ok(Some(p))
 }
 
 fn show_straight(rt: &impl Print, words: [u32; 20]) -> io::Result<()> {
-    let at = point(words[3], words[4], words[5], words[6]);
-    let origin = point(words[7], words[8], words[9], words[10]);
-    let given = [
-        words[11], words[12], words[13], words[14], words[15], words[16], words[17], words[18],
-    ];
-    let planned = motion::plan(
-        narrow(words[0]),
-        words[1] == 1,
-        at,
-        origin,
-        words[2] == 1,
-        given,
-    );
+    let [axes, three, absolute, x, y, z, a, ox, oy, oz, oa, ..] = words;
+    let at = point(x, y, z, a);
+    let origin = point(ox, oy, oz, oa);
+    let given = *words[11..].first_chunk().unwrap();
+    let planned = motion::plan(narrow(axes), three == 1, at, origin, absolute == 1, given);
     let Some(m) = planned else {
         return println!(rt; "9");
     };
-    print!(rt; "N ")?;
-    show_number(rt, m.left())?;
-    println!(rt;)?;
+    println!(rt; "N {}", m.left())?;
     show_sound(rt, m, at)?;
-    run(rt, m, at, words[19])
-}
-
-fn show(rt: &impl Print, words: [u32; 20]) -> io::Result<()> {
-    if words[2] == 2 {
-        show_arc(rt, words)
-    } else {
-        show_straight(rt, words)
-    }
-}
-
-fn show_all(rt: &impl Print, text: &[u8]) -> io::Result<()> {
-    let mut words: [u32; 20] = [0; 20];
-    let first = reader::next_number(text, 0);
-    let mut left = first.word;
-    let mut at = first.at;
-    while 0 < left {
-        at = reader::next_numbers(text, at, &mut words);
-        show(rt, words)?;
-        left = left - 1;
+    if let Some(rest) = show_pulses(rt, m, at, words[19])? {
+        print!(rt; "R")?;
+        show_point(rt, rest.resting())?;
     }
     Ok(())
 }
 
-// Reads until the buffer is full or the input ends, and answers how many bytes of it then stand at the buffer's front.
-fn read_full(from: &mut impl Read, buf: &mut [u8]) -> io::Result<usize>
-    ensures { ReadsAtMost result buf.new }
-{
-    let mut done = 0;
-    while done < buf.len() {
-        let n = from.read(&mut buf[done..])?;
-        if n == 0 {
-            return Ok(done);
-        }
-        done = done + n;
-    }
-    Ok(done)
-}
-
+// At most 65,536 bytes are read.
 fn main(rt: HostRuntime) -> io::Result<()> {
-    let mut text = [0u8; 65536];
-    let n = read_full(&mut rt.stdin(), &mut text)?;
-    show_all(&rt, &text[..n])
+    let mut text = Vec::new(rt.alloc());
+    rt.stdin().take(65536).read_to_end(&mut text)?;
+    let first = reader::next_number(&text, 0);
+    let mut at = first.at;
+    let mut words = [0; 20];
+    for _ in 0..first.word {
+        at = reader::next_numbers(&text, at, &mut words);
+        if words[2] == 2 {
+            show_arc(&rt, words)?;
+        } else {
+            show_straight(&rt, words)?;
+        }
+    }
+    Ok(())
 }

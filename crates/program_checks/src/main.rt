@@ -2,10 +2,9 @@
 // bytes` in hexadecimal digits, and a line of the store's bytes, two digits each. Writes the verdict, and the places of its first 40 records.
 #![tactic(auto)]
 
-ghost use Rattle.std.specs.Io.{ReadsAtMost};
-
 use program::{Flaw, Going, Loop, Loops};
 use record::Held;
+use std::alloc::Global;
 use std::io;
 use std::io::Read;
 
@@ -19,82 +18,38 @@ fn number(text: &[u8], at: usize) -> u16 {
     (reader::hex_number(text, at, 4) % 65536) as u16
 }
 
-// Reads until the buffer is full or the input ends, and answers how many bytes of it then stand at the buffer's front.
-fn read_full(from: &mut impl Read, buf: &mut [u8]) -> io::Result<usize>
-    ensures { ReadsAtMost result buf.new }
-{
-    let mut done = 0;
-    while done < buf.len() {
-        let n = from.read(&mut buf[done..])?;
-        if n == 0 {
-            return Ok(done);
-        }
-        done = done + n;
-    }
-    Ok(done)
-}
-
-// The byte of the next two digits.
-fn read_byte(from: &mut impl Read) -> io::Result<u8> {
-    let mut pair = [0u8; 2];
-    read_full(from, &mut pair)?;
-    Ok(byte(&pair, 0))
-}
-
-// Reads a byte for each place of the store.
-fn fill(from: &mut impl Read, store: &mut [u8]) -> io::Result<()> {
-    let mut i = 0usize;
-    while i < store.len() {
-        store[i] = read_byte(&mut *from)?;
-        i += 1;
-    }
-    Ok(())
-}
-
-fn put(rt: &impl Print, n: u16) -> io::Result<()> {
-    print!(rt; "{n}")
-}
-
 fn show(rt: &impl Print, checked: Result<(), Flaw>) -> io::Result<()> {
     match checked {
         Ok(()) => print!(rt; "0"),
         Err(Flaw::Fault(rule, place)) => {
-            let text = [rule.letter(), b' '];
-            rt.write_all(&text)?;
-            put(rt, place)
+            rt.write_all(&[rule.letter()])?;
+            print!(rt; " {place}")
         }
         Err(Flaw::Unreadable) => print!(rt; "G"),
     }
 }
 
-fn no_loops() -> Loops {
-    Loops {
-        at: [Loop { place: 0, left: 0 }; 7],
-        depth: 0,
-    }
-}
-
 // The places of a run's first records; the first wait hears another character, the second its own, and so on.
 fn run(rt: &impl Print, store: &[u8], table: &[u16], held: Held) -> io::Result<()> {
-    let mut place = 0u16;
-    let mut loops = no_loops();
-    let mut heard = false;
-    let mut left = 40u16;
-    while 0 < left {
-        left = left - 1;
-        let f = record::fetch(store, table, held, place);
-        if f.len == 0 {
+    let mut place = 0;
+    let mut loops = Loops {
+        at: [Loop { place: 0, left: 0 }; 7],
+        depth: 0,
+    };
+    let mut hears = false;
+    for _ in 0..40 {
+        let fetched = record::fetch(store, table, held, place);
+        if fetched.len == 0 {
             return print!(rt; " E");
         }
-        print!(rt; " ")?;
-        put(rt, place)?;
-        let way = program::onward(f.item, place, held.records, loops);
+        print!(rt; " {place}")?;
+        let way = program::onward(fetched.item, place, held.records, loops);
         loops = way.loops;
         place = match way.going {
             Going::To(next) => next,
             Going::Waits { place, target } => {
-                let next = if heard { target } else { place };
-                heard = !heard;
+                let next = if hears { target } else { place };
+                hears = !hears;
                 next
             }
             Going::Wrong => return print!(rt; " G"),
@@ -104,41 +59,30 @@ fn run(rt: &impl Print, store: &[u8], table: &[u16], held: Held) -> io::Result<(
 }
 
 // Where each record starts, by walking from the front: `record::fill` takes whole stores of at most 1,000 records, and these are any.
-fn walk(table: &mut [u16], store: &[u8], held: Held) {
-    let mut at = 0usize;
-    let mut i = 0usize;
-    while i < table.len() {
-        table[i] = at as u16;
-        let f = record::record_at(store, held, at);
-        at = (at + (f.len as usize)) % 65536;
-        i += 1;
+fn walk(store: &[u8], held: Held) -> [u16; 1000] {
+    let mut table = [0; 1000];
+    let mut at: u16 = 0;
+    for start in table.iter_mut() {
+        *start = at;
+        at = at.wrapping_add(record::record_at(store, held, usize::from(at)).len);
     }
+    table
 }
 
 fn answer(rt: &impl Print, store: &[u8], held: Held) -> io::Result<()> {
     show(rt, program::check(store, held))?;
     if record::readable(store, held) {
-        let mut table = [0u16; 1000];
-        walk(&mut table, store, held);
         print!(rt; ":")?;
-        run(rt, store, &table, held)?;
+        run(rt, store, &walk(store, held), held)?;
     }
     println!(rt;)
 }
 
-// Reads a store and the end of its line, and writes the answer.
-fn on_part(rt: &impl Print, from: &mut impl Read, store: &mut [u8], held: Held) -> io::Result<()> {
-    fill(&mut *from, store)?;
-    let mut end = [0u8; 1];
-    read_full(from, &mut end)?;
-    answer(rt, store, held)
-}
-
-// Reads a program, writes its answer, and says whether there was one.
-fn one_program(rt: &impl Print, from: &mut impl Read) -> io::Result<bool> {
-    let mut line = [0u8; 18];
-    let n = read_full(&mut *from, &mut line)?;
-    if n < 18 {
+// Reads a program, writes its answer, and says whether there was one. Digits that the input lacks are 0.
+fn one_program(rt: &impl Print, alloc: Global, from: &mut impl Read) -> io::Result<bool> {
+    let mut line = Vec::new(alloc);
+    from.by_ref().take(18).read_to_end(&mut line)?;
+    if line.len() < 18 {
         return Ok(false);
     }
     let held = Held {
@@ -146,21 +90,29 @@ fn one_program(rt: &impl Print, from: &mut impl Read) -> io::Result<bool> {
         records: number(&line, 5),
         axes: byte(&line, 10),
     };
-    let mut store = [0u8; 16384];
-    let size = number(&line, 13) as usize;
-    if 16384 < size {
+    let digits = 2 * usize::from(number(&line, 13));
+    if 32768 < digits {
         return Ok(false);
     }
-    on_part(rt, from, &mut store[..size], held)?;
+    let mut text = Vec::new(alloc);
+    from.by_ref().take(digits as u64).read_to_end(&mut text)?;
+    text.resize(digits, b'0')?;
+    from.read(&mut [0])?;
+    let store: Vec<u8> = text
+        .chunks_exact(2)
+        .map(|pair| byte(pair, 0))
+        .collect(alloc)?;
+    answer(rt, &store, held)?;
     Ok(true)
 }
 
-// Nothing says that the input ends, so the turns count down from a number that no run uses up.
+// Nothing says that the input ends, so the turns count to a number that no run uses up.
 fn main(rt: HostRuntime) -> io::Result<()> {
     let mut from = rt.stdin();
-    let mut turns = u64::MAX;
-    while turns > 0 && one_program(&rt, &mut from)? {
-        turns -= 1;
+    for _ in 0..u64::MAX {
+        if !one_program(&rt, rt.alloc(), &mut from)? {
+            break;
+        }
     }
     Ok(())
 }

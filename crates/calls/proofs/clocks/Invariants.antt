@@ -1,5 +1,0 @@
--- `clocks` ends, since it counts down.
-use Rattle.calls.proofs.clocks.Given as goal
-
-abbrev pub decreases-loop-left : goal.decreases-loop-left
-decreases-loop-left g l = l.left

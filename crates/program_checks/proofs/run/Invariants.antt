@@ -1,5 +1,0 @@
--- `run` ends, since it counts down.
-use Rattle.program_checks.proofs.run.Given as goal
-
-abbrev pub decreases-loop-left : goal.decreases-loop-left
-decreases-loop-left g l = l.left

@@ -11,6 +11,7 @@ use std::io::Read;
 const MOST: u32 = 100000;
 
 // A walk with what its board is lent, and the buffer of which so much waits to be written.
+#[derive(Drop)]
 struct Session {
     walk: Walk,
     store: [u8; 16384],

@@ -21,5 +21,5 @@ chain_steps s = s.1.1.0
 pub chain-one : (κs : _) (a : _) (r r' : _) (s s' : _) → chain.Post κs a r s → chain.Post κs a r' s' → (r ≡ r') × ((chain_steps s).now ≡ (chain_steps s').now)
 chain-one κs a r r' s s' p q = (number_of-one r r' (ap (λ (x : Chained). x.refusal) (p ∙ sym q)), ap (λ (x : Chained). x.steps) (p ∙ sym q))
 
-pub number-one-of : (κs : _) (a : _) (r r' : _) (s s' : _) → number.Post κs a r s → number.Post κs a r' s' → r ≡ r'
-number-one-of κs a r r' s s' p q = p ∙ sym q
+pub number-one : (κs : _) (a : _) (r r' : _) (s s' : _) → number.Post κs a r s → number.Post κs a r' s' → r ≡ r'
+number-one κs a r r' s s' p q = p ∙ sym q

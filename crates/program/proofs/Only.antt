@@ -6,6 +6,7 @@ use Rattle.program.proofs.accepting.accepts.Reads as accepts
 use Rattle.program.proofs.ending.check.Reads as check
 use Rattle.program.proofs.running.leap.Reads as leap
 use Rattle.program.proofs.Lead.loops.Reads as loops
+use Rattle.program.proofs.Rule.letter.Reads as letter
 use Rattle.program.proofs.running.onward.Reads as onward
 
 pub check-one : (κs : _) (a : _) (r r' : _) (s s' : _) → check.Post κs a r s → check.Post κs a r' s' → r ≡ r'
@@ -22,3 +23,6 @@ onward-one κs a r r' s s' p q = way-only r r' (p ∙ sym q)
 
 pub accepts-one : (κs : _) (a : _) (r r' : _) (s s' : _) → accepts.Post κs a r s → accepts.Post κs a r' s' → r ≡ r'
 accepts-one κs a r r' s s' p q = acceptance-only r r' (p ∙ sym q)
+
+pub letter-one : (κs : _) (a : _) (r r' : _) (s s' : _) → letter.Post κs a r s → letter.Post κs a r' s' → r ≡ r'
+letter-one κs a r r' s s' p q = p ∙ sym q

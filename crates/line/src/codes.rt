@@ -27,7 +27,8 @@ pub fn stored_line(line: &[u8]) -> Option<Stored>
         return None;
     }
     let code = code_of(line[0])?;
-    if matches!(code, Code::End) && line.len() != 1 {
+    let alone = line.len() == 1;
+    if matches!(code, Code::End) && !alone {
         return None;
     }
     let read = numbers::read_behind(line, 1)?;

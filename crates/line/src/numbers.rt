@@ -99,11 +99,12 @@ pub(crate) fn read_behind(s: &[u8], at: usize) -> Option<Items>
     requires { at ≤ length s.now }
     ensures { result ≡ items (behind (drop at s.now)) }
 {
+    let from = past_space(s, at);
     if s.len() == at {
         return Some(Items {
             count: 0,
             words: [0u32; 8],
         });
     }
-    read_numbers(s, past_space(s, at))
+    read_numbers(s, from)
 }

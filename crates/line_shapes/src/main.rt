@@ -5,7 +5,7 @@
 ghost use Rattle.std.specs.Prelude.{◌≡◌, ◌≤◌, ◌<◌, length, take};
 ghost use Rattle.std.specs.Io.{ReadsAtMost};
 
-use line::{Code, Direct, Letter, Stored};
+use line::{Code, Letter};
 use std::io;
 use std::io::Read;
 
@@ -31,7 +31,6 @@ fn bytes_of(s: &[u8], at: usize, out: &mut [u8]) -> usize
 
 fn letter_number(letter: Letter) -> u64 {
     match letter {
-        Letter::Wrong => 53,
         Letter::Axes => 48,
         Letter::Relative => 65,
         Letter::Absolute => 77,
@@ -52,8 +51,7 @@ fn letter_number(letter: Letter) -> u64 {
 
 fn code_number(code: Code) -> u64 {
     match code {
-        Code::Wrong => 53,
-        Code::Record(c) => c as u64,
+        Code::Record(c) => u64::from(c),
         Code::End => 57,
     }
 }
@@ -77,6 +75,11 @@ fn print_row(rt: &impl Print, number: u64, many: usize, words: [u32; 8]) -> io::
     println!(rt;)
 }
 
+// A wrong shape is the paper's 5, and has no numbers.
+fn print_wrong(rt: &impl Print) -> io::Result<()> {
+    print_row(rt, u64::from(b'5'), 0, [0u32; 8])
+}
+
 // One input line.
 fn show(rt: &impl Print, s: &[u8]) -> io::Result<()> {
     if s.len() < 2 {
@@ -84,16 +87,22 @@ fn show(rt: &impl Print, s: &[u8]) -> io::Result<()> {
     }
     let mut bytes = [0u8; 4096];
     let n = bytes_of(s, 2, &mut bytes);
-    if s[0] == 68 {
-        let d = line::direct_line(&bytes[..n]);
-        let letter = d.letter;
-        let words = d.words;
-        return print_row(rt, letter_number(letter), d.count, words);
+    if s[0] == b'D' {
+        return match line::direct_line(&bytes[..n]) {
+            Some(d) => {
+                let words = d.words;
+                print_row(rt, letter_number(d.letter), d.count, words)
+            }
+            None => print_wrong(rt),
+        };
     }
-    let t = line::stored_line(&bytes[..n]);
-    let code = t.code;
-    let words = t.words;
-    print_row(rt, code_number(code), t.count, words)
+    match line::stored_line(&bytes[..n]) {
+        Some(t) => {
+            let words = t.words;
+            print_row(rt, code_number(t.code), t.count, words)
+        }
+        None => print_wrong(rt),
+    }
 }
 
 // The byte of the first line feed from `at` on, or the length.

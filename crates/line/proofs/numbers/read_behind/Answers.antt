@@ -17,10 +17,10 @@ returns-then-s-at c =
 
 pub read_numbers-requires : goal.read_numbers-requires
 read_numbers-requires c =
-    rw c.past_space.ensures (spaced-on c.args.s.now c.args.at c.requires).1
+    rw c.past_space-from.ensures (spaced-on c.args.s.now c.args.at c.requires).1
 
 pub returns : goal.returns
 returns c =
     let h : c.args.at < length c.args.s.now = omega (arith, c.requires, c.if-s-at.false) in
     c.read_numbers.ensures
-    ∙ rw c.past_space.ensures (sym (ap items (behind-spaced c.args.s.now c.args.at h)))
+    ∙ rw c.past_space-from.ensures (sym (ap items (behind-spaced c.args.s.now c.args.at h)))

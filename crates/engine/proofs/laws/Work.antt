@@ -1,4 +1,5 @@
 -- What the code of a clock call leans on: what a fetch that found a record says of it, and the counters after a pulse. Assumes nothing.
+use Rattle.std.specs.Prelude.{Some, None}
 use Prim.Native.Nat.{ℕ, zero, suc, ◌+◌, ◌-◌, ◌<◌, ◌≤◌}
 use mathlib.Core.Path.{◌≡◌, refl, ap, sym, ◌∙◌, subst}
 use mathlib.Core.Bool.{Bool, true, false, ◌&&◌}
@@ -15,9 +16,6 @@ use Rattle.count.proofs.laws.Laws.{within-up, within-zero}
 use Rattle.count.proofs.laws.Truth.{and_left, and_right}
 use Rattle.motion.specs.declared.Counters.{Counters}
 use Rattle.motion.specs.declared.Signs.{Signs}
-use Rattle.motion.specs.declared.Moved.TheVariants as moved
-use Rattle.motion.specs.declared.Beaten.TheVariants as beat
-use Rattle.motion.specs.declared.Next.TheVariants as straight
 use Rattle.motion.specs.declared.Move.{Move}
 use Rattle.motion.specs.Phase.{moved_all}
 use Rattle.motion.specs.Plan.{asked}
@@ -67,7 +65,7 @@ Adds at Over = Unit
 
 -- of a straight movement, by any rule
 module _ (rule : SignRule) (m : Move) (at : Counters) where
-  straight-by : (t : Bool) (g : Signs) → Adds at (straight_next (pick t (straight.Made (stepped (settled m) at g)) straight.Over))
+  straight-by : (t : Bool) (g : Signs) → Adds at (straight_next (pick t (Some (stepped (settled m) at g)) None))
   straight-by true g = refl
   straight-by false g = tt
 
@@ -79,7 +77,7 @@ module _ (rule : SignRule) (m : Move) (at : Counters) where
 
 -- of an arc
 module _ (a : Arc) (at : Counters) where
-  round_by : (t u : Bool) (g : Signs) → Adds at (arc_next a (pick t (beat_to a g (pick u (moved.To (moved_all at g)) moved.Outside)) beat.Over))
+  round_by : (t u : Bool) (g : Signs) → Adds at (arc_next a (pick t (beat_to a g (pick u (Some (moved_all at g)) None)) None))
   round_by true true g = refl
   round_by true false g = tt
   round_by false u g = tt

@@ -54,6 +54,7 @@ fn beside_a(axes: u8) -> u8
 }
 
 // The counters of the axes named from one, the others from another.
+#[tactic(auto, unfolding(crate::specs::State::mixed))]
 fn mix(axes: u32, c: Counters, d: Counters) -> Counters
     ensures { result ≡ mixed axes c d }
 {
@@ -223,6 +224,7 @@ impl Engine {
     }
 
     // A reset: a fresh engine, but the store kept, unless it is being written.
+    #[tactic(auto, unfolding(crate::specs::State::reset_of))]
     pub fn reset(self) -> Engine
         ensures { result ≡ reset_of self }
     {
@@ -233,6 +235,7 @@ impl Engine {
     }
 
     // A byte at a wait.
+    #[tactic(auto, unfolding(crate::specs::State::heard))]
     pub fn hear(self, byte: u8) -> Engine
         ensures { result ≡ heard byte self }
     {
@@ -270,6 +273,7 @@ impl Engine {
     }
 
     // A direct movement's line.
+    #[tactic(auto, unfolding(crate::specs::State::begin_of))]
     pub fn begin(self, absolute: bool, words: [u32; 8]) -> Begun
         ensures { result ≡ begin_of absolute words self }
     {
@@ -277,6 +281,7 @@ impl Engine {
     }
 
     // A direct circle's line.
+    #[tactic(auto, unfolding(crate::specs::State::circle_begun))]
     pub fn begin_circle(self, words: [u32; 8]) -> Begun
         ensures { result ≡ circle_begun words self }
     {
@@ -284,6 +289,7 @@ impl Engine {
     }
 
     // What moves with its counters and what is left of it, further on.
+    #[tactic(auto, unfolding(crate::specs::work::Glide::glided))]
     pub fn glide(self, at: Counters, rest: Travel) -> Engine
         ensures { result ≡ glided at rest self }
     {

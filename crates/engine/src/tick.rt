@@ -135,6 +135,7 @@ impl Engine {
     }
 
     // Whether a clock call has something to do.
+    #[tactic(auto, unfolding(crate::specs::Tick::runs_of))]
     pub fn runs(self) -> bool
         ensures { result ≡ runs_of self }
     {

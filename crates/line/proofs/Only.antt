@@ -12,7 +12,7 @@ use Rattle.line.specs.Letter.{Letter}
 use Rattle.line.specs.Letter as letter
 use Rattle.line.specs.Code.{Code}
 use Rattle.line.specs.Code as code
-use Rattle.line.specs.Said.{Direct, Stored, letter_said, code_said, direct_said, stored_said}
+use Rattle.line.specs.Said.{Direct, Stored, letter_said, code_said, direct_found, stored_found}
 use Rattle.line.proofs.letters.direct_line.Reads as direct-line
 use Rattle.line.proofs.codes.stored_line.Reads as stored-line
 
@@ -57,7 +57,7 @@ abbrev direct_by : Option Found → Direct → Option FoundDirect
 direct_by (Some l) d = Some (record { letter = l; count = d.count; words = d.words })
 direct_by None d = None
 
-direct-back : (r : Option FoundDirect) → direct_by (letter_back (direct_said r).letter) (direct_said r) ≡ r
+direct-back : (r : Option FoundDirect) → direct_by (letter_back (direct_found r).letter) (direct_found r) ≡ r
 direct-back (Some d) = rw (letter-same d.letter)
 direct-back None = refl
 
@@ -74,20 +74,20 @@ abbrev stored_by : Option FoundCode → Stored → Option FoundStored
 stored_by (Some k) d = Some (record { code = k; count = d.count; words = d.words })
 stored_by None d = None
 
-stored-back : (r : Option FoundStored) → stored_by (code_back (stored_said r).code) (stored_said r) ≡ r
+stored-back : (r : Option FoundStored) → stored_by (code_back (stored_found r).code) (stored_found r) ≡ r
 stored-back (Some d) = rw (code-same d.code)
 stored-back None = refl
 
 -- ---- so a line says one thing
 
-pub direct-said-one : (r r' : Option FoundDirect) → direct_said r ≡ direct_said r' → r ≡ r'
-direct-said-one r r' e = sym (direct-back r) ∙ ap (λ (d : Direct). direct_by (letter_back d.letter) d) e ∙ direct-back r'
+pub direct-found-one : (r r' : Option FoundDirect) → direct_found r ≡ direct_found r' → r ≡ r'
+direct-found-one r r' e = sym (direct-back r) ∙ ap (λ (d : Direct). direct_by (letter_back d.letter) d) e ∙ direct-back r'
 
-pub stored-said-one : (r r' : Option FoundStored) → stored_said r ≡ stored_said r' → r ≡ r'
-stored-said-one r r' e = sym (stored-back r) ∙ ap (λ (d : Stored). stored_by (code_back d.code) d) e ∙ stored-back r'
+pub stored-found-one : (r r' : Option FoundStored) → stored_found r ≡ stored_found r' → r ≡ r'
+stored-found-one r r' e = sym (stored-back r) ∙ ap (λ (d : Stored). stored_by (code_back d.code) d) e ∙ stored-back r'
 
 pub direct-line-one : (κs : _) (a : _) (r r' : _) (s s' : _) → direct-line.Post κs a r s → direct-line.Post κs a r' s' → r ≡ r'
-direct-line-one κs a r r' s s' p q = direct-said-one r r' (p ∙ sym q)
+direct-line-one κs a r r' s s' p q = direct-found-one r r' (p ∙ sym q)
 
 pub stored-line-one : (κs : _) (a : _) (r r' : _) (s s' : _) → stored-line.Post κs a r s → stored-line.Post κs a r' s' → r ≡ r'
-stored-line-one κs a r r' s s' p q = stored-said-one r r' (p ∙ sym q)
+stored-line-one κs a r r' s s' p q = stored-found-one r r' (p ∙ sym q)

@@ -57,10 +57,10 @@ code_found None = code.Wrong
 
 -- ---- the code's lines
 
-abbrev pub direct_said : Option FoundDirect → Direct
-direct_said (Some d) = record { letter = letter_said d.letter; count = d.count; words = d.words }
-direct_said None = record { letter = letter.Wrong; count = 0; words = pad 8 [] }
+abbrev pub direct_found : Option FoundDirect → Direct
+direct_found (Some d) = record { letter = letter_said d.letter; count = d.count; words = d.words }
+direct_found None = record { letter = letter.Wrong; count = 0; words = pad 8 [] }
 
-abbrev pub stored_said : Option FoundStored → Stored
-stored_said (Some d) = record { code = code_said d.code; count = d.count; words = d.words }
-stored_said None = record { code = code.Wrong; count = 0; words = pad 8 [] }
+abbrev pub stored_found : Option FoundStored → Stored
+stored_found (Some d) = record { code = code_said d.code; count = d.count; words = d.words }
+stored_found None = record { code = code.Wrong; count = 0; words = pad 8 [] }

@@ -1,6 +1,6 @@
 // A line while storing: its code, and the numbers behind it.
 ghost use Rattle.std.specs.Prelude.{◌≡◌};
-ghost use Rattle.line.specs.Said.{code_found, stored_said};
+ghost use Rattle.line.specs.Said.{code_found, stored_found};
 ghost use Rattle.line.specs.Lines.{code_of, stored_of};
 
 use crate::{Code, Stored, numbers};
@@ -21,7 +21,7 @@ fn code_of(b: u8) -> Option<Code>
 
 // A line while storing: a code, at most one space, then numbers; `9` alone ends storing. None for a wrong shape.
 pub fn stored_line(line: &[u8]) -> Option<Stored>
-    ensures { stored_said result ≡ stored_of line.now }
+    ensures { stored_found result ≡ stored_of line.now }
 {
     if line.len() == 0 {
         return None;

@@ -1,6 +1,6 @@
 // A line outside storing: its letter, and the numbers behind it.
 ghost use Rattle.std.specs.Prelude.{◌≡◌, true, IfSome};
-ghost use Rattle.line.specs.Said.{letter_said, letter_found, direct_said};
+ghost use Rattle.line.specs.Said.{letter_said, letter_found, direct_found};
 ghost use Rattle.line.specs.Lines.{letter_of, direct_of};
 ghost use Rattle.line.specs.work.Reading.{lettered};
 
@@ -46,7 +46,7 @@ fn with_letter(letter: Letter, read: Items) -> Direct
 
 // A line outside storing: `@0`, a letter, at most one space, then numbers; setting axes has no letter and no space. None for a wrong shape.
 pub fn direct_line(line: &[u8]) -> Option<Direct>
-    ensures { direct_said result ≡ direct_of line.now }
+    ensures { direct_found result ≡ direct_of line.now }
 {
     if line.len() < 3 || line[0] != b'@' || line[1] != b'0' {
         return None;

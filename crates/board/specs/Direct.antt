@@ -10,9 +10,9 @@ use Rattle.circle.specs.Plan.{plane_of, direction_of}
 use Rattle.travel.specs.Plan.{plan_of, circle_of, refusal}
 use Rattle.record.specs.Memory.{Memory}
 use Rattle.record.specs.Fault.{Asks, asking, just, any, unknown, asks, numbers_reply}
-use Rattle.line.specs.declared.Letter.{Letter}
-use Rattle.line.specs.declared.Letter.TheVariants as letter
-use Rattle.line.specs.declared.Direct.{Direct}
+use Rattle.line.specs.Letter.{Letter}
+use Rattle.line.specs.Letter as letter
+use Rattle.line.specs.Said.{Direct}
 use Rattle.engine.specs.declared.Engine.{Engine}
 use Rattle.engine.specs.declared.Begun.{Begun}
 use Rattle.engine.specs.State.{with_three, with_plane, with_direction, with_output, axes_of, origin_of, zero_of, started, emptied, storing_of, begin_of, circle_begun}

@@ -10,9 +10,9 @@ use Rattle.record.specs.Memory.{Memory}
 use Rattle.record.specs.Keep.{store_of}
 use Rattle.program.specs.Verdict.{Verdict, Sound, Fault, Unreadable}
 use Rattle.program.specs.Program.{verdict_of, is_sound}
-use Rattle.line.specs.declared.Code.{Code}
-use Rattle.line.specs.declared.Code.TheVariants as code
-use Rattle.line.specs.declared.Stored.{Stored}
+use Rattle.line.specs.Code.{Code}
+use Rattle.line.specs.Code as code
+use Rattle.line.specs.Said.{Stored}
 use Rattle.engine.specs.State.{with_held, emptied, ceased}
 use Rattle.board.specs.declared.Board.{Board}
 use Rattle.board.specs.State.{board, no_line, line_done, Said, said}

@@ -1,5 +1,6 @@
 // The effects of a line outside storing whose letter and numbers are right, and its reply.
 ghost use Rattle.std.specs.Prelude.{◌≡◌, ◌%◌, get_or};
+ghost use Rattle.line.specs.Said.{letter_said, direct_found};
 ghost use Rattle.board.specs.State.{board, no_line};
 ghost use Rattle.board.specs.work.Work.{spoke_of, replied_with, begun_with, started_by, affected, obeyed};
 
@@ -84,13 +85,12 @@ impl Board {
     }
 
     fn affect(self, letter: Letter, words: [u32; 8], ports: [u8; 4]) -> Spoke
-        ensures { result ≡ affected letter words ports self }
+        ensures { result ≡ affected (letter_said letter) words ports self }
     {
         let e = self.engine;
         let w = words[0];
         let named = low(w);
         match letter {
-            Letter::Wrong => self.replies(e, b'5'),
             Letter::Axes => self.replies(e.set_axes(named), b'0'),
             Letter::Relative => self.begin(e.begin(false, words)),
             Letter::Absolute => self.begin(e.begin(true, words)),
@@ -112,17 +112,22 @@ impl Board {
         }
     }
 
-    // A line outside storing: its first fault, or its effect.
-    pub(crate) fn obey(self, d: Direct, ports: [u8; 4]) -> Spoke
-        ensures { result ≡ obeyed d ports self }
+    // A line outside storing: 5 where its shape is wrong, its first fault, or its effect.
+    #[tactic(auto, unfolding(crate::specs::work::Work::obeyed))]
+    pub(crate) fn obey(self, d: Option<Direct>, ports: [u8; 4]) -> Spoke
+        ensures { result ≡ obeyed (direct_found d) ports self }
     {
         let e = self.engine;
-        let fault = letters::line_fault(e.axes, self.standing, d);
-        if fault != b'0' {
-            return self.replies(e, fault);
+        match d {
+            None => self.replies(e, b'5'),
+            Some(d) => {
+                let fault = letters::line_fault(e.axes, self.standing, d);
+                if fault != b'0' {
+                    return self.replies(e, fault);
+                }
+                let words = d.words;
+                self.affect(d.letter, words, ports)
+            }
         }
-        let words = d.words;
-        let letter = d.letter;
-        self.affect(letter, words, ports)
     }
 }

@@ -1,5 +1,6 @@
 // The line being gathered: an empty one, one byte more, and what it says at its carriage return.
 ghost use Rattle.std.specs.Prelude.{◌≡◌, ◌≤◌};
+ghost use Rattle.line.specs.Said.{direct_found, stored_found};
 ghost use Rattle.line.specs.Lines.{direct_of, stored_of};
 ghost use Rattle.board.specs.State.{no_line, gathered, text_of};
 ghost use Rattle.board.specs.work.Take.{lined_of};
@@ -36,9 +37,9 @@ impl Line {
     }
 
     // The line as one outside storing.
-    pub(crate) fn as_direct(self) -> Direct
+    pub(crate) fn as_direct(self) -> Option<Direct>
         requires { self.len ≤ 80 }
-        ensures { result ≡ direct_of (text_of self) }
+        ensures { direct_found result ≡ direct_of (text_of self) }
     {
         let bytes = self.bytes;
         let n = self.len as usize;
@@ -46,9 +47,9 @@ impl Line {
     }
 
     // The line as one while storing.
-    pub(crate) fn as_stored(self) -> Stored
+    pub(crate) fn as_stored(self) -> Option<Stored>
         requires { self.len ≤ 80 }
-        ensures { result ≡ stored_of (text_of self) }
+        ensures { stored_found result ≡ stored_of (text_of self) }
     {
         let bytes = self.bytes;
         let n = self.len as usize;

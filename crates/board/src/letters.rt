@@ -1,79 +1,28 @@
 // What each letter asks of its line, and the first fault of a line outside storing.
-ghost use Rattle.std.specs.Prelude.{◌≡◌};
-ghost use Rattle.board.specs.Direct.{is_wrong, heard_standing, needs_axes};
+#![tactic(auto, unfolding(crate::specs::work::Work::axes_fault, crate::specs::work::Work::input_fault, crate::specs::work::Work::output_fault))]
+
+ghost use Rattle.std.specs.Prelude.{◌≡◌, Some};
+ghost use Rattle.line.specs.Said.{letter_said, direct_found};
+ghost use Rattle.board.specs.Direct.{heard_standing, needs_axes};
 ghost use Rattle.board.specs.work.Work.{count_fault, seven_fault, axes_fault, input_fault, output_fault, numbers_fault, line_fault};
 
 use line::{Direct, Letter};
 
-fn is_wrong(letter: Letter) -> bool
-    ensures { result ≡ is_wrong letter }
-{
-    match letter {
-        Letter::Wrong => true,
-        Letter::Axes => false,
-        Letter::Relative => false,
-        Letter::Absolute => false,
-        Letter::Origin => false,
-        Letter::Zero => false,
-        Letter::Three => false,
-        Letter::Position => false,
-        Letter::Input => false,
-        Letter::Output => false,
-        Letter::Store => false,
-        Letter::Empty => false,
-        Letter::Start => false,
-        Letter::Plane => false,
-        Letter::Direction => false,
-        Letter::Circle => false,
-    }
-}
-
 // P, b and S are heard while something stands stopped.
 fn is_heard(letter: Letter) -> bool
-    ensures { result ≡ heard_standing letter }
+    ensures { result ≡ heard_standing (letter_said letter) }
 {
-    match letter {
-        Letter::Wrong => false,
-        Letter::Axes => false,
-        Letter::Relative => false,
-        Letter::Absolute => false,
-        Letter::Origin => false,
-        Letter::Zero => false,
-        Letter::Three => false,
-        Letter::Position => true,
-        Letter::Input => true,
-        Letter::Output => false,
-        Letter::Store => false,
-        Letter::Empty => false,
-        Letter::Start => true,
-        Letter::Plane => false,
-        Letter::Direction => false,
-        Letter::Circle => false,
-    }
+    matches!(letter, Letter::Position | Letter::Input | Letter::Start)
 }
 
 // A, M, n, N, z, i, S, e, f and y need axes.
 fn needs_axes(letter: Letter) -> bool
-    ensures { result ≡ needs_axes letter }
+    ensures { result ≡ needs_axes (letter_said letter) }
 {
-    match letter {
-        Letter::Wrong => false,
-        Letter::Axes => false,
-        Letter::Relative => true,
-        Letter::Absolute => true,
-        Letter::Origin => true,
-        Letter::Zero => true,
-        Letter::Three => true,
-        Letter::Position => false,
-        Letter::Input => false,
-        Letter::Output => false,
-        Letter::Store => true,
-        Letter::Empty => false,
-        Letter::Start => true,
-        Letter::Plane => true,
-        Letter::Direction => true,
-        Letter::Circle => true,
-    }
+    !matches!(
+        letter,
+        Letter::Axes | Letter::Position | Letter::Input | Letter::Output | Letter::Empty
+    )
 }
 
 // A line without numbers: 7 if it has some.
@@ -132,37 +81,29 @@ fn output_fault(count: usize, port: u32, value: u32) -> u8
 
 // 7, 3, 1 and D in this order, or 0; A and M are a record's `0` and `m`, n and N its `n`, z, e and f its own. A circle's plan asks the rest.
 fn numbers_fault(letter: Letter, axes: u8, count: usize, words: [u32; 8]) -> u8
-    ensures { result ≡ numbers_fault letter axes count words }
+    ensures { result ≡ numbers_fault (letter_said letter) axes count words }
 {
     match letter {
-        Letter::Wrong => b'7',
         Letter::Axes => axes_fault(axes, count, words[0]),
         Letter::Relative => record::record_fault(axes, b'0', count, words),
         Letter::Absolute => record::record_fault(axes, b'm', count, words),
-        Letter::Origin => record::record_fault(axes, b'n', count, words),
-        Letter::Zero => record::record_fault(axes, b'n', count, words),
+        Letter::Origin | Letter::Zero => record::record_fault(axes, b'n', count, words),
         Letter::Three => record::record_fault(axes, b'z', count, words),
-        Letter::Position => count_fault(count),
+        Letter::Position | Letter::Store | Letter::Empty | Letter::Start => count_fault(count),
         Letter::Input => input_fault(count, words[0]),
         Letter::Output => output_fault(count, words[0], words[1]),
-        Letter::Store => count_fault(count),
-        Letter::Empty => count_fault(count),
-        Letter::Start => count_fault(count),
         Letter::Plane => record::record_fault(axes, b'e', count, words),
         Letter::Direction => record::record_fault(axes, b'f', count, words),
         Letter::Circle => seven_fault(count),
     }
 }
 
-// The first fault of a line: 5, W, 4, 7, 3, 1 and D in this order, or 0.
+// The first fault of a line whose shape is right: W, 4, 7, 3, 1 and D in this order, or 0.
 pub(crate) fn line_fault(axes: u8, standing: bool, d: Direct) -> u8
-    ensures { result ≡ line_fault axes standing d }
+    ensures { result ≡ line_fault axes standing (direct_found (Some d)) }
 {
     let letter = d.letter;
     let words = d.words;
-    if is_wrong(letter) {
-        return b'5';
-    }
     if standing & !is_heard(letter) {
         return b'W';
     }

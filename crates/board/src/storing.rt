@@ -1,7 +1,8 @@
 // A line while storing: a record's, or the end.
-ghost use Rattle.std.specs.Prelude.{◌≡◌, true, ◌≤◌};
+ghost use Rattle.std.specs.Prelude.{◌≡◌, true, ◌≤◌, Some};
 ghost use Rattle.record.specs.Memory.{memory};
 ghost use Rattle.record.specs.Fault.{is_code};
+ghost use Rattle.line.specs.Said.{stored_found};
 ghost use Rattle.line.specs.Lines.{stored_of};
 ghost use Rattle.board.specs.State.{text_of};
 ghost use Rattle.board.specs.Storing.{record_of, record_said, stored_said};
@@ -28,7 +29,7 @@ impl Board {
 
     fn record_line(self, code: u8, d: Stored, store: &mut [u8], table: &mut [u16]) -> Spoke
         requires { is_code code ≡ true }
-        ensures { spoke result (memory store.new table.new) ≡ record_said (record_of code d) self (memory store.old table.old) }
+        ensures { spoke result (memory store.new table.new) ≡ record_said (record_of code (stored_found (Some d))) self (memory store.old table.old) }
     {
         let e = self.engine;
         let held = e.held;
@@ -64,13 +65,12 @@ impl Board {
         requires { self.line.len ≤ 80 }
         ensures { spoke result (memory store.new table.new) ≡ stored_said (stored_of (text_of self.line)) self (memory store.old table.old) }
     {
-        let l = self.line;
-        let d = l.as_stored();
-        let code = d.code;
-        match code {
-            Code::Wrong => self.replies(self.engine, b'5'),
-            Code::Record(c) => self.record_line(c, d, store, table),
-            Code::End => self.end_storing(&store[..]),
+        match self.line.as_stored() {
+            None => self.replies(self.engine, b'5'),
+            Some(d) => match d.code {
+                Code::Record(c) => self.record_line(c, d, store, table),
+                Code::End => self.end_storing(&store[..]),
+            },
         }
     }
 }

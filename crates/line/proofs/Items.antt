@@ -1,6 +1,7 @@
 -- The numbers of a line read one after the other, each in one pass, are the numbers of the texts between the commas. Assumes nothing.
 use Prim.Native.Nat.{ℕ, suc, ◌+◌, ◌-◌, ◌*◌, ◌<◌, ◌≤◌}
 use mathlib.Core.Path.{◌≡◌, refl, ap, sym, ◌∙◌}
+use Rattle.std.specs.Prelude.{Option, Some, None}
 use mathlib.Core.List.{List, [], ◌∷◌, ◌++◌, map, append-nil, append_assoc}
 use mathlib.Core.Bool.{Bool, true, false}
 use native.Mathlib.Numerals.{add-one}
@@ -14,17 +15,16 @@ use Rattle.count.specs.Numbers.{word, with_sign}
 use Rattle.count.proofs.laws.Words.{pad-put}
 use Rattle.count.specs.Words.{pad}
 use Rattle.line.specs.declared.numbers.Item.{Item}
-use Rattle.line.specs.declared.numbers.Item.TheVariants.{Last, More, Wrong}
 use Rattle.line.specs.declared.numbers.Items.{Items}
 use Rattle.line.specs.Numbers.{Size, size, no_size, digits_behind, digits_of, Number, is, no_number, plus, minus, number_of, past_space, item_of, onto, parted, Numbers, are, wrong, and_then, items_of, first_of, numbers_of}
-use Rattle.line.specs.work.Reading.{reading, item_from, spaced, items}
+use Rattle.line.specs.work.Reading.{last, more, reading, item_from, spaced, items}
 use Rattle.line.proofs.Spaces.{tail, past-spaced}
 
 -- ---- 1 to 8 digits, digit by digit: d of them were read, of the size v
 
-abbrev more : ℕ → ℕ → List ℕ → Size
-more d v [] = pick (eqb d 0) no_size (size v)
-more d v (b ∷ s) = pick (ltb b 48) no_size (pick (ltb 57 b) no_size (pick (ltb d 8) (more (d + 1) (10 * v + (b - 48)) s) no_size))
+abbrev digits_from : ℕ → ℕ → List ℕ → Size
+digits_from d v [] = pick (eqb d 0) no_size (size v)
+digits_from d v (b ∷ s) = pick (ltb b 48) no_size (pick (ltb 57 b) no_size (pick (ltb d 8) (digits_from (d + 1) (10 * v + (b - 48)) s) no_size))
 
 abbrev sized : ℕ → Size → Size
 sized n x = pick (eqb n 0) no_size (pick (ltb 8 n) no_size x)
@@ -34,7 +34,7 @@ none true b = refl
 none false true = refl
 none false false = refl
 
-more-end : (d v : ℕ) → d ≤ 8 → more d v [] ≡ sized (d + 0) (size v)
+more-end : (d v : ℕ) → d ≤ 8 → digits_from d v [] ≡ sized (d + 0) (size v)
 more-end d v h = let k : d + 0 ≡ d = omega arith in rw (k, le-ltb 8 d h)
 
 more_by : (a b t : Bool) (d l : ℕ) (x y : Size) → ltb d 8 ≡ t → d ≤ 8 → (d + 1 ≤ 8 → x ≡ sized (d + 1 + l) y)
@@ -48,12 +48,12 @@ more_by false false false d l x y e h ih =
     let g = ltb-false d 8 e in
     rw (ne_eqb (d + suc l) 0 (λ z. omega arith), lt-ltb 8 (d + suc l) (omega arith))
 
-more-is : (s : List ℕ) (d v : ℕ) → d ≤ 8 → more d v s ≡ sized (d + length s) (digits_behind v s)
+more-is : (s : List ℕ) (d v : ℕ) → d ≤ 8 → digits_from d v s ≡ sized (d + length s) (digits_behind v s)
 unfolding digits_behind
 more-is [] d v h = more-end d v h
 more-is (b ∷ s) d v h = more_by (ltb b 48) (ltb 57 b) (ltb d 8) d (length s) _ _ refl h (λ k. more-is s (d + 1) (10 * v + (b - 48)) k)
 
-digits_more : (s : List ℕ) → more 0 0 s ≡ digits_of s
+digits_more : (s : List ℕ) → digits_from 0 0 s ≡ digits_of s
 unfolding digits_of
 digits_more s = more-is s 0 0 (omega arith) ∙ rw (zero-add (length s))
   where
@@ -62,22 +62,22 @@ digits_more s = more-is s 0 0 (omega arith) ∙ rw (zero-add (length s))
 
 -- ---- the numbers to come: n words are kept in w, and the texts fs are to be read
 
-abbrev on : Number → (ℤ → Items) → Items
+abbrev on : Number → (ℤ → Option Items) → Option Items
 on (is z) f = f z
 on no_number f = items wrong
 
 -- behind commas
-abbrev behind_from : ℕ → List ℕ → List (List ℕ) → Items
-behind_from n w [] = record { right = true; count = n; words = w }
+abbrev behind_from : ℕ → List ℕ → List (List ℕ) → Option Items
+behind_from n w [] = Some (record { count = n; words = w })
 behind_from n w (f ∷ fs) = on (item_of f) (λ z. behind_from (n + 1) (set w n (word z)) fs)
 
 -- a number first
-abbrev pub items_from : ℕ → List ℕ → List (List ℕ) → Items
-items_from n w [] = record { right = true; count = n; words = w }
+abbrev pub items_from : ℕ → List ℕ → List (List ℕ) → Option Items
+items_from n w [] = Some (record { count = n; words = w })
 items_from n w (f ∷ fs) = on (number_of f) (λ z. behind_from (n + 1) (set w n (word z)) fs)
 
-abbrev after : List ℕ → Numbers → Items
-after done (are l) = record { right = true; count = length done + length l; words = pad 8 (done ++ map word l) }
+abbrev after : List ℕ → Numbers → Option Items
+after done (are l) = Some (record { count = length done + length l; words = pad 8 (done ++ map word l) })
 after done wrong = items wrong
 
 after_one : (done : List ℕ) (z : ℤ) (p : Numbers) → after (done ++ word z ∷ []) p ≡ after done (and_then (is z) p)
@@ -135,27 +135,30 @@ signed-none true = refl
 signed-none false = refl
 
 module _ (s : List ℕ) (n : ℕ) (w : List ℕ) where
+  abbrev following : ℕ → Option ℕ → Option Items
+  following x None = Some (record { count = n + 1; words = set w n x })
+  following x (Some j) = behind_from (n + 1) (set w n x) (parted (drop j s))
+
   -- what is left to read behind an item
-  abbrev pub follow : Item → Items
-  follow Wrong = items wrong
-  follow (Last x) = record { right = true; count = n + 1; words = set w n x }
-  follow (More x j) = behind_from (n + 1) (set w n x) (parted (drop j s))
+  abbrev pub follow : Option Item → Option Items
+  follow None = items wrong
+  follow (Some i) = following i.word i.next
 
   module _ (m : Bool) where
     -- the texts fs, the first of which goes on behind d digits of the size v
-    abbrev begun : ℕ → ℕ → List (List ℕ) → Items
+    abbrev begun : ℕ → ℕ → List (List ℕ) → Option Items
     begun d v [] = items wrong
-    begun d v (f ∷ fs) = on (signed m (more d v f)) (λ z. behind_from (n + 1) (set w n (word z)) fs)
+    begun d v (f ∷ fs) = on (signed m (digits_from d v f)) (λ z. behind_from (n + 1) (set w n (word z)) fs)
 
-    end_by : (t : Bool) (v : ℕ) (fs : List (List ℕ)) (y : Item) → follow y ≡ behind_from (n + 1) (set w n (word (with_sign m v))) fs
-        → on (signed m (pick t no_size (size v))) (λ z. behind_from (n + 1) (set w n (word z)) fs) ≡ follow (pick t Wrong y)
+    end_by : (t : Bool) (v : ℕ) (fs : List (List ℕ)) (y : Option Item) → follow y ≡ behind_from (n + 1) (set w n (word (with_sign m v))) fs
+        → on (signed m (pick t no_size (size v))) (λ z. behind_from (n + 1) (set w n (word z)) fs) ≡ follow (pick t None y)
     end_by true v fs y h = rw (signed-none m)
     end_by false v fs y h = rw (signed-size m v) (sym h)
 
-    digit-by : (a b c : Bool) (x : Size) (y : Item) (fs : List (List ℕ))
+    digit-by : (a b c : Bool) (x : Size) (y : Option Item) (fs : List (List ℕ))
         → on (signed m x) (λ z. behind_from (n + 1) (set w n (word z)) fs) ≡ follow y
         → on (signed m (pick a no_size (pick b no_size (pick c x no_size)))) (λ z. behind_from (n + 1) (set w n (word z)) fs)
-        ≡ follow (pick a Wrong (pick b Wrong (pick c y Wrong)))
+        ≡ follow (pick a None (pick b None (pick c y None)))
     digit-by true b c x y fs h = rw (signed-none m)
     digit-by false true c x y fs h = rw (signed-none m)
     digit-by false false true x y fs h = h
@@ -164,10 +167,10 @@ module _ (s : List ℕ) (n : ℕ) (w : List ℕ) where
     byte-by : (c : Bool) (b i d v : ℕ) (t : List ℕ) → parted t ≡ parted (drop (i + 1) s)
         → begun (d + 1) (10 * v + (b - 48)) (parted t) ≡ follow (reading m (i + 1) (d + 1) (10 * v + (b - 48)) t)
         → begun d v (pick c ([] ∷ parted t) (onto b (parted t)))
-        ≡ follow (pick c (pick (eqb d 0) Wrong (More (word (with_sign m v)) (i + 1)))
-        (pick (ltb b 48) Wrong (pick (ltb 57 b) Wrong (pick (ltb d 8) (reading m (i + 1) (d + 1) (10 * v + (b - 48)) t) Wrong))))
+        ≡ follow (pick c (pick (eqb d 0) None (Some (more (word (with_sign m v)) (i + 1))))
+        (pick (ltb b 48) None (pick (ltb 57 b) None (pick (ltb d 8) (reading m (i + 1) (d + 1) (10 * v + (b - 48)) t) None))))
     byte-by true b i d v t e ih =
-        end_by (eqb d 0) v (parted t) (More (word (with_sign m v)) (i + 1)) (rw e)
+        end_by (eqb d 0) v (parted t) (Some (more (word (with_sign m v)) (i + 1))) (rw e)
     byte-by false b i d v t e ih =
         let p = parted-some t in
         let q = rw p.2 at ih in
@@ -175,7 +178,7 @@ module _ (s : List ℕ) (n : ℕ) (w : List ℕ) where
 
     read : (t : List ℕ) (i d v : ℕ) → t ≡ drop i s → begun d v (parted t) ≡ follow (reading m i d v t)
     unfolding parted reading
-    read [] i d v e = end_by (eqb d 0) v [] (Last (word (with_sign m v))) refl
+    read [] i d v e = end_by (eqb d 0) v [] (Some (last (word (with_sign m v)))) refl
     read (b ∷ t) i d v e =
         let f : t ≡ drop (i + 1) s = rw add-one (tail i s e) in
         byte-by (eqb b 44) b i d v t (ap parted f) (read t (i + 1) (d + 1) (10 * v + (b - 48)) f)
@@ -206,7 +209,7 @@ module _ (s : List ℕ) (n : ℕ) (w : List ℕ) where
   item [] i e = refl
   item (b ∷ t) i e = minus-by (eqb b 45) b i t refl e
 
-  pub turn : (at : ℕ) {x : Item} → x ≡ item_from at (drop at s) → items_from n w (parted (drop at s)) ≡ follow x
+  pub turn : (at : ℕ) {x : Option Item} → x ≡ item_from at (drop at s) → items_from n w (parted (drop at s)) ≡ follow x
   turn at h = rw h (item (drop at s) at refl)
 
 -- past one space, if one stands behind the comma, a number comes first
@@ -230,37 +233,45 @@ past-comma n w s j = onward n w (drop j s) ∙ ap (λ (t : List ℕ). items_from
 
 -- ---- where the next number begins
 
-next-by : (c d e f g : Bool) (x : ℕ) (y : Item) (w i j l : ℕ) → (y ≡ More w j → (i + 1 < j) × (j ≤ i + 1 + l))
-    → pick c (pick d Wrong (More x (i + 1))) (pick e Wrong (pick f Wrong (pick g y Wrong))) ≡ More w j → (i < j) × (j ≤ i + suc l)
+next-by : (c d e f g : Bool) (x : ℕ) (y : Option Item) (w i j l : ℕ) → (y ≡ Some (more w j) → (i + 1 < j) × (j ≤ i + 1 + l))
+    → pick c (pick d None (Some (more x (i + 1)))) (pick e None (pick f None (pick g y None))) ≡ Some (more w j) → (i < j) × (j ≤ i + suc l)
 next-by true true e f g x y w i j l ih h = let z : ◌≡◌ {A = ℕ} 0 1 = cc in absurd (omega arith)
-next-by true false e f g x y w i j l ih h = let q : i + 1 ≡ j = cc in omega arith
+next-by true false e f g x y w i j l ih h =
+    let r : more x (i + 1) ≡ more w j = cc in
+    let n = ap (λ (k : Item). k.next) r in
+    let q : i + 1 ≡ j = cc in
+    omega arith
 next-by false d true f g x y w i j l ih h = let z : ◌≡◌ {A = ℕ} 0 1 = cc in absurd (omega arith)
 next-by false d false true g x y w i j l ih h = let z : ◌≡◌ {A = ℕ} 0 1 = cc in absurd (omega arith)
 next-by false d false false true x y w i j l ih h = let q = ih h in omega arith
 next-by false d false false false x y w i j l ih h = let z : ◌≡◌ {A = ℕ} 0 1 = cc in absurd (omega arith)
 
-next-end : (c : Bool) (x w j i : ℕ) → pick c Wrong (Last x) ≡ More w j → (i < j) × (j ≤ i + 0)
+next-end : (c : Bool) (x w j i : ℕ) → pick c None (Some (last x)) ≡ Some (more w j) → (i < j) × (j ≤ i + 0)
 next-end true x w j i h = let z : ◌≡◌ {A = ℕ} 0 1 = cc in absurd (omega arith)
-next-end false x w j i h = let z : ◌≡◌ {A = ℕ} 0 1 = cc in absurd (omega arith)
+next-end false x w j i h =
+    let r : last x ≡ more w j = cc in
+    let n = ap (λ (k : Item). k.next) r in
+    let z : ◌≡◌ {A = ℕ} 0 1 = cc in
+    absurd (omega arith)
 
-next-read : (m : Bool) (t : List ℕ) (i d v : ℕ) {w j : ℕ} → reading m i d v t ≡ More w j → (i < j) × (j ≤ i + length t)
+next-read : (m : Bool) (t : List ℕ) (i d v : ℕ) {w j : ℕ} → reading m i d v t ≡ Some (more w j) → (i < j) × (j ≤ i + length t)
 unfolding reading
 next-read m [] i d v {w} {j} h = next-end (eqb d 0) (word (with_sign m v)) w j i h
 next-read m (b ∷ t) i d v {w} {j} h =
     next-by (eqb b 44) (eqb d 0) (ltb b 48) (ltb 57 b) (ltb d 8) _ _ w i j (length t) (next-read m t (i + 1) (d + 1) (10 * v + (b - 48))) h
 
-next-item-by : (c : Bool) (x y : Item) (w i j l : ℕ) → (x ≡ More w j → (i + 1 < j) × (j ≤ i + 1 + l)) → (y ≡ More w j → (i < j) × (j ≤ i + suc l))
-    → pick c x y ≡ More w j → (i < j) × (j ≤ i + suc l)
+next-item-by : (c : Bool) (x y : Option Item) (w i j l : ℕ) → (x ≡ Some (more w j) → (i + 1 < j) × (j ≤ i + 1 + l)) → (y ≡ Some (more w j) → (i < j) × (j ≤ i + suc l))
+    → pick c x y ≡ Some (more w j) → (i < j) × (j ≤ i + suc l)
 next-item-by true x y w i j l f g h = let q = f h in omega arith
 next-item-by false x y w i j l f g h = g h
 
-next-item : (t : List ℕ) (i : ℕ) {w j : ℕ} → item_from i t ≡ More w j → (i < j) × (j ≤ i + length t)
+next-item : (t : List ℕ) (i : ℕ) {w j : ℕ} → item_from i t ≡ Some (more w j) → (i < j) × (j ≤ i + length t)
 unfolding item_from
 next-item [] i h = next-read false [] i 0 0 h
 next-item (b ∷ t) i {w} {j} h =
     next-item-by (eqb b 45) _ _ w i j (length t) (next-read true t (i + 1) 0 0) (next-read false (b ∷ t) i 0 0) h
 
-pub ahead : (s : List ℕ) (at : ℕ) {x : Item} {w j : ℕ} → at ≤ length s → x ≡ item_from at (drop at s) → x ≡ More w j → (at < j) × (j ≤ length s)
+pub ahead : (s : List ℕ) (at : ℕ) {x : Option Item} {w j : ℕ} → at ≤ length s → x ≡ item_from at (drop at s) → x ≡ Some (more w j) → (at < j) × (j ≤ length s)
 ahead s at l h e =
     let q = rw length-drop at (next-item (drop at s) at (sym h ∙ e)) in
     omega arith

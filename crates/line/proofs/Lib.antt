@@ -2,5 +2,5 @@ pub mod Digits
 pub mod Spaces
 pub mod Shapes
 pub mod Items
-pub mod Only
 pub mod laws
+pub mod Only

@@ -1,3 +1,6 @@
+pub mod Letter
+pub mod Code
+pub mod Said
 pub mod Numbers
 pub mod Lines
 pub mod Spaces

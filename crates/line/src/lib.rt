@@ -1,4 +1,4 @@
-// What a line says: its letter or code and its numbers, or that its shape is wrong.
+// What a line says: its letter or code and its numbers, if its shape is right.
 #![tactic(auto)]
 
 mod codes;
@@ -11,7 +11,6 @@ pub use letters::direct_line;
 // A line outside storing, by its letter; setting axes has none.
 #[derive(Clone, Copy)]
 pub enum Letter {
-    Wrong,
     Axes,
     Relative,
     Absolute,
@@ -40,7 +39,6 @@ pub struct Direct {
 // A line while storing, by its code.
 #[derive(Clone, Copy)]
 pub enum Code {
-    Wrong,
     Record(u8),
     End,
 }

@@ -22,7 +22,6 @@ fn bytes_of(alloc: Global, pairs: &[u8]) -> Result<Vec<u8>, AllocError>
 
 fn letter_byte(letter: Letter) -> u8 {
     match letter {
-        Letter::Wrong => b'5',
         Letter::Axes => b'0',
         Letter::Relative => b'A',
         Letter::Absolute => b'M',
@@ -43,7 +42,6 @@ fn letter_byte(letter: Letter) -> u8 {
 
 fn code_byte(code: Code) -> u8 {
     match code {
-        Code::Wrong => b'5',
         Code::Record(code) => code,
         Code::End => b'9',
     }
@@ -57,6 +55,11 @@ fn print_row(rt: &impl Print, byte: u8, count: usize, words: [u32; 8]) -> io::Re
     println!(rt;)
 }
 
+// A wrong shape is the paper's 5, and has no numbers.
+fn print_wrong(rt: &impl Print) -> io::Result<()> {
+    print_row(rt, b'5', 0, [0; 8])
+}
+
 // One input line.
 fn show(rt: &impl Print, alloc: Global, row: &[u8]) -> io::Result<()> {
     if row.len() < 2 {
@@ -64,11 +67,15 @@ fn show(rt: &impl Print, alloc: Global, row: &[u8]) -> io::Result<()> {
     }
     let bytes = bytes_of(alloc, &row[2..])?;
     if row[0] == b'D' {
-        let direct = line::direct_line(&bytes);
-        print_row(rt, letter_byte(direct.letter), direct.count, direct.words)
+        match line::direct_line(&bytes) {
+            Some(d) => print_row(rt, letter_byte(d.letter), d.count, d.words),
+            None => print_wrong(rt),
+        }
     } else {
-        let stored = line::stored_line(&bytes);
-        print_row(rt, code_byte(stored.code), stored.count, stored.words)
+        match line::stored_line(&bytes) {
+            Some(t) => print_row(rt, code_byte(t.code), t.count, t.words),
+            None => print_wrong(rt),
+        }
     }
 }
 

@@ -14,7 +14,7 @@ use Rattle.circle.specs.Rule.{on_plane, on_axes, ways_at, rests, move_of}
 use Rattle.circle.specs.Arc.{start_value, with_made, arc_left}
 use Rattle.circle.specs.Plan.{plane_of, direction_of, circling, at_first, start_of, centre_of, arc_from}
 use Rattle.travel.specs.declared.Travel.TheVariants as travel
-use Rattle.line.specs.declared.Direct.{Direct}
+use Rattle.line.specs.Said.{Direct}
 use Rattle.line.specs.Lines.{letter_paper, direct_of}
 use Rattle.record.specs.Memory.{Memory, RightMemory}
 use Rattle.engine.specs.declared.Answer.TheVariants as answer

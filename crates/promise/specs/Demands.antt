@@ -9,7 +9,7 @@ use Rattle.count.specs.declared.Axis.{Axis}
 use Rattle.count.specs.declared.Axis.TheVariants.{X, Y, Z, A}
 use Rattle.count.specs.Axes.{has}
 use Rattle.motion.specs.Axes.{on}
-use Rattle.line.specs.declared.Direct.{Direct}
+use Rattle.line.specs.Said.{Direct}
 use Rattle.line.specs.Lines.{letter_paper, direct_of}
 use Rattle.record.specs.declared.Held.{Held}
 use Rattle.record.specs.Memory.{Memory, RightMemory}

@@ -23,12 +23,12 @@ use Rattle.record.proofs.laws.Put.{room-so}
 use Rattle.program.specs.Verdict.{Verdict}
 use Rattle.program.specs.Verdict as verdict
 use Rattle.program.specs.Program.{verdict_of, is_sound}
-use Rattle.line.specs.declared.Letter.{Letter}
-use Rattle.line.specs.declared.Letter.TheVariants as letter
-use Rattle.line.specs.declared.Code.{Code}
-use Rattle.line.specs.declared.Code.TheVariants as code
-use Rattle.line.specs.declared.Direct.{Direct}
-use Rattle.line.specs.declared.Stored.{Stored}
+use Rattle.line.specs.Letter.{Letter}
+use Rattle.line.specs.Letter as letter
+use Rattle.line.specs.Code.{Code}
+use Rattle.line.specs.Code as code
+use Rattle.line.specs.Said.{Direct}
+use Rattle.line.specs.Said.{Stored}
 use Rattle.line.specs.Lines.{direct_of, stored_of}
 use Rattle.engine.specs.declared.Engine.{Engine}
 use Rattle.engine.specs.declared.Begun.{Begun}

@@ -14,7 +14,7 @@ use Rattle.travel.specs.work.Beat.{next_of}
 use Rattle.record.specs.Memory.{Memory, RightMemory}
 use Rattle.record.specs.Table.{fetch_of}
 use Rattle.record.specs.Listing.{Telling, list_of}
-use Rattle.line.specs.declared.Direct.{Direct}
+use Rattle.line.specs.Said.{Direct}
 use Rattle.line.specs.Lines.{direct_of, stored_of}
 use Rattle.engine.specs.declared.Job.{Job}
 use Rattle.engine.specs.declared.Job.TheVariants as job

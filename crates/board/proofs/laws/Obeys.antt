@@ -28,9 +28,9 @@ use Rattle.travel.specs.Plan.{straightly, roundly, plan_of, circle_of, refusal}
 use Rattle.record.specs.Memory.{Memory}
 use Rattle.record.specs.Fault.{is_code, count_right, axes_right, ranges_right, speeds_right, numbers_reply, fault_of}
 use Rattle.record.proofs.laws.Faultless.{fault-none}
-use Rattle.line.specs.declared.Letter.{Letter}
-use Rattle.line.specs.declared.Letter.TheVariants as letter
-use Rattle.line.specs.declared.Direct.{Direct}
+use Rattle.line.specs.Letter.{Letter}
+use Rattle.line.specs.Letter as letter
+use Rattle.line.specs.Said.{Direct}
 use Rattle.engine.specs.declared.Engine.{Engine}
 use Rattle.engine.specs.declared.Begun.{Begun}
 use Rattle.engine.specs.State.{axes_of, origin_of, zero_of, with_output, started, begun_by, begin_of, circle_begun}

@@ -14,8 +14,8 @@ use Rattle.program.specs.Verdict.{Verdict}
 use Rattle.program.specs.Verdict as verdict
 use Rattle.program.specs.Check.{verdict_paper}
 use Rattle.program.specs.Program.{verdict_of, is_sound}
-use Rattle.line.specs.declared.Code.TheVariants as code
-use Rattle.line.specs.declared.Stored.{Stored}
+use Rattle.line.specs.Code as code
+use Rattle.line.specs.Said.{Stored}
 use Rattle.line.specs.Lines.{code_paper}
 use Rattle.engine.specs.State.{emptied, ceased}
 use Rattle.board.specs.declared.Board.{Board}

@@ -17,9 +17,9 @@ use Rattle.record.specs.Fault.{is_code, count_right, axes_right, ranges_right, s
 use Rattle.record.proofs.laws.Faultless.{fault-none}
 use Rattle.record.proofs.laws.Shapes.{Shape, one, two, seven, eight, shape, four as four-numbers}
 use Rattle.record.specs.Keep.{Storing, storing, longer, has_room, store_of}
-use Rattle.line.specs.declared.Code.{Code}
-use Rattle.line.specs.declared.Code.TheVariants as code
-use Rattle.line.specs.declared.Stored.{Stored}
+use Rattle.line.specs.Code.{Code}
+use Rattle.line.specs.Code as code
+use Rattle.line.specs.Said.{Stored}
 use Rattle.line.specs.Numbers.{Numbers, are, wrong}
 use Rattle.line.specs.Lines.{behind, code_of, stored, by_code, stored_of}
 use Rattle.board.specs.declared.Board.{Board}

@@ -8,8 +8,8 @@ use lib.Dec.{eqb}
 use lib.IntN.{pos}
 use borrow.Author.Tests.{eqb-true}
 use Rattle.count.specs.Pick.{pick}
-use Rattle.line.specs.declared.Code.{Code}
-use Rattle.line.specs.declared.Code.TheVariants as code
+use Rattle.line.specs.Code.{Code}
+use Rattle.line.specs.Code as code
 use Rattle.line.specs.Lines.{code_of, code_paper}
 
 -- what a character's code says of it

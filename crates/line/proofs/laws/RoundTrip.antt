@@ -11,8 +11,8 @@ use lib.ListN.{length, length-append}
 use Rattle.count.specs.Pick.{pick}
 use Rattle.count.specs.Text.{decimal, digits, shown}
 use Rattle.count.proofs.laws.Digits.{decimal-more, decimal-long}
-use Rattle.line.specs.declared.Code.{Code}
-use Rattle.line.specs.declared.Code.TheVariants as code
+use Rattle.line.specs.Code.{Code}
+use Rattle.line.specs.Code as code
 use Rattle.line.specs.Numbers.{Size, size, no_size, digits_behind, digits_of, is, no_number, plus, number_of, past_space, item_of, parted, are, items_of, numbers_of}
 use Rattle.line.specs.Lines.{behind, code_of, stored, stored_of}
 

@@ -10,10 +10,10 @@ use lib.IntN.{pos, negsuc}
 use lib.ListN.{get_or}
 use Rattle.count.specs.Chars.{ch, codes}
 use Rattle.count.specs.Pick.{pick}
-use Rattle.line.specs.declared.Code.{Code}
-use Rattle.line.specs.declared.Code.TheVariants as code
-use Rattle.line.specs.declared.Direct.{Direct}
-use Rattle.line.specs.declared.Letter.TheVariants as letter
+use Rattle.line.specs.Code.{Code}
+use Rattle.line.specs.Code as code
+use Rattle.line.specs.Said.{Direct}
+use Rattle.line.specs.Letter as letter
 use Rattle.line.specs.Numbers.{digits_behind, digits_of, number_of, past_space, onto, parted, Numbers, are, wrong, and_then, items_of, first_of, numbers_of}
 use Rattle.line.specs.Lines.{behind, letter_of, direct, after_address, direct_of, code_of, stored, by_code, stored_of}
 use Rattle.line.specs.Spaces.{unspaced, SameButSpaces}

@@ -20,8 +20,8 @@ use Rattle.circle.proofs.laws.Bends.{bends}
 use Rattle.travel.specs.declared.Travel.TheVariants as travel
 use Rattle.travel.specs.Next.{pulse_of}
 use Rattle.travel.specs.Plan.{roundly, circle_of, refusal}
-use Rattle.line.specs.declared.Letter.{Letter}
-use Rattle.line.specs.declared.Letter.TheVariants as letter
+use Rattle.line.specs.Letter.{Letter}
+use Rattle.line.specs.Letter as letter
 use Rattle.line.specs.Lines.{letter_paper}
 use Rattle.record.specs.Memory.{Memory}
 use Rattle.record.specs.Table.{fetch_of}

@@ -12,7 +12,7 @@ use Rattle.record.specs.Memory.{Memory}
 use Rattle.program.specs.Program.{verdict_of, is_sound, accepted}
 use Rattle.program.proofs.laws.Accepting.{computed}
 use Rattle.line.specs.Lines.{stored_of}
-use Rattle.line.specs.declared.Code.{Code}
+use Rattle.line.specs.Code.{Code}
 use Rattle.engine.specs.declared.Job.{Job}
 use Rattle.engine.specs.declared.Job.TheVariants as job
 use Rattle.engine.specs.State.{ceased, emptied}

@@ -22,12 +22,12 @@ use Rattle.record.specs.declared.Record.{Record}
 use Rattle.record.specs.Memory.{Memory}
 use Rattle.record.specs.Keep.{store_of}
 use Rattle.program.specs.Program.{verdict_of, is_sound}
-use Rattle.line.specs.declared.Letter.{Letter}
-use Rattle.line.specs.declared.Letter.TheVariants as letter
-use Rattle.line.specs.declared.Direct.{Direct}
-use Rattle.line.specs.declared.Code.{Code}
-use Rattle.line.specs.declared.Code.TheVariants as code
-use Rattle.line.specs.declared.Stored.{Stored}
+use Rattle.line.specs.Letter.{Letter}
+use Rattle.line.specs.Letter as letter
+use Rattle.line.specs.Said.{Direct}
+use Rattle.line.specs.Code.{Code}
+use Rattle.line.specs.Code as code
+use Rattle.line.specs.Said.{Stored}
 use Rattle.line.specs.Numbers.{Numbers, are, wrong}
 use Rattle.line.specs.Lines.{direct_of, stored_of, stored, code_of, by_code, behind}
 use Rattle.engine.specs.declared.Job.{Job}

@@ -22,7 +22,7 @@ use Rattle.record.proofs.laws.Below.{below-take}
 use Rattle.record.proofs.laws.Right.{RightOne, right-count}
 use Rattle.record.proofs.laws.Faultless.{right-faultless, by_code-each}
 use Rattle.record.proofs.laws.Shapes.{Seven, Fast, Way, Shape, one, two, four, eight, seven, speed-seven, way-short, shape}
-use Rattle.line.specs.declared.Code.TheVariants as code
+use Rattle.line.specs.Code as code
 use Rattle.line.specs.Numbers.{are}
 use Rattle.line.specs.Lines.{code_of, stored, stored_of}
 use Rattle.line.proofs.laws.RoundTrip.{joined, Short, record-codes, stored_back}

@@ -12,9 +12,9 @@ use lib.Seq.{take-suc-set}
 use Rattle.count.specs.Pick.{pick}
 use Rattle.count.proofs.laws.Truth.{and_left, and_right, never}
 use Rattle.record.specs.Memory.{Memory, RightMemory}
-use Rattle.line.specs.declared.Code.{Code}
-use Rattle.line.specs.declared.Code.TheVariants as code
-use Rattle.line.specs.declared.Stored.{Stored}
+use Rattle.line.specs.Code.{Code}
+use Rattle.line.specs.Code as code
+use Rattle.line.specs.Said.{Stored}
 use Rattle.line.specs.Lines.{direct_of, stored_of}
 use Rattle.line.specs.Spaces.{SameButSpaces}
 use Rattle.line.proofs.laws.Spaces.{none_alike, first_alike, direct-alike, stored-alike}

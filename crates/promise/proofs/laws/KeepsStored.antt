@@ -30,12 +30,12 @@ use Rattle.record.proofs.laws.Stored.{readable-so, empty-list, stored-list}
 use Rattle.record.proofs.laws.Tables.{list-true}
 use Rattle.record.proofs.laws.Entries.{empty-true, stored-true}
 use Rattle.program.specs.Program.{verdict_of, is_sound}
-use Rattle.line.specs.declared.Letter.{Letter}
-use Rattle.line.specs.declared.Letter.TheVariants as letter
-use Rattle.line.specs.declared.Direct.{Direct}
-use Rattle.line.specs.declared.Code.{Code}
-use Rattle.line.specs.declared.Code.TheVariants as code
-use Rattle.line.specs.declared.Stored.{Stored}
+use Rattle.line.specs.Letter.{Letter}
+use Rattle.line.specs.Letter as letter
+use Rattle.line.specs.Said.{Direct}
+use Rattle.line.specs.Code.{Code}
+use Rattle.line.specs.Code as code
+use Rattle.line.specs.Said.{Stored}
 use Rattle.line.specs.Numbers.{Numbers, are, wrong}
 use Rattle.line.specs.Lines.{stored, by_code, stored_of, behind, code_of, direct_of}
 use Rattle.engine.specs.declared.Engine.{Engine}

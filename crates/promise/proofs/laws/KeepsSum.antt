@@ -17,9 +17,9 @@ use Rattle.motion.specs.declared.Counters.{Counters}
 use Rattle.motion.specs.Plan.{asked}
 use Rattle.travel.specs.Next.{left_of}
 use Rattle.travel.specs.Plan.{plan_of, circle_of}
-use Rattle.line.specs.declared.Letter.{Letter}
-use Rattle.line.specs.declared.Letter.TheVariants as letter
-use Rattle.line.specs.declared.Direct.{Direct}
+use Rattle.line.specs.Letter.{Letter}
+use Rattle.line.specs.Letter as letter
+use Rattle.line.specs.Said.{Direct}
 use Rattle.record.specs.Memory.{Memory}
 use Rattle.line.specs.Lines.{letter_paper, direct_of}
 use Rattle.engine.specs.declared.Job.TheVariants as job

@@ -24,7 +24,7 @@ use Rattle.record.proofs.laws.Faultless.{Faultless, right-faultless}
 use Rattle.record.proofs.laws.Lines.{line-long}
 use Rattle.program.specs.Program.{verdict_of, is_sound, passes, accepted}
 use Rattle.program.proofs.laws.Accepting.{accepted-parts, accepted-list, accepted-holds}
-use Rattle.line.specs.declared.Stored.{Stored}
+use Rattle.line.specs.Said.{Stored}
 use Rattle.line.specs.Lines.{stored_of}
 use Rattle.line.proofs.laws.RoundTrip.{stored-end}
 use Rattle.engine.specs.State.{nothing_held}

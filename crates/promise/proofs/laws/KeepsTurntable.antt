@@ -8,8 +8,8 @@ use lib.Dec.{eqb}
 use lib.ListN.{get_or, take}
 use Rattle.count.specs.Pick.{pick}
 use Rattle.count.proofs.laws.Truth.{never, and_parts}
-use Rattle.line.specs.declared.Letter.TheVariants as letter
-use Rattle.line.specs.declared.Direct.{Direct}
+use Rattle.line.specs.Letter as letter
+use Rattle.line.specs.Said.{Direct}
 use Rattle.line.specs.Lines.{stored_of}
 use Rattle.record.specs.Memory.{Memory}
 use Rattle.engine.specs.declared.Engine.{Engine}

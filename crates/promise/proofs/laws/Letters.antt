@@ -3,8 +3,8 @@ use Prim.Native.Nat.{ℕ}
 use mathlib.Core.Path.{◌≡◌, refl, sym, ap, ◌∙◌}
 use lib.Dec.{eqb}
 use Rattle.count.specs.Pick.{pick}
-use Rattle.line.specs.declared.Letter.{Letter}
-use Rattle.line.specs.declared.Letter.TheVariants as letter
+use Rattle.line.specs.Letter.{Letter}
+use Rattle.line.specs.Letter as letter
 use Rattle.line.specs.Lines.{letter_paper, letter_of}
 
 -- by its character; setting axes has the 0 of `@0`

@@ -4,8 +4,8 @@ use mathlib.Core.Bool.{true, false}
 use mathlib.Core.List.{List}
 use mathlib.Core.Path.{◌≡◌, sym, ◌∙◌, ap, subst}
 use lib.ListN.{get_or, take}
-use Rattle.line.specs.declared.Letter.{Letter}
-use Rattle.line.specs.declared.Letter.TheVariants as letter
+use Rattle.line.specs.Letter.{Letter}
+use Rattle.line.specs.Letter as letter
 use Rattle.line.specs.Lines.{letter_paper}
 use Rattle.record.specs.Memory.{RightMemory}
 use Rattle.engine.specs.State.{started}

@@ -12,12 +12,12 @@ use lib.Dec.{eqb}
 use Rattle.count.specs.Pick.{pick}
 use Rattle.motion.specs.Plan.{asked}
 use Rattle.travel.specs.Plan.{plan_of, circle_of}
-use Rattle.line.specs.declared.Letter.{Letter}
-use Rattle.line.specs.declared.Letter.TheVariants as letter
-use Rattle.line.specs.declared.Direct.{Direct}
-use Rattle.line.specs.declared.Code.{Code}
-use Rattle.line.specs.declared.Code.TheVariants as code
-use Rattle.line.specs.declared.Stored.{Stored}
+use Rattle.line.specs.Letter.{Letter}
+use Rattle.line.specs.Letter as letter
+use Rattle.line.specs.Said.{Direct}
+use Rattle.line.specs.Code.{Code}
+use Rattle.line.specs.Code as code
+use Rattle.line.specs.Said.{Stored}
 use Rattle.line.specs.Lines.{direct_of, stored_of}
 use Rattle.record.specs.declared.Record.{Record}
 use Rattle.record.specs.Memory.{Memory}

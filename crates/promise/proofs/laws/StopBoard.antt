@@ -8,9 +8,9 @@ use mathlib.Core.Path.{◌≡◌, refl}
 use borrow.Author.Tests.{ltb-true, le-leb}
 use lib.Dec.{leb, ltb, eqb}
 use Rattle.count.specs.Pick.{pick}
-use Rattle.line.specs.declared.Letter.{Letter}
-use Rattle.line.specs.declared.Letter.TheVariants as letter
-use Rattle.line.specs.declared.Direct.{Direct}
+use Rattle.line.specs.Letter.{Letter}
+use Rattle.line.specs.Letter as letter
+use Rattle.line.specs.Said.{Direct}
 use Rattle.line.specs.Lines.{direct_of, stored_of}
 use Rattle.engine.specs.declared.Job.{Job}
 use Rattle.engine.specs.declared.Job.TheVariants as job

@@ -1,12 +1,7 @@
--- `board::Board::obey` meets its contract. Assumes nothing.
-use borrow.Author.Tests.{eq-eqb, ne_eqb}
-use Rattle.board.specs.work.Work.{obeyed}
+-- `board::Board::obey` meets its contract: where no line was found, the reply is 5. Assumes nothing.
+use Rattle.board.specs.work.Work.{line_fault, obeyed}
 use Rattle.board.proofs.Board.obey.Goals as goal
 
-pub returns-then-fault-ne48 : goal.returns-then-fault-ne48
-unfolding obeyed
-returns-then-fault-ne48 c = simp (← c.line_fault-fault.ensures, ne_eqb _ _ c.if-fault-ne48.true, c.replies.ensures)
-
-pub returns : goal.returns
-unfolding obeyed
-returns c = simp (← c.line_fault-fault.ensures, eq-eqb _ _ c.if-fault-ne48.false, c.affect.ensures)
+pub returns-in-None : goal.returns-in-None
+unfolding obeyed line_fault
+returns-in-None c = rw c.in-None.is c.replies.ensures

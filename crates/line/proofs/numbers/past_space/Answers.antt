@@ -4,17 +4,16 @@ use lib.ListN.{drop_of_length-le}
 use Rattle.count.proofs.laws.Lists.{next}
 use Rattle.line.specs.work.Reading.{spaced}
 use Rattle.line.proofs.numbers.past_space.Goals as goal
-
-pub returns-then-s-at : goal.returns-then-s-at
-unfolding spaced
-returns-then-s-at c = rw (drop_of_length-le c.args.s.now c.if-s-at.true)
+use Rattle.line.proofs.numbers.past_space.Goals.{else-at-s-via-then-at-s+else-s-at-eq32, else-at-s-via-else-at-s}
 
 pub returns-then-s-at-eq32 : goal.returns-then-s-at-eq32
 unfolding spaced
 returns-then-s-at-eq32 c =
-    rw (next c.args.s.now c.args.at c.if-s-at.false, c.if-s-at-eq32.true)
+    rw (next c.args.s.now c.args.at c.if-at-s.true, c.if-s-at-eq32.true)
 
-pub returns : goal.returns
+pub returns-else-at-s : goal.returns-else-at-s
 unfolding spaced
-returns c =
-    rw (next c.args.s.now c.args.at c.if-s-at.false, ne_eqb _ _ c.if-s-at-eq32.false)
+returns-else-at-s c = elim c.else-at-s.branch [
+  | else-at-s-via-then-at-s+else-s-at-eq32 w ↦ rw (next c.args.s.now c.args.at w.if-at-s.true, ne_eqb _ _ w.if-s-at-eq32.false)
+  | else-at-s-via-else-at-s w ↦ rw (drop_of_length-le c.args.s.now w.if-at-s.false)
+]

@@ -13,7 +13,7 @@ pub returns-then-s-at : goal.returns-then-s-at
 unfolding behind
 returns-then-s-at c =
     let h : length c.args.s.now ≤ c.args.at = omega (arith, c.if-s-at.true) in
-    rw (drop_of_length-le c.args.s.now h) c.no_items.ensures
+    rw (drop_of_length-le c.args.s.now h)
 
 pub read_numbers-requires : goal.read_numbers-requires
 read_numbers-requires c =

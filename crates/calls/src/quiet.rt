@@ -1,6 +1,6 @@
 // A run of clock calls until the board has nothing more to do, `Q`, and what is printed of it.
 use crate::Play;
-use crate::show::{job_name, show_point, show_ticked};
+use crate::show::{job_name, show_ticked};
 use board::Board;
 use engine::Answer;
 use std::io;
@@ -21,8 +21,7 @@ fn show_place(rt: &impl Print, from: u16, board: Board) -> io::Result<()> {
         job_name(e.run.job),
         e.run.place
     )?;
-    show_point(rt, "origin", e.origin)?;
-    println!(rt;)
+    println!(rt; " origin {}", e.origin)
 }
 
 // A call of a run: its refusal, or its answer with what the board is at. The nothing at the end is not printed.

@@ -2,35 +2,11 @@
 use board::Board;
 use circle::{Direction, Plane};
 use engine::{Answer, Job};
-use motion::{Counters, Sign};
 use std::alloc::Global;
 use std::io;
 
 // The refusal of a listing or a filling of a store that is not readable.
 const UNREADABLE: u16 = b'G' as u16;
-
-// The number of a count.
-fn number_of(c: u32) -> i64 {
-    i64::from(c) - 8388608
-}
-
-pub(crate) fn show_point(rt: &impl Print, name: &str, c: Counters) -> io::Result<()> {
-    let (x, y, z, a) = (
-        number_of(c.x),
-        number_of(c.y),
-        number_of(c.z),
-        number_of(c.a),
-    );
-    print!(rt; " {name} {x} {y} {z} {a}")
-}
-
-fn sign(s: Sign) -> char {
-    match s {
-        Sign::Minus => '-',
-        Sign::Rest => '.',
-        Sign::Plus => '+',
-    }
-}
 
 // A clock call: its refusal, or its answer.
 pub(crate) fn show_ticked(rt: &impl Print, refusal: u16, answer: Answer) -> io::Result<()> {
@@ -38,10 +14,7 @@ pub(crate) fn show_ticked(rt: &impl Print, refusal: u16, answer: Answer) -> io::
         return println!(rt; "C {refusal}");
     }
     match answer {
-        Answer::Pulse(s, speed) => {
-            let (x, y, z, a) = (sign(s.x), sign(s.y), sign(s.z), sign(s.a));
-            println!(rt; "C Pulse {x}{y}{z}{a} {speed}")
-        }
+        Answer::Pulse(signs, speed) => println!(rt; "C Pulse {signs} {speed}"),
         Answer::Pause => println!(rt; "C Pause"),
         Answer::Send(b) => println!(rt; "C Send {b}"),
         Answer::Done => println!(rt; "C Done"),
@@ -129,9 +102,7 @@ fn direction_number(direction: Direction) -> i8 {
 // The state as one line.
 pub(crate) fn show_state(rt: &impl Print, board: Board) -> io::Result<()> {
     let e = board.engine;
-    print!(rt; "S axes {}", e.axes)?;
-    show_point(rt, "position", e.at)?;
-    show_point(rt, "origin", e.origin)?;
+    print!(rt; "S axes {} position {} origin {}", e.axes, e.at, e.origin)?;
     print!(rt; " three {} output {}", u8::from(e.three), e.output)?;
     print!(rt; " used {} records {}", e.held.used, e.held.records)?;
     print!(rt; " store_axes {} job {}", e.held.axes, job_name(e.run.job))?;

@@ -5,11 +5,10 @@ use Rattle.count.specs.Numbers.{value}
 use Rattle.count.specs.declared.Axis.TheVariants.{A}
 use Rattle.count.specs.Axes.{has, shown_axes, end_to_end}
 use Rattle.count.specs.Text.{digits, shown}
-use Rattle.motion.specs.declared.Sign.{Sign}
-use Rattle.motion.specs.declared.Sign.TheVariants as sign
 use Rattle.motion.specs.declared.Signs.{Signs}
 use Rattle.motion.specs.declared.Counters.{Counters}
 use Rattle.motion.specs.Axes.{on, shows}
+use Rattle.motion.specs.Phase.{sign_byte}
 use Rattle.engine.specs.declared.Engine.{Engine}
 use Rattle.engine.specs.declared.Answer.{Answer}
 use Rattle.engine.specs.declared.Answer.TheVariants as answer
@@ -23,12 +22,6 @@ head_text = codes "walk\n"
 abbrev pub reply_text : List ℕ → List ℕ
 reply_text [] = []
 reply_text (c ∷ l) = ch "R" ∷ ch " " ∷ c ∷ l ++ ch "\n" ∷ []
-
--- +, - or . for an axis
-abbrev pub sign_byte : Sign → ℕ
-sign_byte sign.Minus = ch "-"
-sign_byte sign.Rest = ch "."
-sign_byte sign.Plus = ch "+"
 
 -- `P`, then the signs of x, y, z, of a too while A is set (02, §7), and the speed
 unfoldable pub pulse_text : Bool → Signs → ℕ → List ℕ

@@ -1,21 +1,11 @@
 // What `walk` prints of an answer and of a reply, written at the front of a lent part.
 ghost use Rattle.std.specs.Prelude.{◌≡◌, [], ◌∷◌, ◌++◌, ◌≤◌, ◌<◌, ◌+◌, ◌%◌, length, drop};
 ghost use Rattle.count.specs.Text.{digits};
-ghost use Rattle.course.specs.Text.{sign_byte, pulse_text, answer_text};
+ghost use Rattle.course.specs.Text.{pulse_text, answer_text};
 ghost use Rattle.course.specs.work.Work.{Wrote};
 
 use engine::Answer;
-use motion::{Sign, Signs};
-
-fn sign_byte(s: Sign) -> u8
-    ensures { result ≡ sign_byte s }
-{
-    match s {
-        Sign::Minus => b'-',
-        Sign::Rest => b'.',
-        Sign::Plus => b'+',
-    }
-}
+use motion::Signs;
 
 // The last decimal digit of a number.
 fn digit(n: u16) -> u8
@@ -96,15 +86,11 @@ pub(crate) fn put_pulse(out: &mut [u8], turns: bool, signs: Signs, speed: u16) -
     requires { 13 ≤ length out.old }
     ensures { Wrote (pulse_text turns signs speed) out.old result out.new × (result ≤ 13) }
 {
-    let sx = signs.x;
-    let sy = signs.y;
-    let sz = signs.z;
-    let x = sign_byte(sx);
-    let y = sign_byte(sy);
-    let z = sign_byte(sz);
+    let x = signs.x.character();
+    let y = signs.y.character();
+    let z = signs.z.character();
     if turns {
-        let sa = signs.a;
-        let a = sign_byte(sa);
+        let a = signs.a.character();
         put_all_signs(&mut *out, x, y, z, a);
         let j = put_speed(&mut out[7..], speed);
         return 7 + j;

@@ -4,7 +4,6 @@
 
 use circle::{Direction, Plane};
 use engine::{Answer, Begun, Engine, Run};
-use motion::{Counters, Sign};
 use program::Loops;
 use record::{Held, Record};
 use std::io;
@@ -18,41 +17,10 @@ fn half_of(w: u32) -> u16 {
     u16::try_from(w).unwrap_or(65535)
 }
 
-// The number of a count.
-fn number_of(c: u32) -> i64 {
-    i64::from(c) - 8388608
-}
-
-fn show_point(rt: &impl Print, c: Counters) -> io::Result<()> {
-    print!(rt;
-        " {} {} {} {}",
-        number_of(c.x),
-        number_of(c.y),
-        number_of(c.z),
-        number_of(c.a)
-    )
-}
-
-fn sign(s: Sign) -> char {
-    match s {
-        Sign::Minus => '-',
-        Sign::Rest => '.',
-        Sign::Plus => '+',
-    }
-}
-
 // A clock call's answer: P with signs and speed, W a pause, S and a byte, D done, N nothing.
 fn show_answer(rt: &impl Print, answer: Answer) -> io::Result<()> {
     match answer {
-        Answer::Pulse(s, speed) => {
-            println!(rt;
-                "P {}{}{}{} {speed}",
-                sign(s.x),
-                sign(s.y),
-                sign(s.z),
-                sign(s.a)
-            )
-        }
+        Answer::Pulse(signs, speed) => println!(rt; "P {signs} {speed}"),
         Answer::Pause => println!(rt; "W"),
         Answer::Send(b) => println!(rt; "S {b}"),
         Answer::Done => println!(rt; "D"),
@@ -87,9 +55,7 @@ fn show_engine(rt: &impl Print, e: Engine) -> io::Result<()> {
     } = e.held;
     let runs = u8::from(e.runs());
     let sound = u8::from(e.sound());
-    print!(rt; "E")?;
-    show_point(rt, e.at)?;
-    show_point(rt, e.origin)?;
+    print!(rt; "E {} {}", e.at, e.origin)?;
     println!(rt; " {three} {plane} {direction} {used} {records} {axes} {runs} {sound}")
 }
 

@@ -1,5 +1,6 @@
 -- One phase of a movement (01, "Movement", paragraph 2): how many pulses it has, and what each of them does to an axis.
 use Rattle.std.specs.Prelude.{ℕ, ◌+◌, ◌-◌, ◌*◌, ◌/◌, List, ltb, eqb, ℤ, pos, negsuc}
+use Rattle.count.specs.Chars.{ch}
 use Rattle.count.specs.Pick.{pick}
 use Rattle.count.specs.Numbers.{far}
 use Rattle.count.specs.Axes.{greatest, each_then}
@@ -43,11 +44,17 @@ moved c Plus = c + 1
 abbrev pub moved_all : Counters → Signs → Counters
 moved_all c s = point (λ i. moved (on i c) (shows i s))
 
--- a sign as a number, and those of a pulse, x, y, z and a, before others
+-- a sign as a number, and as it is printed
 abbrev pub sign_value : Sign → ℤ
 sign_value Minus = negsuc 0
 sign_value Rest = pos 0
 sign_value Plus = pos 1
 
+abbrev pub sign_byte : Sign → ℕ
+sign_byte Minus = ch "-"
+sign_byte Rest = ch "."
+sign_byte Plus = ch "+"
+
+-- the numbers of a pulse, x, y, z and a, before others
 abbrev pub signs_then : Signs → List ℤ → List ℤ
 signs_then s l = each_then (λ i. sign_value (shows i s)) l

@@ -4,6 +4,7 @@
 mod phase;
 mod pulse;
 mod route;
+mod signs;
 mod sound;
 mod steps;
 

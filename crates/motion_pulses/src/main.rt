@@ -6,7 +6,7 @@
 mod arcs;
 
 use arcs::show_arc;
-use motion::{Counters, Move, Sign, Signs};
+use motion::{Counters, Move, Signs};
 use std::io;
 use std::io::Read;
 
@@ -59,32 +59,8 @@ fn number_of(c: u32) -> i64 {
     i64::from(c) - 8388608
 }
 
-fn show_point(rt: &impl Print, c: Counters) -> io::Result<()> {
-    println!(rt;
-        " {} {} {} {}",
-        number_of(c.x),
-        number_of(c.y),
-        number_of(c.z),
-        number_of(c.a)
-    )
-}
-
-fn sign(s: Sign) -> char {
-    match s {
-        Sign::Minus => '-',
-        Sign::Rest => '.',
-        Sign::Plus => '+',
-    }
-}
-
 fn show_pulse(rt: &impl Print, s: Signs, speed: u16) -> io::Result<()> {
-    println!(rt;
-        "P {}{}{}{} {speed}",
-        sign(s.x),
-        sign(s.y),
-        sign(s.z),
-        sign(s.a)
-    )
+    println!(rt; "P {s} {speed}")
 }
 
 // Whether it passes the test of 103 here, and one count beside.
@@ -114,8 +90,7 @@ fn show_pulses<P: Pulsing>(
         at = there;
     }
     show_sound(rt, p, at)?;
-    print!(rt; "E")?;
-    show_point(rt, at)?;
+    println!(rt; "E {at}")?;
     Ok(Some(p))
 }
 
@@ -131,8 +106,7 @@ fn show_straight(rt: &impl Print, words: [u32; 20]) -> io::Result<()> {
     println!(rt; "N {}", m.left())?;
     show_sound(rt, m, at)?;
     if let Some(rest) = show_pulses(rt, m, at, words[19])? {
-        print!(rt; "R")?;
-        show_point(rt, rest.resting())?;
+        println!(rt; "R {}", rest.resting())?;
     }
     Ok(())
 }

@@ -1,21 +1,10 @@
 // An answer by its kind, signs, and speed or byte.
 ghost use Rattle.std.specs.Prelude.{◌≡◌};
-ghost use Rattle.motion.specs.Phase.{sign_value};
 ghost use Rattle.port.specs.Calls.{kind_of, value_of, at_rest, signs_of, clocked_by};
 
 use crate::{Clocked, State};
 use engine::Answer;
 use motion::{Sign, Signs};
-
-fn sign_value(s: Sign) -> i8
-    ensures { result ≡ sign_value s }
-{
-    match s {
-        Sign::Minus => -1,
-        Sign::Rest => 0,
-        Sign::Plus => 1,
-    }
-}
 
 fn kind_of(a: Answer) -> u8
     ensures { result ≡ kind_of a }
@@ -34,10 +23,8 @@ fn value_of(a: Answer) -> u16
 {
     match a {
         Answer::Pulse(_, v) => v,
-        Answer::Pause => 0,
         Answer::Send(b) => b as u16,
-        Answer::Done => 0,
-        Answer::Nothing => 0,
+        Answer::Pause | Answer::Done | Answer::Nothing => 0,
     }
 }
 
@@ -57,10 +44,7 @@ fn signs_of(a: Answer) -> Signs
 {
     match a {
         Answer::Pulse(s, _) => s,
-        Answer::Pause => at_rest(),
-        Answer::Send(_) => at_rest(),
-        Answer::Done => at_rest(),
-        Answer::Nothing => at_rest(),
+        Answer::Pause | Answer::Send(_) | Answer::Done | Answer::Nothing => at_rest(),
     }
 }
 
@@ -68,18 +52,14 @@ fn signs_of(a: Answer) -> Signs
 pub(crate) fn clocked(state: State, a: Answer, refusal: u16) -> Clocked
     ensures { result ≡ clocked_by refusal state a }
 {
-    let s = signs_of(a);
-    let x = s.x;
-    let y = s.y;
-    let z = s.z;
-    let w = s.a;
+    let signs = signs_of(a);
     Clocked {
         state,
         kind: kind_of(a),
-        x: sign_value(x),
-        y: sign_value(y),
-        z: sign_value(z),
-        a: sign_value(w),
+        x: signs.x.value(),
+        y: signs.y.value(),
+        z: signs.z.value(),
+        a: signs.a.value(),
         value: value_of(a),
         refusal,
     }

@@ -26,28 +26,14 @@ pub fn board_fresh() -> State
 fn is_refused(act: Act) -> bool
     ensures { result ≡ is_wrong act }
 {
-    match act {
-        Act::Wrong => true,
-        Act::Still => false,
-        Act::Pulse(_) => false,
-        Act::Pause(_) => false,
-        Act::Finish => false,
-        Act::Record => false,
-    }
+    matches!(act, Act::Wrong)
 }
 
 // Whether nothing runs.
 fn is_still(act: Act) -> bool
     ensures { result ≡ is_still act }
 {
-    match act {
-        Act::Wrong => false,
-        Act::Still => true,
-        Act::Pulse(_) => false,
-        Act::Pause(_) => false,
-        Act::Finish => false,
-        Act::Record => false,
-    }
+    matches!(act, Act::Still)
 }
 
 // A clock call that no length and no code of the state refuses. Of a pulse only the counters and the mark are written, and where nothing
@@ -68,23 +54,18 @@ fn tick(state: State, store: &[u8], table: &[u16]) -> Clocked
         return clocked(state, Answer::Nothing, 0);
     }
     if let Act::Pulse(b) = act {
-        let at = b.at;
-        let mark = b.mark;
-        let signs = b.signs;
         let mut next = state;
-        next.at = at;
+        next.at = b.at;
         if state.kind == 0 {
-            next.straight.phase = mark.phase;
-            next.straight.made = mark.made;
-            return clocked(next, Answer::Pulse(signs, b.speed), 0);
+            next.straight.phase = b.mark.phase;
+            next.straight.made = b.mark.made;
+            return clocked(next, Answer::Pulse(b.signs, b.speed), 0);
         }
-        next.round.made = mark.made;
-        return clocked(next, Answer::Pulse(signs, b.speed), 0);
+        next.round.made = b.mark.made;
+        return clocked(next, Answer::Pulse(b.signs, b.speed), 0);
     }
     let t = e.act(act, store, table);
-    let engine = t.engine;
-    let answer = t.answer;
-    clocked(state.with_engine(engine), answer, 0)
+    clocked(state.with_engine(t.engine), t.answer, 0)
 }
 
 pub fn board_clock(state: State, store: &[u8], table: &[u16]) -> Clocked
@@ -147,9 +128,8 @@ pub fn board_receive(
     let t = state
         .open()
         .receive(byte, ports_of(ports), reply, store, table);
-    let board = t.board;
     Heard {
-        state: state.with_board(board),
+        state: state.with_board(t.board),
         len: t.len,
         refusal: t.refusal,
     }
@@ -185,12 +165,10 @@ pub fn board_list(state: State, store: &[u8], text: &mut [u8]) -> Written
 fn shown(state: State, board: Board, runs: bool, refusal: u16) -> Shown
     ensures { result ≡ shown_by refusal runs board state }
 {
-    let position = board.position();
-    let origin = board.origin();
     Shown {
         state,
-        position,
-        origin,
+        position: board.position(),
+        origin: board.origin(),
         runs: as_flag(runs),
         refusal,
     }
@@ -203,6 +181,5 @@ pub fn board_show(state: State) -> Shown
     if !state.is_known() | !board.sound() {
         return shown(state, board, false, 103);
     }
-    let engine = board.engine;
-    shown(state, board, engine.runs() & !board.standing, 0)
+    shown(state, board, board.engine.runs() & !board.standing, 0)
 }

@@ -16,7 +16,7 @@ use travel::Travel;
 pub(crate) fn as_flag(b: bool) -> u8
     ensures { result ≡ flag b }
 {
-    if b { 1 } else { 0 }
+    u8::from(b)
 }
 
 // ---- circles
@@ -43,24 +43,19 @@ fn direction_code(direction: Direction) -> u8
 fn circling_of(plane: u8, direction: u8) -> Circling
     ensures { result ≡ circling_of plane direction }
 {
-    let p = circle::plane_of(plane as u32);
-    let d = circle::direction_of(direction as u32);
     Circling {
-        plane: p,
-        direction: d,
+        plane: circle::plane_of(plane as u32),
+        direction: circle::direction_of(direction as u32),
     }
 }
 
 fn arc_of(r: Round) -> Arc
     ensures { result ≡ arc_of r }
 {
-    let circling = circling_of(r.plane, r.direction);
-    let centre = r.centre;
-    let start = r.start;
     Arc {
-        circling,
-        centre,
-        start,
+        circling: circling_of(r.plane, r.direction),
+        centre: r.centre,
+        start: r.start,
         speed: r.speed,
         length: r.length,
         made: r.made,
@@ -70,19 +65,14 @@ fn arc_of(r: Round) -> Arc
 fn round_of(a: Arc) -> Round
     ensures { result ≡ round_of a }
 {
-    let c = a.circling;
-    let plane = c.plane;
-    let direction = c.direction;
-    let centre = a.centre;
-    let start = a.start;
     Round {
-        centre,
-        start,
+        centre: a.centre,
+        start: a.start,
         length: a.length,
         made: a.made,
         speed: a.speed,
-        plane: plane_number(plane),
-        direction: direction_code(direction),
+        plane: plane_number(a.circling.plane),
+        direction: direction_code(a.circling.direction),
     }
 }
 
@@ -175,13 +165,13 @@ fn byte_over(job: Job, old: u8) -> u8
     ensures { result ≡ byte_over job old }
 {
     match job {
-        Job::Idle => old,
-        Job::Storing => old,
-        Job::Direct(_) => old,
-        Job::Ready => old,
-        Job::Moving(_) => old,
-        Job::Delay(_) => old,
         Job::Wait(c, _) => c,
+        Job::Idle
+        | Job::Storing
+        | Job::Direct(_)
+        | Job::Ready
+        | Job::Moving(_)
+        | Job::Delay(_) => old,
     }
 }
 
@@ -190,13 +180,9 @@ fn number_over(job: Job, old: u16) -> u16
     ensures { result ≡ number_over job old }
 {
     match job {
-        Job::Idle => old,
-        Job::Storing => old,
-        Job::Direct(_) => old,
-        Job::Ready => old,
-        Job::Moving(_) => old,
         Job::Delay(n) => n,
         Job::Wait(_, t) => t,
+        Job::Idle | Job::Storing | Job::Direct(_) | Job::Ready | Job::Moving(_) => old,
     }
 }
 
@@ -289,29 +275,20 @@ impl State {
     pub(crate) fn engine(self) -> Engine
         ensures { result ≡ engine_of self }
     {
-        let at = self.at;
-        let origin = self.origin;
-        let held = self.held;
-        let loops = self.loops;
-        let straight = self.straight;
-        let round = self.round;
-        let travel = travel_of(self.kind, straight, round);
-        let job = job_of(self.job, travel, self.number, self.byte);
-        let circling = circling_of(self.plane, self.direction);
-        let run = Run {
-            job,
-            place: self.place,
-            loops,
-        };
+        let travel = travel_of(self.kind, self.straight, self.round);
         Engine {
             axes: self.axes,
-            at,
-            origin,
+            at: self.at,
+            origin: self.origin,
             three: self.three == 1,
-            circling,
+            circling: circling_of(self.plane, self.direction),
             output: self.output,
-            held,
-            run,
+            held: self.held,
+            run: Run {
+                job: job_of(self.job, travel, self.number, self.byte),
+                place: self.place,
+                loops: self.loops,
+            },
         }
     }
 
@@ -319,17 +296,14 @@ impl State {
     pub(crate) fn open(self) -> Board
         ensures { result ≡ board_of self }
     {
-        let bytes = self.line;
-        let line = Line {
-            bytes,
-            len: self.len,
-            over: self.over == 1,
-        };
-        let engine = self.engine();
         Board {
-            engine,
+            engine: self.engine(),
             standing: self.standing == 1,
-            line,
+            line: Line {
+                bytes: self.line,
+                len: self.len,
+                over: self.over == 1,
+            },
         }
     }
 
@@ -337,51 +311,40 @@ impl State {
     pub(crate) fn with_engine(self, e: Engine) -> State
         ensures { result ≡ coded_over self e self.line self.len self.over self.standing }
     {
-        let run = e.run;
-        let at = e.at;
-        let origin = e.origin;
-        let held = e.held;
-        let loops = run.loops;
-        let job = run.job;
-        let c = e.circling;
-        let plane = c.plane;
-        let direction = c.direction;
+        let job = e.run.job;
         let under = e.under_way();
-        let straight = straight_over(under, self.straight);
-        let round = round_over(under, self.round);
-        let mut s = self;
-        s.at = at;
-        s.origin = origin;
-        s.straight = straight;
-        s.round = round;
-        s.held = held;
-        s.place = run.place;
-        s.number = number_over(job, self.number);
-        s.loops = loops;
-        s.axes = e.axes;
-        s.three = as_flag(e.three);
-        s.plane = plane_number(plane);
-        s.direction = direction_code(direction);
-        s.output = e.output;
-        s.job = code_of(job);
-        s.kind = kind_over(under, self.kind);
-        s.byte = byte_over(job, self.byte);
-        s
+        State {
+            at: e.at,
+            origin: e.origin,
+            straight: straight_over(under, self.straight),
+            round: round_over(under, self.round),
+            held: e.held,
+            place: e.run.place,
+            number: number_over(job, self.number),
+            loops: e.run.loops,
+            axes: e.axes,
+            three: as_flag(e.three),
+            plane: plane_number(e.circling.plane),
+            direction: direction_code(e.circling.direction),
+            output: e.output,
+            job: code_of(job),
+            kind: kind_over(under, self.kind),
+            byte: byte_over(job, self.byte),
+            ..self
+        }
     }
 
     // A board written over a state.
     pub(crate) fn with_board(self, b: Board) -> State
         ensures { result ≡ over self b }
     {
-        let l = b.line;
-        let line = l.bytes;
-        let engine = b.engine;
-        let mut s = self.with_engine(engine);
-        s.line = line;
-        s.len = l.len;
-        s.over = as_flag(l.over);
-        s.standing = as_flag(b.standing);
-        s
+        State {
+            line: b.line.bytes,
+            len: b.line.len,
+            over: as_flag(b.line.over),
+            standing: as_flag(b.standing),
+            ..self.with_engine(b.engine)
+        }
     }
 
     // Every number 0.

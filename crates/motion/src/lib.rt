@@ -4,7 +4,7 @@
 mod phase;
 mod pulse;
 mod route;
-mod signs;
+mod shown;
 mod sound;
 mod steps;
 

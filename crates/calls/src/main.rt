@@ -14,7 +14,7 @@ use script::Command;
 use show::{show_filled, show_heard, show_listing, show_state, show_ticked};
 use std::alloc::Global;
 use std::io;
-use std::io::{BufRead, BufReader};
+use std::io::{BufRead, BufReader, Read};
 
 // How many bytes the store has that the next call is lent, how many entries the table, and how many bytes the reply buffer.
 #[derive(Clone, Copy)]
@@ -23,6 +23,9 @@ pub(crate) struct Lent {
     pub table: usize,
     pub reply: usize,
 }
+
+// The bytes of a line that are kept, its line feed with them: no command has half as many.
+const KEPT: u64 = 128;
 
 const USUAL: Lent = Lent {
     store: 16384,
@@ -188,10 +191,18 @@ fn set<T: Copy>(places: &mut [T], at: usize, value: T) {
 // A wrong line prints its number.
 fn main(rt: HostRuntime) -> io::Result<()> {
     let mut play = Play::new();
-    let mut number = 0u64;
-    for line in BufReader::new(rt.alloc(), rt.stdin())?.split(rt.alloc(), b'\n') {
-        number = number.saturating_add(1);
-        if !play.take(&rt, rt.alloc(), &line?)? {
+    let mut input = BufReader::new(rt.alloc(), rt.stdin())?;
+    let mut line = Vec::new(rt.alloc());
+    for number in 1..u64::MAX {
+        line.clear();
+        if input.by_ref().take(KEPT).read_until(b'\n', &mut line)? == 0 {
+            break;
+        }
+        if !line.ends_with(b"\n") {
+            input.skip_until(b'\n')?;
+        }
+        let row = line.strip_suffix(b"\n").unwrap_or(&line);
+        if !play.take(&rt, rt.alloc(), row)? {
             println!(rt; "? {number}")?;
         }
         if !play.more {

@@ -16,7 +16,9 @@ use Rattle.count.specs.Words.{pad}
 use Rattle.record.specs.declared.Held.{Held}
 use Rattle.record.specs.declared.Record.{Record}
 use Rattle.record.specs.declared.Fetched.{Fetched}
-use Rattle.record.specs.Bytes.{Fetch, Got, End, Wrong, front, length_of, made, is_right}
+use Rattle.record.specs.Bytes.{front, length_of, made, is_right}
+use Rattle.record.specs.declared.Found.{Found}
+use Rattle.record.specs.declared.Found.TheVariants.{Got, End, Wrong}
 use Rattle.record.specs.Places.{in_use, record_at, answered, Records, are, none-are, onto, then, records_from, records_of}
 use Rattle.record.proofs.laws.Walk.{front-stands}
 use Rattle.program.specs.Program.{record_in}
@@ -26,7 +28,7 @@ use Rattle.program.specs.work.Decode.{kind_of, kept, Arrays, noted, unread, mapp
 use Rattle.program.proofs.laws.Decode.{kept_same}
 use Rattle.program.proofs.laws.Accepting.{Rights, rights, records-count}
 
-abbrev pub found : Fetch → (Record → Arrays) → Arrays
+abbrev pub found : Found → (Record → Arrays) → Arrays
 found (Got r) f = f r
 found End f = unread
 found Wrong f = unread
@@ -132,7 +134,7 @@ module _ (h : Held) (s : List ℕ) where
       let d : suc (length u) ≡ length (in_use h s) - at = ap length (sym e) ∙ length-drop at (in_use h s) in
       rw (lt-leb (length (in_use h s)) at (omega arith))
 
-  same_next : (k at : ℕ) (l : List Record) (x : Fetch) → record_at h s at ≡ x → Same k
+  same_next : (k at : ℕ) (l : List Record) (x : Found) → record_at h s at ≡ x → Same k
       → found x (λ r. walk h s k (at + length_of r) (length l + 1) (set (kinds_of l) (length l) (kind r)) (set (offsets_of l) (length l) (kept r)))
       ≡ arrays_on (behind l (then x (λ r. records_from h.axes k (drop (length_of r) (drop at (in_use h s))))))
   unfolding record_at
@@ -207,12 +209,12 @@ module _ (h : Held) (s : List ℕ) (few : h.records ≤ 1000) (ks os : List ℕ)
 
 -- ---- one step of the walk, as the code takes it
 
-none-by : (x : Fetch) (f : Record → Arrays) → (answered x).len ≡ 0 → found x f ≡ unread
+none-by : (x : Found) (f : Record → Arrays) → (answered x).len ≡ 0 → found x f ≡ unread
 none-by (Got r) f e = absurd (omega arith)
 none-by End f e = refl
 none-by Wrong f e = refl
 
-on-by : (x : Fetch) (f : Record → Arrays) → ((answered x).len ≡ 0 → ⊥) → (found x f ≡ f (answered x).item) × ((answered x).len ≡ length_of (answered x).item)
+on-by : (x : Found) (f : Record → Arrays) → ((answered x).len ≡ 0 → ⊥) → (found x f ≡ f (answered x).item) × ((answered x).len ≡ length_of (answered x).item)
 on-by (Got r) f e = (refl, refl)
 on-by End f e = absurd (e refl)
 on-by Wrong f e = absurd (e refl)

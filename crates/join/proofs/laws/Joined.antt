@@ -14,7 +14,8 @@ use Rattle.count.proofs.laws.Truth.{and-false}
 use Rattle.record.specs.declared.Held.{Held}
 use Rattle.record.specs.declared.Record.{Record}
 use Rattle.record.specs.Memory.{Memory, memory}
-use Rattle.record.specs.Bytes.{Below, Got, made}
+use Rattle.record.specs.Bytes.{Below, made}
+use Rattle.record.specs.declared.Found.TheVariants.{Got}
 use Rattle.record.specs.Places.{in_use, Records, records_of}
 use Rattle.record.specs.Places.Records.{are}
 use Rattle.record.specs.Table.{fetch_of, TableTrue, Filling, filling, fill_of}

@@ -8,8 +8,7 @@ use Rattle.record.specs.declared.Record.{Record}
 use Rattle.record.specs.Fault.{count_right, axes_right, ranges_right, speeds_right, numbers_reply}
 use Rattle.record.specs.Memory.{Memory}
 use Rattle.record.specs.Keep.{store_of}
-use Rattle.program.specs.declared.Verdict.{Verdict}
-use Rattle.program.specs.declared.Verdict.TheVariants.{Sound, Fault, Unreadable}
+use Rattle.program.specs.Verdict.{Verdict, Sound, Fault, Unreadable}
 use Rattle.program.specs.Program.{verdict_of, is_sound}
 use Rattle.line.specs.declared.Code.{Code}
 use Rattle.line.specs.declared.Code.TheVariants as code

@@ -9,7 +9,7 @@ ghost use Rattle.board.specs.work.Work.{spoke, kept_said, Ended};
 
 use crate::{Board, Saying, Spoke};
 use line::{Code, Stored};
-use program::Verdict;
+use program::Flaw;
 use record::Record;
 
 impl Board {
@@ -51,13 +51,12 @@ impl Board {
         ensures { Ended result self store.now }
     {
         let e = self.engine;
-        let verdict = program::check(store, e.held);
-        match verdict {
-            Verdict::Sound => self.replies(e.cease(), b'0'),
-            Verdict::Fault(letter, place) => self
+        match program::check(store, e.held) {
+            Ok(()) => self.replies(e.cease(), b'0'),
+            Err(Flaw::Fault(rule, place)) => self
                 .with_engine(e.empty().cease())
-                .says(Saying::Fault(letter, place)),
-            Verdict::Unreadable => self.replies(e.empty().cease(), b'G'),
+                .says(Saying::Fault(rule.letter(), place)),
+            Err(Flaw::Unreadable) => self.replies(e.empty().cease(), b'G'),
         }
     }
 

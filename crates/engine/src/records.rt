@@ -143,17 +143,14 @@ impl Engine {
         ensures { result ≡ leading (onward_of item self.run.place self.held.records self.run.loops)
             (onward_of item self.run.place self.held.records self.run.loops).going (get_or item.words 0 0) self }
     {
-        let held = self.held;
         let run = self.run;
-        let way = program::leap(item, run.place, held.records, run.loops);
-        let going = way.going;
+        let way = program::leap(item, run.place, self.held.records, run.loops);
         let loops = way.loops(run.loops);
-        match going {
-            Going::To => self.go_to(Job::Ready, way.place, loops),
-            Going::Waits => {
-                let words = item.words;
-                let c = words[0] as u8;
-                self.go_to(Job::Wait(c, way.target), way.place, loops)
+        match way.going {
+            Going::To(place) => self.go_to(Job::Ready, place, loops),
+            Going::Waits { place, target } => {
+                let c = item.words[0] as u8;
+                self.go_to(Job::Wait(c, target), place, loops)
             }
             Going::Wrong => self.fail(),
         }

@@ -9,9 +9,8 @@ use lib.ListN.{length}
 use Rattle.record.specs.declared.Held.{Held}
 use Rattle.record.specs.Memory.{Memory}
 use Rattle.record.specs.Places.{records_of}
-use Rattle.program.specs.declared.Acceptance.{Acceptance}
 use Rattle.program.specs.Program.{accepted}
-use Rattle.program.specs.Edges.{leads_out, starts_first, of_these, acceptance_of}
+use Rattle.program.specs.Edges.{Acceptance, leads_out, starts_first, of_these, acceptance_of}
 use Rattle.program.proofs.laws.Marks.{not-both}
 use Rattle.join.specs.Join.{counted, stores_right, axes_right, both_accepted, enters_range, room_right, refusal_of}
 

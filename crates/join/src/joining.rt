@@ -59,10 +59,14 @@ fn refusal_of(first: Held, store: &[u8], table: &[u16], second: Held, other: &[u
     if !axes_right(first, second) {
         return 51; // 3
     }
-    let a = accepts(store, counted(first, second));
-    let b = accepts(other, counted(second, first));
-    if !(a.accepted & b.accepted) | (a.out & b.first) {
+    let Some(a) = accepts(store, counted(first, second)) else {
         return 71; // G
+    };
+    let Some(b) = accepts(other, counted(second, first)) else {
+        return 71;
+    };
+    if a.out & b.first {
+        return 71;
     }
     if !room_right(first, second) {
         return 54; // 6

@@ -152,10 +152,10 @@ module _ (h : Held) (s : List ℕ) where
   same (suc k) at l = same_next k at l (front h.axes (drop at (in_use h s))) refl (same k)
 
   -- the walk gives the arrays of the list
-  pub start : {ks os : List ℕ} → ks ≡ replicate 1000 0 → os ≡ replicate 1000 0 → arrays_on (records_of h s) ≡ walk h s h.records 0 0 ks os
+  pub start : {k : ℕ} {ks os : List ℕ} → k ≡ h.records → ks ≡ replicate 1000 0 → os ≡ replicate 1000 0 → arrays_on (records_of h s) ≡ walk h s k 0 0 ks os
   unfolding records_of
-  start p q =
-      rw (p, q, pad-none 1000)
+  start e p q =
+      rw (e, p, q, pad-none 1000)
       (sym (same h.records 0 [] ∙ ap arrays_on (behind-none (records_from h.axes h.records (in_use h s)))))
 
 -- ---- what the arrays say

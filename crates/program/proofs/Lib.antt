@@ -3,6 +3,7 @@ pub mod Notes
 pub mod Steps
 pub mod Gather
 pub mod Reading
+pub mod Told
 pub mod Only
 pub mod Examples
 pub mod laws

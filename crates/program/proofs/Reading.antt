@@ -1,5 +1,5 @@
 -- From what two arrays say of a store: the verdict of its check, and its acceptance with the edges. Assumes nothing.
-use Prim.Native.Nat.{ℕ, zero, suc, ◌-◌, ◌≤◌, ◌<◌}
+use Prim.Native.Nat.{ℕ, zero, suc, ◌+◌, ◌-◌, ◌≤◌, ◌<◌}
 use mathlib.Core.Bool.{Bool, true, false, not, ◌&&◌, ◌||◌}
 use mathlib.Core.List.{List}
 use mathlib.Core.Path.{◌≡◌, refl, sym, ◌∙◌, ap}
@@ -8,11 +8,18 @@ use native.Mathlib.Numerals.{sub-one}
 use borrow.Author.Tests.{lt-ltb, le-ltb}
 use lib.Dec.{eqb}
 use lib.ListN.{get_or}
+use Rattle.std.specs.List.{range_with_len, list_any}
+use Rattle.std.proofs.Common.{◌==◌}
+use Rattle.std.proofs.Math.Bool.{or_assoc, or_comm}
+use Rattle.program.specs.Check.{some}
+use native.Mathlib.Nat.{add-zero, zero-add}
 use Rattle.count.proofs.laws.Truth.{never, and-false}
 use Rattle.record.specs.declared.Held.{Held}
 use Rattle.record.specs.Places.{none-are, records_of}
-use Rattle.program.specs.declared.Verdict.{Verdict}
-use Rattle.program.specs.declared.Verdict.TheVariants.{Sound, Fault, Unreadable}
+use Rattle.std.specs.Prelude.{Err}
+use Rattle.program.specs.declared.Flaw.{Flaw}
+use Rattle.program.specs.declared.Flaw.TheVariants as flaw
+use Rattle.program.specs.Verdict.{Verdict, Sound, Fault, Unreadable, verdict}
 use Rattle.count.specs.Axes.{axes_set}
 use Rattle.program.specs.Program.{check_of, verdict_on, verdict_of, is_sound, sized, passing, accepted}
 use Rattle.program.specs.Edges.{leads_out, starts_first, of_these, acceptance, acceptance_of}
@@ -61,29 +68,27 @@ module _ (h : Held) (s ks os : List ℕ) (few : h.records ≤ 1000) (x : Read h 
       (ap (leads (loop_at x.items) (far_at x.items) (mark 0)) (sym x.count)
       ∙ sym (ap (of_these starts_first) x.reads ∙ first-same h.axes x.items x.right))
 
--- ---- a place that leads to a mark, sought from the last one down
+-- ---- a place that leads to a mark, sought among n places
 
-module _ (ks os : List ℕ) (kind m n : ℕ) where
-  abbrev sought : ℕ → Bool
-  sought q = leads (kind_is ks kind) (far_in os) m q
+any-next : (f : ℕ → Bool) (a n : ℕ) → list_any f (range_with_len a (suc n)) ≡ list_any f (range_with_len a n) || f (a + n)
+any-next f a zero = rw add-zero (or_comm (f a) false)
+any-next f a (suc n) =
+    let e : a + 1 + n ≡ a + suc n = omega arith in
+    rw (any-next f (a + 1) n, e) (sym (or_assoc (f a) (list_any f (range_with_len (a + 1) n)) (f (a + suc n))))
 
-  pub sought-none : (q : ℕ) → sought n ≡ sought q → q ≤ 0 → false ≡ sought n
-  unfolding leads
-  sought-none zero e l = sym e
-  sought-none (suc k) e l = absurd (omega arith)
+any-some : (f : ℕ → Bool) (n : ℕ) → list_any f (range_with_len 0 n) ≡ some n f
+any-some f zero = refl
+any-some f (suc n) = any-next f 0 n ∙ rw (zero-add, any-some f n) (or_comm (some n f) (f n))
 
-  one_down : (q : ℕ) {b f : ℕ} {t : Bool} → 0 < q → b ≡ get_or ks (q - 1) 0 → f ≡ far_in os (q - 1) → eqb b kind && eqb f m ≡ t → sought q ≡ t || sought (q - 1)
-  unfolding leads
-  one_down zero l p r e = absurd (omega arith)
-  one_down (suc k) l p r e = rw (← e, p, r, sub-one)
-
-  pub sought-here : (q : ℕ) {b f : ℕ} → sought n ≡ sought q → 0 < q → b ≡ get_or ks (q - 1) 0 → f ≡ far_in os (q - 1) → eqb b kind && eqb f m ≡ true → true ≡ sought n
-  sought-here q e l p r t = sym (e ∙ one_down q l p r t)
-
-  pub sought-on : (q : ℕ) {b f : ℕ} → sought n ≡ sought q → 0 < q → b ≡ get_or ks (q - 1) 0 → f ≡ far_in os (q - 1) → eqb b kind && eqb f m ≡ false → sought n ≡ sought (q - 1)
-  sought-on q e l p r t = e ∙ one_down q l p r t
+pub leads-any : (test : ℕ → Bool) (far : ℕ → ℕ) (m n : ℕ) → list_any (λ i. test i && (far i == m)) (range_with_len 0 n) ≡ leads test far m n
+unfolding leads
+leads-any test far m n = any-some (λ i. test i && (far i == m)) n
 
 -- ---- the acceptance
+
+pub told-err : (f : Flaw) (out first : Bool) → acceptance false false false ≡ told_of (verdict (Err f)) out first
+told-err flaw.Unreadable out first = refl
+told-err (flaw.Fault r p) out first = refl
 
 told-so : (v : Verdict) (out first : Bool) → told_of v out first ≡ acceptance (is_sound v) (is_sound v && out) (is_sound v && first)
 told-so Sound out first = refl

@@ -5,8 +5,7 @@ use mathlib.Core.Bool.{Bool}
 use native.Mathlib.Omega.{arith}
 use native.Mathlib.Numerals.{sub-one, add-one}
 use borrow.Author.Tests.{eq-eqb, ne_eqb}
-use Rattle.program.specs.declared.Verdict.{Verdict}
-use Rattle.program.specs.declared.Verdict.TheVariants.{Sound, Fault}
+use Rattle.program.specs.Verdict.{Verdict, Sound, Fault}
 use Rattle.program.specs.Check.{fault_from}
 use Rattle.program.specs.work.Marks.{letter, checked}
 

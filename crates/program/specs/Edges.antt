@@ -1,11 +1,11 @@
 -- Where a program meets another that is put before it or behind it (02, §4, the refusal G).
-use Rattle.std.specs.Prelude.{ℕ, Bool, false, ◌&&◌, List, ℤ, pos, length}
+use Rattle.std.specs.Prelude.{ℕ, Bool, true, false, ◌&&◌, List, ℤ, pos, length, Option, Some, None}
 use Rattle.count.specs.Numbers.{within}
 use Rattle.record.specs.declared.Held.{Held}
 use Rattle.record.specs.declared.Record.{Record}
 use Rattle.record.specs.Places.{Records, records_of}
 use Rattle.record.specs.Places.Records.{are, none-are}
-use Rattle.program.specs.declared.Acceptance.{Acceptance}
+use Rattle.program.specs.declared.Edges.{Edges}
 use Rattle.program.specs.Check.{some}
 use Rattle.program.specs.Program.{loop_at, turn_at, target_at, accepted}
 
@@ -26,7 +26,12 @@ abbrev pub of_these : (List Record → Bool) → Records → Bool
 of_these f (are l) = f l
 of_these f none-are = false
 
--- ---- as the code answers it: whether the program is accepted, and what is told of an accepted one
+-- ---- whether the program is accepted, and what is told of an accepted one
+
+pub record Acceptance : Type 0 where
+  pub accepted : Bool
+  pub out : Bool
+  pub first : Bool
 
 abbrev pub acceptance : Bool → Bool → Bool → Acceptance
 acceptance a out first = record { accepted = a; out = out; first = first }
@@ -34,3 +39,8 @@ acceptance a out first = record { accepted = a; out = out; first = first }
 unfoldable pub acceptance_of : Held → List ℕ → Acceptance
 acceptance_of h s =
     acceptance (accepted h s) (accepted h s && of_these leads_out (records_of h s)) (accepted h s && of_these starts_first (records_of h s))
+
+-- as the code answers it: the edges of an accepted one
+abbrev pub acceptance_in : Option Edges → Acceptance
+acceptance_in (Some e) = acceptance true e.out e.first
+acceptance_in None = acceptance false false false

@@ -8,9 +8,7 @@ use Rattle.count.specs.Ranges.{nth}
 use Rattle.record.specs.declared.Record.{Record}
 use Rattle.program.specs.declared.Loop.{Loop}
 use Rattle.program.specs.declared.Loops.{Loops}
-use Rattle.program.specs.declared.Going.{Going}
-use Rattle.program.specs.declared.Going.TheVariants.{To, Waits, Wrong}
-use Rattle.program.specs.declared.Way.{Way}
+use Rattle.program.specs.Going.{Going, To, Waits, Wrong, Way}
 use Rattle.program.specs.Program.{leads_to}
 
 -- ---- the open loops: each with its place and the goes back still to make; the entries past the last are 0

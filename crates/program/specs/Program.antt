@@ -11,8 +11,7 @@ use Rattle.record.specs.declared.Record.{Record}
 use Rattle.record.specs.Bytes.{made}
 use Rattle.record.specs.Places.{Records, records_of}
 use Rattle.record.specs.Places.Records.{are, none-are}
-use Rattle.program.specs.declared.Verdict.{Verdict}
-use Rattle.program.specs.declared.Verdict.TheVariants.{Sound, Fault, Unreadable}
+use Rattle.program.specs.Verdict.{Verdict, Sound, Fault, Unreadable}
 use Rattle.program.specs.Check.{checked}
 
 -- the record at a place; behind the last there is none, and what stands for it is no loop, jump or wait

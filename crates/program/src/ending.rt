@@ -4,9 +4,10 @@ ghost use Rattle.count.specs.Pick.{pick};
 ghost use Rattle.record.specs.Places.{records_of};
 ghost use Rattle.program.specs.work.Aims.{aim_of};
 ghost use Rattle.program.specs.Program.{verdict_of};
+ghost use Rattle.program.specs.Verdict.{verdict};
 ghost use Rattle.program.specs.work.Decode.{kind_of, clip, kept, noted, unread, arrays_on};
 
-use crate::Verdict;
+use crate::Flaw;
 use crate::pass::check_arrays;
 use record::{Held, Record, record_at};
 
@@ -14,14 +15,11 @@ use record::{Held, Record, record_at};
 fn in_use(store: &[u8], used: u16) -> usize
     ensures { result ≡ length (take used store.now) }
 {
-    let n = used as usize;
-    if n < store.len() {
-        return n;
-    }
-    store.len()
+    usize::from(used).min(store.len())
 }
 
 // A word's offset, counted from -32,768.
+#[tactic(auto, unfolding(crate::specs::work::Decode::clip))]
 fn clip(w: u32) -> u16
     ensures { result ≡ clip w }
 {
@@ -35,33 +33,25 @@ fn clip(w: u32) -> u16
 }
 
 // 1 a loop, 2 a jump or wait, 0 neither.
+#[tactic(auto, unfolding(crate::specs::work::Aims::aim_of))]
 fn kind_of(item: Record) -> u8
     ensures { result ≡ kind_of (aim_of item) }
 {
-    let words = item.words;
-    if item.code == b'3' {
-        if words[0] == 0 {
-            return 2;
-        }
-        return 1;
+    match item.code {
+        b'3' if item.words[0] != 0 => 1,
+        b'3' | b'2' => 2,
+        _ => 0,
     }
-    if item.code == b'2' {
-        return 2;
-    }
-    0
 }
 
+#[tactic(auto, unfolding(crate::specs::work::Decode::kept))]
 fn offset_of(item: Record) -> u16
     ensures { result ≡ kept item }
 {
-    let words = item.words;
-    if item.code == b'3' {
-        return clip(words[1]);
+    match item.code {
+        b'3' | b'2' => clip(item.words[1]),
+        _ => 0,
     }
-    if item.code == b'2' {
-        return clip(words[1]);
-    }
-    0
 }
 
 // The records of a part in use, each read once: what each place is, and its offset. Whether it is readable, as at most 1,000 records.
@@ -69,37 +59,31 @@ pub(crate) fn decode(store: &[u8], held: Held, kinds: &mut [u8], offsets: &mut [
     requires { (held.records ≤ 1000) × (kinds.old ≡ replicate 1000 0) × (offsets.old ≡ replicate 1000 0) }
     ensures { pick result (noted kinds.new offsets.new) unread ≡ arrays_on (records_of held store.now) }
 {
-    let mut at: usize = 0;
-    let mut i: usize = 0;
-    let mut left = held.records;
-    while 0 < left {
+    let mut at = 0;
+    for i in 0..usize::from(held.records) {
         let f = record_at(store, held, at);
-        let len = f.len;
-        if len == 0 {
+        if f.len == 0 {
             return false;
         }
-        let item = f.item;
-        kinds[i] = kind_of(item);
-        offsets[i] = offset_of(item);
-        at = at + (len as usize);
-        i = i + 1;
-        left = left - 1;
+        kinds[i] = kind_of(f.item);
+        offsets[i] = offset_of(f.item);
+        at += usize::from(f.len);
     }
     in_use(store, held.used) <= at
 }
 
 // The check of a store's part in use.
-pub fn check(store: &[u8], held: Held) -> Verdict
-    ensures { result ≡ verdict_of held store.now }
+pub fn check(store: &[u8], held: Held) -> Result<(), Flaw>
+    ensures { verdict result ≡ verdict_of held store.now }
 {
     let n = held.records;
     if 1000 < n {
-        return Verdict::Unreadable;
+        return Err(Flaw::Unreadable);
     }
     let mut kinds = [0u8; 1000];
     let mut offsets = [0u16; 1000];
     if decode(store, held, &mut kinds, &mut offsets) {
         return check_arrays(&kinds, &offsets, n);
     }
-    Verdict::Unreadable
+    Err(Flaw::Unreadable)
 }

@@ -1,6 +1,9 @@
 // Programs: the check at the end line, and where a record sends a run.
 #![tactic(auto)]
 
+ghost use Rattle.std.specs.Prelude.{◌≡◌};
+ghost use Rattle.program.specs.Verdict.{letter_of};
+
 mod accepting;
 mod arrays;
 mod ending;
@@ -12,18 +15,46 @@ pub use accepting::accepts;
 pub use ending::check;
 pub use running::{leap, onward};
 
-// What the check comes to: sound, the letter and place of the first fault, or that the store is not readable.
-#[derive(Clone, Copy)]
-pub enum Verdict {
-    Sound,
-    Fault(u8, u16),
-    Unreadable,
+// What a place may not be; of a place at fault in several ways the first is told.
+#[derive(Clone, Copy, PartialEq, Eq)]
+pub enum Rule {
+    // A jump or wait that leads outside.
+    Outside,
+    // A loop whose range starts before place 0.
+    Early,
+    // A loop whose range overlaps that of an earlier one with neither holding the other.
+    Overlaps,
+    // Held by more than seven ranges.
+    Crowded,
+    // A jump or wait that doesn't lie in the same ranges as its target.
+    Strays,
 }
 
-// Whether a program is accepted; and of an accepted one, whether a jump or wait leads to its end place, and whether a range starts at place 0.
-#[derive(Clone, Copy)]
-pub struct Acceptance {
-    pub accepted: bool,
+impl Rule {
+    // The letter that names it.
+    pub fn letter(self) -> u8
+        ensures { result ≡ letter_of self }
+    {
+        match self {
+            Rule::Outside => b'a',
+            Rule::Early => b'b',
+            Rule::Overlaps => b'c',
+            Rule::Crowded => b'd',
+            Rule::Strays => b'e',
+        }
+    }
+}
+
+// Why a check doesn't pass: the store is not readable, or the first fault, with its place.
+#[derive(Clone, Copy, PartialEq, Eq)]
+pub enum Flaw {
+    Unreadable,
+    Fault(Rule, u16),
+}
+
+// Of an accepted program: whether a jump or wait leads to its end place, and whether a range starts at place 0.
+#[derive(Clone, Copy, PartialEq, Eq)]
+pub struct Edges {
     pub out: bool,
     pub first: bool,
 }
@@ -44,20 +75,18 @@ pub struct Loops {
     pub depth: u8,
 }
 
-// Where a record sends a run: to a place, into a wait, or nowhere (G).
-#[derive(Clone, Copy)]
+// Where a record sends a run: to a place, into a wait with a next place and a target, or nowhere (G).
+#[derive(Clone, Copy, PartialEq, Eq)]
 pub enum Going {
-    To,
-    Waits,
+    To(u16),
+    Waits { place: u16, target: u16 },
     Wrong,
 }
 
-// The next place, a wait's target, and the open loops.
+// Where it sends a run, and the open loops.
 #[derive(Clone, Copy)]
 pub struct Way {
     pub going: Going,
-    pub place: u16,
-    pub target: u16,
     pub loops: Loops,
 }
 
@@ -65,16 +94,7 @@ pub struct Way {
 #[derive(Clone, Copy)]
 pub struct Lead {
     pub going: Going,
-    pub place: u16,
-    pub target: u16,
     pub depth: u8,
     pub top: u8,
     pub last: Loop,
-}
-
-// Own place plus offset: a place from place 0 to the end place, or outside.
-#[derive(Clone, Copy)]
-pub(crate) enum Target {
-    At(u16),
-    Outside,
 }

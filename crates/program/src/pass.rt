@@ -1,12 +1,13 @@
 // The check as one pass over the places: the ranges that hold a place are counted on the way.
-ghost use Rattle.std.specs.Prelude.{◌≡◌, false, cond, ◌≤◌, ◌<◌, length};
+ghost use Rattle.std.specs.Prelude.{◌≡◌, false, ◌≤◌, ◌<◌, length};
+ghost use Rattle.program.specs.Verdict.{letter_in, verdict};
 ghost use Rattle.program.specs.work.Marks.{outside, strays, checked};
 ghost use Rattle.program.specs.work.Work.{loop_in, turn_in, far_in};
 ghost use Rattle.program.specs.work.Ranges.{opening, fuller, letter_by, Backs, Starts, Counts};
 
-use crate::Verdict;
 use crate::arrays::{early, far, is_turn, outside};
 use crate::ranges::{first_back, is_range, overlaps, parted, place_of, start_of, starts_at};
+use crate::{Flaw, Rule};
 
 // e: whether place `p` is a jump or wait that doesn't lie in the same ranges as its target.
 fn strays(notes: &[u16], kinds: &[u8], offsets: &[u16], n: u16, p: u16) -> bool
@@ -23,78 +24,62 @@ fn strays(notes: &[u16], kinds: &[u8], offsets: &[u16], n: u16, p: u16) -> bool
     false
 }
 
-// The letter of the fault at place `p`, which `held` ranges hold, or 0.
-fn letter_at(notes: &[u16], kinds: &[u8], offsets: &[u16], n: u16, held: u16, p: u16) -> u8
+// What place `p`, which `held` ranges hold, is at fault for.
+#[tactic(auto, unfolding(crate::specs::work::Ranges::letter_by))]
+fn fault_at(notes: &[u16], kinds: &[u8], offsets: &[u16], n: u16, held: u16, p: u16) -> Option<Rule>
     requires { Backs (loop_in kinds.now) (far_in offsets.now) notes.now n 0 × (p < n) × (n ≤ 1000) }
-    ensures { result ≡ letter_by (loop_in kinds.now) (turn_in kinds.now) (far_in offsets.now) n held p }
+    ensures { letter_in result ≡ letter_by (loop_in kinds.now) (turn_in kinds.now) (far_in offsets.now) n held p }
 {
     if outside(kinds, offsets, n, p) {
-        return b'a';
+        return Some(Rule::Outside);
     }
     if early(kinds, offsets, p) {
-        return b'b';
+        return Some(Rule::Early);
     }
     if overlaps(notes, kinds, offsets, n, p) {
-        return b'c';
+        return Some(Rule::Overlaps);
     }
     if 7 < held {
-        return b'd';
+        return Some(Rule::Crowded);
     }
     if strays(notes, kinds, offsets, n, p) {
-        return b'e';
+        return Some(Rule::Strays);
     }
-    0
-}
-
-// 1 where a range ends.
-fn one(b: bool) -> u16
-    ensures { (result ≡ cond b 1 0) × (result ≤ 1) }
-{
-    if b {
-        return 1;
-    }
-    0
+    None
 }
 
 // The first fault of a program of `n` places: at each the ranges that start there are added, and behind it the one that ends there is
 // taken off.
-fn first_fault(notes: &[u16], kinds: &[u8], offsets: &[u16], n: u16) -> Verdict
+fn first_fault(notes: &[u16], kinds: &[u8], offsets: &[u16], n: u16) -> Result<(), Flaw>
     requires { Starts (loop_in kinds.now) (far_in offsets.now) notes.now n × Backs (loop_in kinds.now) (far_in offsets.now) notes.now n 0 × (n ≤ 1000) }
-    ensures { result ≡ checked (loop_in kinds.now) (turn_in kinds.now) (far_in offsets.now) n }
+    ensures { verdict result ≡ checked (loop_in kinds.now) (turn_in kinds.now) (far_in offsets.now) n }
 {
-    let mut p = 0;
     let mut on = 0;
-    while p < n {
+    for p in 0..n {
         let held = on + starts_at(notes, p);
-        let l = letter_at(notes, kinds, offsets, n, held, p);
-        if l != 0 {
-            return Verdict::Fault(l, p);
+        if let Some(rule) = fault_at(notes, kinds, offsets, n, held, p) {
+            return Err(Flaw::Fault(rule, p));
         }
-        on = held - one(is_range(kinds, offsets, p));
-        p = p + 1;
+        on = held - u16::from(is_range(kinds, offsets, p));
     }
-    Verdict::Sound
+    Ok(())
 }
 
 // The same, once it is noted for each place, from the last one on, which loop behind it is the first whose range starts before its own.
-fn check_starts(notes: &mut [u16], kinds: &[u8], offsets: &[u16], n: u16) -> Verdict
+fn check_starts(notes: &mut [u16], kinds: &[u8], offsets: &[u16], n: u16) -> Result<(), Flaw>
     requires { Counts (loop_in kinds.now) (far_in offsets.now) notes.old n × (length notes.old ≡ 1000) × (n ≤ 1000) }
-    ensures { result ≡ checked (loop_in kinds.now) (turn_in kinds.now) (far_in offsets.now) n }
+    ensures { verdict result ≡ checked (loop_in kinds.now) (turn_in kinds.now) (far_in offsets.now) n }
 {
-    let mut q = n;
-    while 0 < q {
-        let i = q - 1;
+    for i in (0..n).rev() {
         let s = start_of(kinds, offsets, i);
-        let b = first_back(&notes[..], kinds, offsets, n, q, s);
-        let at = i as usize;
-        let note = notes[at];
-        notes[at] = note + b;
-        q = i;
+        let b = first_back(&notes[..], kinds, offsets, n, i + 1, s);
+        notes[usize::from(i)] += b;
     }
     first_fault(&notes[..], kinds, offsets, n)
 }
 
 // Where the range of place `i` starts; of a place without one, that place.
+#[tactic(auto, unfolding(crate::specs::work::Ranges::opening))]
 fn opening(kinds: &[u8], offsets: &[u16], i: u16) -> u16
     ensures { (result ≡ opening (loop_in kinds.now) (far_in offsets.now) i) × (result ≤ i) }
 {
@@ -105,6 +90,7 @@ fn opening(kinds: &[u8], offsets: &[u16], i: u16) -> u16
 }
 
 // One range more that starts at a place, up to eight: more than seven are too many.
+#[tactic(auto, unfolding(crate::specs::work::Ranges::fuller))]
 fn fuller(note: u16, more: bool) -> u16
     ensures { result ≡ fuller note more }
 {
@@ -115,18 +101,14 @@ fn fuller(note: u16, more: bool) -> u16
 }
 
 // The check of a program of `n` places, in as many steps as there are places: first it is noted how many ranges start at each.
-pub(crate) fn check_arrays(kinds: &[u8], offsets: &[u16], n: u16) -> Verdict
+pub(crate) fn check_arrays(kinds: &[u8], offsets: &[u16], n: u16) -> Result<(), Flaw>
     requires { n ≤ 1000 }
-    ensures { result ≡ checked (loop_in kinds.now) (turn_in kinds.now) (far_in offsets.now) n }
+    ensures { verdict result ≡ checked (loop_in kinds.now) (turn_in kinds.now) (far_in offsets.now) n }
 {
     let mut notes = [0u16; 1000];
-    let mut i = 0;
-    while i < n {
-        let at = opening(kinds, offsets, i) as usize;
-        let has = is_range(kinds, offsets, i);
-        let note = notes[at];
-        notes[at] = fuller(note, has);
-        i = i + 1;
+    for i in 0..n {
+        let at = usize::from(opening(kinds, offsets, i));
+        notes[at] = fuller(notes[at], is_range(kinds, offsets, i));
     }
     check_starts(&mut notes, kinds, offsets, n)
 }

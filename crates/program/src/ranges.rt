@@ -5,19 +5,17 @@ ghost use Rattle.program.specs.work.Marks.{mark, overlaps};
 ghost use Rattle.program.specs.work.Work.{loop_in, far_in};
 ghost use Rattle.program.specs.work.Ranges.{ranged, start_of, back_of, starts_of, reach, differ, Firstly, Backs};
 
-use crate::arrays::{far, half_at, is_loop, mark_of};
+use crate::arrays::{entry_of, far, is_loop, mark_of};
 
 // The place of a mark; place 0 for one before it.
 pub(crate) fn place_of(m: u32) -> u32
     ensures { result ≡ m - 32768 }
 {
-    if m < 32768 {
-        return 0;
-    }
-    m - 32768
+    m.saturating_sub(32768)
 }
 
 // Whether place `i` is a loop that goes back, or stays: such a one has a range.
+#[tactic(auto, unfolding(crate::specs::work::Ranges::ranged))]
 pub(crate) fn is_range(kinds: &[u8], offsets: &[u16], i: u16) -> bool
     ensures { result ≡ ranged (loop_in kinds.now) (far_in offsets.now) i }
 {
@@ -28,6 +26,7 @@ pub(crate) fn is_range(kinds: &[u8], offsets: &[u16], i: u16) -> bool
 }
 
 // The mark where the range of place `i` starts; where it has none, the one behind the place.
+#[tactic(auto, unfolding(crate::specs::work::Ranges::start_of))]
 pub(crate) fn start_of(kinds: &[u8], offsets: &[u16], i: u16) -> u32
     ensures { result ≡ start_of (loop_in kinds.now) (far_in offsets.now) i }
 {
@@ -38,6 +37,7 @@ pub(crate) fn start_of(kinds: &[u8], offsets: &[u16], i: u16) -> u32
 }
 
 // Whether place `i` is a loop whose range starts before mark `s`.
+#[tactic(auto, unfolding(crate::specs::work::Ranges::reach))]
 fn reaches(kinds: &[u8], offsets: &[u16], i: u16, s: u32) -> bool
     ensures { result ≡ reach (loop_in kinds.now) (far_in offsets.now) s i }
 {
@@ -51,14 +51,14 @@ fn reaches(kinds: &[u8], offsets: &[u16], i: u16, s: u32) -> bool
 fn back_at(notes: &[u16], i: u16) -> u16
     ensures { result ≡ back_of notes.now i }
 {
-    half_at(notes, i) % 1024
+    entry_of(notes, i, 0) % 1024
 }
 
 // How many ranges start there, up to eight.
 pub(crate) fn starts_at(notes: &[u16], i: u16) -> u16
     ensures { result ≡ starts_of notes.now i }
 {
-    half_at(notes, i) / 1024
+    entry_of(notes, i, 0) / 1024
 }
 
 // The first place from `k` on that is a loop whose range starts before mark `s`, or `n`. From place to place the notes tell which it can be

@@ -2,45 +2,40 @@
 ghost use Rattle.std.specs.Prelude.{◌≡◌, ◌<◌, ◌≤◌, ◌-◌, get_or};
 ghost use Rattle.count.specs.Numbers.{signed};
 ghost use Rattle.count.specs.Ranges.{nth};
-ghost use Rattle.program.specs.Onward.{onward_of, aimed, looped, again, opens, counter, went};
+ghost use Rattle.program.specs.Going.{To, way_by, way_in};
+ghost use Rattle.program.specs.Onward.{onward_of, aimed, looped, again, opens, counter};
 ghost use Rattle.program.specs.work.Target.{leads};
-ghost use Rattle.program.specs.work.Leap.{leap_by, leap_of, loops_by};
-ghost use Rattle.program.specs.declared.Going.{Going};
+ghost use Rattle.program.specs.work.Leap.{leap_by, leap_of, loops_by, lead_in};
 
-use crate::{Going, Lead, Loop, Loops, Target, Way};
+use crate::{Going, Lead, Loop, Loops, Way};
 use record::Record;
 
 // The entry of the loop opened last; the first one if none is open.
 fn top_of(depth: u8) -> u8
     ensures { result ≡ depth - 1 }
 {
-    if depth == 0 {
-        return 0;
-    }
-    depth - 1
+    depth.saturating_sub(1)
 }
 
 fn entry(loops: Loops, top: u8) -> Loop
     ensures { result ≡ get_or loops.at top (counter 0 0) }
 {
-    if top < 7 {
-        let i = top as usize;
-        return loops.at[i];
-    }
-    Loop { place: 0, left: 0 }
+    loops
+        .at
+        .get(usize::from(top))
+        .copied()
+        .unwrap_or(Loop { place: 0, left: 0 })
 }
 
 // The open loops stay as they are.
-fn stays(going: Going, place: u16, target: u16, loops: Loops) -> Lead
-    ensures { result ≡ leap_by loops (went going place target loops) }
+fn stays(going: Going, loops: Loops) -> Lead
+    ensures { lead_in result ≡ leap_by loops (way_by going loops) }
 {
     let depth = loops.depth;
     let top = top_of(depth);
     let last = entry(loops, top);
     Lead {
         going,
-        place,
-        target,
         depth,
         top,
         last,
@@ -49,12 +44,10 @@ fn stays(going: Going, place: u16, target: u16, loops: Loops) -> Lead
 
 // On to a place, with another counter at an entry, and another number of open loops.
 fn sets(place: u16, top: u8, last: Loop, depth: u8) -> Lead
-    ensures { result ≡ record { going = Going.To; place = place; target = 0; depth = depth; top = top; last = last } }
+    ensures { lead_in result ≡ record { going = To; place = place; target = 0; depth = depth; top = top; last = last } }
 {
     Lead {
-        going: Going::To,
-        place,
-        target: 0,
+        going: Going::To(place),
         depth,
         top,
         last,
@@ -62,31 +55,31 @@ fn sets(place: u16, top: u8, last: Loop, depth: u8) -> Lead
 }
 
 // Own place plus the offset of word `w`.
-fn target_of(place: u16, w: u32, end: u16) -> Target
+fn target_of(place: u16, w: u32, end: u16) -> Option<u16>
     ensures { result ≡ leads place (signed w) end }
 {
-    let p = place as u32;
-    let e = end as u32;
+    let p = u32::from(place);
+    let e = u32::from(end);
     if w < 2147483648 {
         if p + w <= e {
-            return Target::At((p + w) as u16);
+            return Some((p + w) as u16);
         }
-        return Target::Outside;
+        return None;
     }
     let b = 4294967295 - w;
     if p <= b {
-        return Target::Outside;
+        return None;
     }
     if p - b - 1 <= e {
-        return Target::At((p - b - 1) as u16);
+        return Some((p - b - 1) as u16);
     }
-    Target::Outside
+    None
 }
 
 // The counter opened last is used.
 fn again(place: u16, target: u16, loops: Loops) -> Lead
     requires { (0 < loops.depth) × (loops.depth ≤ 7) × (place < 65535) }
-    ensures { result ≡ leap_by loops (again place target loops) }
+    ensures { lead_in result ≡ leap_by loops (again place target loops) }
 {
     let depth = loops.depth;
     let top = depth - 1;
@@ -106,11 +99,11 @@ fn again(place: u16, target: u16, loops: Loops) -> Lead
 // A new counter opens, and makes the first of its goes back.
 fn opens(place: u16, target: u16, number: u16, loops: Loops) -> Lead
     requires { 0 < number }
-    ensures { result ≡ leap_by loops (opens place target number loops) }
+    ensures { lead_in result ≡ leap_by loops (opens place target number loops) }
 {
     let depth = loops.depth;
     if 7 <= depth {
-        return stays(Going::Wrong, 0, 0, loops);
+        return stays(Going::Wrong, loops);
     }
     let first = Loop {
         place,
@@ -121,11 +114,11 @@ fn opens(place: u16, target: u16, number: u16, loops: Loops) -> Lead
 
 fn looped(place: u16, target: u16, number: u16, loops: Loops) -> Lead
     requires { (0 < number) × (place < 65535) }
-    ensures { result ≡ leap_by loops (looped place target number loops) }
+    ensures { lead_in result ≡ leap_by loops (looped place target number loops) }
 {
     let depth = loops.depth;
     if 7 < depth {
-        return stays(Going::Wrong, 0, 0, loops);
+        return stays(Going::Wrong, loops);
     }
     if 0 < depth {
         let last = entry(loops, depth - 1);
@@ -139,43 +132,48 @@ fn looped(place: u16, target: u16, number: u16, loops: Loops) -> Lead
 // A jump, a loop or a wait.
 fn aimed(item: Record, place: u16, end: u16, loops: Loops) -> Lead
     requires { place < end }
-    ensures { result ≡ leap_by loops (aimed place end (nth item.words 1) item loops) }
+    ensures { lead_in result ≡ leap_by loops (aimed place end (nth item.words 1) item loops) }
 {
     let words = item.words;
-    let t = target_of(place, words[1], end);
-    let Target::At(target) = t else {
-        return stays(Going::Wrong, 0, 0, loops);
+    let Some(target) = target_of(place, words[1], end) else {
+        return stays(Going::Wrong, loops);
     };
     if item.code == b'2' {
-        return stays(Going::Waits, place + 1, target, loops);
+        return stays(
+            Going::Waits {
+                place: place + 1,
+                target,
+            },
+            loops,
+        );
     }
     let number = words[0];
     if number == 0 {
-        return stays(Going::To, target, 0, loops);
+        return stays(Going::To(target), loops);
     }
     if 32767 < number {
-        return stays(Going::Wrong, 0, 0, loops);
+        return stays(Going::Wrong, loops);
     }
     looped(place, target, number as u16, loops)
 }
 
 // Where a record at a place sends a run, with the one entry of the open loops that it sets.
 pub fn leap(item: Record, place: u16, end: u16, loops: Loops) -> Lead
-    ensures { result ≡ leap_of item place end loops }
+    ensures { lead_in result ≡ leap_of item place end loops }
 {
     if end <= place {
-        return stays(Going::Wrong, 0, 0, loops);
+        return stays(Going::Wrong, loops);
     }
     if (item.code == b'3') | (item.code == b'2') {
         return aimed(item, place, end, loops);
     }
-    stays(Going::To, place + 1, 0, loops)
+    stays(Going::To(place + 1), loops)
 }
 
 impl Lead {
     // The open loops afterwards, made of those before.
     pub fn loops(self, before: Loops) -> Loops
-        ensures { result ≡ loops_by self before }
+        ensures { result ≡ loops_by (lead_in self) before }
     {
         let mut at = before.at;
         if self.top < 7 {
@@ -192,14 +190,11 @@ impl Lead {
 
 // Where a record at a place sends a run: the next place, or a wait and its target, and the open loops.
 pub fn onward(item: Record, place: u16, end: u16, loops: Loops) -> Way
-    ensures { result ≡ onward_of item place end loops }
+    ensures { way_in result ≡ onward_of item place end loops }
 {
     let w = leap(item, place, end, loops);
-    let going = w.going;
     Way {
-        going,
-        place: w.place,
-        target: w.target,
+        going: w.going,
         loops: w.loops(loops),
     }
 }

@@ -4,7 +4,7 @@
 
 ghost use Rattle.std.specs.Io.{ReadsAtMost};
 
-use program::{Going, Loop, Loops, Verdict, Way};
+use program::{Flaw, Going, Loop, Loops};
 use record::Held;
 use std::io;
 use std::io::Read;
@@ -55,48 +55,23 @@ fn put(rt: &impl Print, n: u16) -> io::Result<()> {
     print!(rt; "{n}")
 }
 
-fn show(rt: &impl Print, v: Verdict) -> io::Result<()> {
-    match v {
-        Verdict::Sound => print!(rt; "0"),
-        Verdict::Fault(letter, place) => {
-            let text = [letter, b' '];
+fn show(rt: &impl Print, checked: Result<(), Flaw>) -> io::Result<()> {
+    match checked {
+        Ok(()) => print!(rt; "0"),
+        Err(Flaw::Fault(rule, place)) => {
+            let text = [rule.letter(), b' '];
             rt.write_all(&text)?;
             put(rt, place)
         }
-        Verdict::Unreadable => print!(rt; "G"),
+        Err(Flaw::Unreadable) => print!(rt; "G"),
     }
-}
-
-// Whether the record is a wait.
-fn is_wait(g: Going) -> bool {
-    match g {
-        Going::To => false,
-        Going::Waits => true,
-        Going::Wrong => false,
-    }
-}
-
-fn is_wrong(g: Going) -> bool {
-    match g {
-        Going::To => false,
-        Going::Waits => false,
-        Going::Wrong => true,
-    }
-}
-
-// The next place: a wait's target if its character came.
-fn next_place(w: Way, heard: bool) -> u16 {
-    let g = w.going;
-    if heard & is_wait(g) {
-        return w.target;
-    }
-    w.place
 }
 
 fn no_loops() -> Loops {
-    let none = Loop { place: 0, left: 0 };
-    let at = [none; 7];
-    Loops { at: at, depth: 0 }
+    Loops {
+        at: [Loop { place: 0, left: 0 }; 7],
+        depth: 0,
+    }
 }
 
 // The places of a run's first records; the first wait hears another character, the second its own, and so on.
@@ -113,15 +88,17 @@ fn run(rt: &impl Print, store: &[u8], table: &[u16], held: Held) -> io::Result<(
         }
         print!(rt; " ")?;
         put(rt, place)?;
-        let w = program::onward(f.item, place, held.records, loops);
-        let g = w.going;
-        if is_wrong(g) {
-            return print!(rt; " G");
-        }
-        place = next_place(w, heard);
-        heard = heard ^ is_wait(g);
-        let o = w.loops;
-        loops = o;
+        let way = program::onward(f.item, place, held.records, loops);
+        loops = way.loops;
+        place = match way.going {
+            Going::To(next) => next,
+            Going::Waits { place, target } => {
+                let next = if heard { target } else { place };
+                heard = !heard;
+                next
+            }
+            Going::Wrong => return print!(rt; " G"),
+        };
     }
     Ok(())
 }

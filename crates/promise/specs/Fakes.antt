@@ -16,8 +16,7 @@ use Rattle.record.specs.Memory.{Memory, store_fits, table_fits}
 use Rattle.record.specs.Places.{Records, records_of}
 use Rattle.record.specs.Places.Records.{are, none-are}
 use Rattle.record.specs.Table.{fetch_of}
-use Rattle.program.specs.declared.Verdict.{Verdict}
-use Rattle.program.specs.declared.Verdict.TheVariants.{Sound, Fault, Unreadable}
+use Rattle.program.specs.Verdict.{Verdict, Sound, Fault, Unreadable}
 use Rattle.program.specs.Check.{letter, fault_from}
 use Rattle.program.specs.Program.{loop_at, turn_at, target_at}
 use Rattle.line.specs.Spaces.{unspaced}

@@ -11,9 +11,7 @@ use Rattle.record.specs.Places.{records_of}
 use Rattle.record.specs.Places.Records.{are}
 use Rattle.record.specs.Table.{fetch_of, TableTrue}
 use Rattle.program.specs.declared.Loops.{Loops}
-use Rattle.program.specs.declared.Going.{Going}
-use Rattle.program.specs.declared.Going.TheVariants.{To, Waits, Wrong}
-use Rattle.program.specs.declared.Way.{Way}
+use Rattle.program.specs.Going.{Going, To, Waits, Wrong, Way}
 use Rattle.program.specs.Program.{record_in, turn_at, target_at, accepted}
 use Rattle.program.specs.Onward.{onward_of}
 use Rattle.join.specs.Join.{counted, Joining, join_of}

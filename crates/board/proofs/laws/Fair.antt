@@ -20,8 +20,8 @@ use Rattle.record.specs.Memory.{Memory}
 use Rattle.record.specs.Bytes.{encode}
 use Rattle.record.specs.Keep.{storing, longer, has_room, store_of}
 use Rattle.record.proofs.laws.Put.{room-so}
-use Rattle.program.specs.declared.Verdict.{Verdict}
-use Rattle.program.specs.declared.Verdict.TheVariants as verdict
+use Rattle.program.specs.Verdict.{Verdict}
+use Rattle.program.specs.Verdict as verdict
 use Rattle.program.specs.Program.{verdict_of, is_sound}
 use Rattle.line.specs.declared.Letter.{Letter}
 use Rattle.line.specs.declared.Letter.TheVariants as letter

@@ -10,8 +10,8 @@ use Rattle.count.specs.Pick.{pick}
 use Rattle.count.specs.Text.{four_digits}
 use Rattle.record.specs.Memory.{Memory}
 use Rattle.record.specs.Keep.{store_of}
-use Rattle.program.specs.declared.Verdict.{Verdict}
-use Rattle.program.specs.declared.Verdict.TheVariants as verdict
+use Rattle.program.specs.Verdict.{Verdict}
+use Rattle.program.specs.Verdict as verdict
 use Rattle.program.specs.Check.{verdict_paper}
 use Rattle.program.specs.Program.{verdict_of, is_sound}
 use Rattle.line.specs.declared.Code.TheVariants as code

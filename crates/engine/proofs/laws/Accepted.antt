@@ -16,8 +16,7 @@ use Rattle.record.specs.declared.Record.{Record}
 use Rattle.record.specs.Bytes.{is_right}
 use Rattle.record.specs.declared.Found.TheVariants.{Got, End, Wrong}
 use Rattle.program.specs.declared.Loops.{Loops}
-use Rattle.program.specs.declared.Way.{Way}
-use Rattle.program.specs.declared.Going.{Going}
+use Rattle.program.specs.Going.{Way, Going}
 use Rattle.program.specs.Onward.{onward_of}
 use Rattle.program.specs.Program.{record_in}
 use Rattle.program.proofs.laws.Run.{Accepted}

@@ -21,9 +21,8 @@ use Rattle.record.specs.declared.Record.{Record}
 use Rattle.record.specs.Fault.{is_movement, is_absolute}
 use Rattle.record.specs.declared.Found.{Found}
 use Rattle.record.specs.declared.Found.TheVariants.{Got, End, Wrong}
-use Rattle.program.specs.declared.Way.{Way}
-use Rattle.program.specs.declared.Going.{Going}
-use Rattle.program.specs.declared.Going.TheVariants as going
+use Rattle.program.specs.Going.{Way, Going}
+use Rattle.program.specs.Going as going
 use Rattle.program.specs.Onward.{onward_of}
 use Rattle.engine.specs.declared.Answer.TheVariants as answer
 use Rattle.engine.specs.declared.Job.{Job}

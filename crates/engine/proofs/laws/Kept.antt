@@ -24,8 +24,8 @@ use Rattle.travel.proofs.laws.Onward.{next-keeps}
 use Rattle.record.specs.declared.Held.{Held}
 use Rattle.record.specs.declared.Record.{Record}
 use Rattle.program.specs.declared.Loops.{Loops}
-use Rattle.program.specs.declared.Way.{Way}
-use Rattle.program.specs.declared.Going.TheVariants as going
+use Rattle.program.specs.Going.{Way}
+use Rattle.program.specs.Going as going
 use Rattle.program.specs.Onward.{no_loops, last_of, to, wrong, went, inside, target_of, again, opens, looped, aimed, onward_of}
 use Rattle.engine.specs.declared.Job.{Job}
 use Rattle.engine.specs.declared.Job.TheVariants as job

@@ -23,9 +23,9 @@ use Rattle.record.specs.declared.Found.{Found}
 use Rattle.record.specs.declared.Found.TheVariants.{Got, End, Wrong}
 use Rattle.record.specs.Places.{record_at, answered, found_paper, spot_paper}
 use Rattle.record.specs.Table.{record_from}
-use Rattle.program.specs.declared.Going.{Going}
-use Rattle.program.specs.declared.Going.TheVariants as going
-use Rattle.program.specs.declared.Way.{Way}
+use Rattle.program.specs.Going.{Going}
+use Rattle.program.specs.Going as going
+use Rattle.program.specs.Going.{Way}
 use Rattle.program.specs.Onward.{going_paper}
 use Rattle.engine.specs.declared.Job.{Job}
 use Rattle.engine.specs.declared.Job.TheVariants as job

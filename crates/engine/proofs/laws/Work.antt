@@ -48,8 +48,8 @@ use Rattle.record.specs.Table.{spot_of, record_from, fetch_of}
 use Rattle.record.proofs.laws.Walk.{front-stands}
 use lib.IntN.{ℤ}
 use Rattle.program.specs.declared.Loops.{Loops}
-use Rattle.program.specs.declared.Way.{Way}
-use Rattle.program.specs.declared.Going.TheVariants as going
+use Rattle.program.specs.Going.{Way}
+use Rattle.program.specs.Going as going
 use Rattle.program.proofs.laws.Right.{ranges-right}
 use Rattle.program.specs.Onward.{last_of, went, to, wrong, inside, target_of, again, opens, looped, aimed, onward_of}
 use Rattle.engine.specs.declared.Answer.TheVariants as answer

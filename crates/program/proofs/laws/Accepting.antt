@@ -18,7 +18,7 @@ use Rattle.record.specs.work.Writing.{list_in}
 use Rattle.record.proofs.laws.Fills.{counts}
 use Rattle.record.specs.Places.{in_use, Records, are, none-are, onto, then, records_from, records_of, is_list}
 use Rattle.record.proofs.laws.Walk.{front-stands}
-use Rattle.program.specs.declared.Verdict.TheVariants.{Sound}
+use Rattle.program.specs.Verdict.{Sound}
 use Rattle.count.specs.Axes.{axes_set}
 use Rattle.program.specs.Program.{record_in, verdict_on, verdict_of, is_sound, passes, sized, passing, accepted}
 use Rattle.program.proofs.laws.Run.{Accepted}

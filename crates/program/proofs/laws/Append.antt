@@ -13,8 +13,7 @@ use lib.Seq.{get_or-append-add}
 use Rattle.count.proofs.laws.Truth.{never, and_parts, both}
 use Rattle.record.specs.declared.Record.{Record}
 use Rattle.record.specs.Bytes.{made, is_right}
-use Rattle.program.specs.declared.Verdict.{Verdict}
-use Rattle.program.specs.declared.Verdict.TheVariants.{Sound, Fault, Unreadable}
+use Rattle.program.specs.Verdict.{Verdict, Sound, Fault, Unreadable}
 use Rattle.program.specs.Program.{record_in, is_sound, passes}
 use Rattle.program.specs.Edges.{leads_out, starts_first}
 use Rattle.program.specs.work.Aims.{is_loop, is_turn, offset_of, aim_of, loop_at, turn_at, far_at, marked_of}

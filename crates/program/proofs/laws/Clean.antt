@@ -9,7 +9,7 @@ use lib.Dec.{ltb, leb, eqb}
 use Rattle.count.specs.Pick.{pick}
 use Rattle.count.proofs.laws.Truth.{never, or-false, and_parts, both}
 use Rattle.count.proofs.laws.Truth.{and-false as and-off}
-use Rattle.program.specs.declared.Verdict.TheVariants.{Sound}
+use Rattle.program.specs.Verdict.{Sound}
 use Rattle.program.specs.work.Marks.{mark, holds, meets, overlaps, holders, strays, outside, early, letter, checked}
 use Rattle.program.specs.Check.{some, tally}
 use Rattle.program.proofs.laws.First.{Told, told}

@@ -13,13 +13,10 @@ use Rattle.count.specs.Pick.{pick}
 use Rattle.count.specs.Ranges.{nth}
 use Rattle.count.proofs.laws.Truth.{never}
 use Rattle.record.specs.declared.Record.{Record}
-use Rattle.program.specs.declared.Verdict.{Verdict}
-use Rattle.program.specs.declared.Verdict.TheVariants.{Sound, Fault, Unreadable}
+use Rattle.program.specs.Verdict.{Verdict, Sound, Fault, Unreadable}
 use Rattle.program.specs.declared.Loop.{Loop}
 use Rattle.program.specs.declared.Loops.{Loops}
-use Rattle.program.specs.declared.Going.{Going}
-use Rattle.program.specs.declared.Going.TheVariants.{To, Waits, Wrong}
-use Rattle.program.specs.declared.Way.{Way}
+use Rattle.program.specs.Going.{Going, To, Waits, Wrong, Way}
 use Rattle.program.specs.work.Marks.{mark}
 use Rattle.program.specs.work.Aims.{Aim, goes, jumps, waits, loops, shift, aim_of, is_loop, is_turn, offset_of, aim_at, loop_at, turn_at, marked_of}
 use Rattle.program.specs.Program.{record_in, check_of, is_sound, passes}

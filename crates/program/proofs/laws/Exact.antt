@@ -16,9 +16,7 @@ use Rattle.count.proofs.laws.Truth.{and_left}
 use Rattle.record.specs.declared.Record.{Record}
 use Rattle.program.specs.declared.Loop.{Loop}
 use Rattle.program.specs.declared.Loops.{Loops}
-use Rattle.program.specs.declared.Going.{Going}
-use Rattle.program.specs.declared.Going.TheVariants.{To, Waits, Wrong}
-use Rattle.program.specs.declared.Way.{Way}
+use Rattle.program.specs.Going.{Going, To, Waits, Wrong, Way}
 use Rattle.program.specs.Check.{holds}
 use Rattle.program.specs.work.Marks.{mark}
 use Rattle.program.specs.work.Marks as marks

@@ -1,6 +1,6 @@
 -- A leap tells the whole of a way: the open loops before with its one entry are those that the record leads to. Assumes nothing.
 use Prim.Native.Nat.{ℕ, ◌+◌, ◌-◌, ◌<◌, max}
-use mathlib.Core.Path.{◌≡◌, refl, sym, ◌∙◌}
+use mathlib.Core.Path.{◌≡◌, refl, sym, ◌∙◌, ap}
 use mathlib.Core.Bool.{Bool, true, false, ◌&&◌, ◌||◌}
 use mathlib.Core.List.{List}
 use native.Mathlib.Omega.{arith}
@@ -13,14 +13,13 @@ use Rattle.count.specs.Chars.{ch}
 use Rattle.count.specs.Pick.{pick}
 use Rattle.count.specs.Ranges.{nth}
 use Rattle.record.specs.declared.Record.{Record}
-use Rattle.program.specs.declared.Going.{Going}
-use Rattle.program.specs.declared.Going.TheVariants.{To}
-use Rattle.program.specs.declared.Lead.{Lead}
+use Rattle.program.specs.declared.Going as code
+use Rattle.program.specs.declared.Lead as made
 use Rattle.program.specs.declared.Loop.{Loop}
 use Rattle.program.specs.declared.Loops.{Loops}
-use Rattle.program.specs.declared.Way.{Way}
-use Rattle.program.specs.Onward.{counter, opened, last_of, went, to, wrong, inside, target_of, again, opens, looped, aimed, onward_of}
-use Rattle.program.specs.work.Leap.{leap_by, leap_of, loops_by}
+use Rattle.program.specs.Going.{To, Way, way_by}
+use Rattle.program.specs.Onward.{counter, opened, last_of, to, wrong, inside, target_of, again, opens, looped, aimed, onward_of}
+use Rattle.program.specs.work.Leap.{Lead, lead_in, leap_by, leap_of, loops_by}
 
 -- ---- the entry that can have changed, while as many are open, one less, one more
 
@@ -36,10 +35,8 @@ top-more d = omega arith
 module _ (o : Loops) where
   -- ---- a way without the loops: they stay, or one entry is set
 
-  pub leap-stays : (g : Going) (place target : ℕ)
-      → leap_by o (went g place target o)
-      ≡ record { going = g; place = place; target = target; depth = o.depth; top = o.depth - 1; last = last_of o }
-  leap-stays g place target = rw (top-same o.depth)
+  pub leap-stays : (g : code.Going) → leap_by o (way_by g o) ≡ lead_in (record { going = g; depth = o.depth; top = o.depth - 1; last = last_of o })
+  leap-stays g = rw (top-same o.depth)
 
   pub leap-sets : (place n i : ℕ) (v : Loop) → max o.depth n - 1 ≡ i → i < length o.at
       → leap_by o (to place (opened (set o.at i v) n)) ≡ record { going = To; place = place; target = 0; depth = n; top = i; last = v }
@@ -107,7 +104,6 @@ module _ (r : Record) (place end : ℕ) (o : Loops) where
       (kept-pick o (eqb r.code (ch "2")) _ _ (kept-aimed o place end (nth r.words 1) r) (kept-stays o)))
 
   -- a leap with the loops made of it is the way
-  pub leap-way : {l : Lead} {p : Loops} → l ≡ leap_of r place end o → p ≡ loops_by l o
-      → record { going = l.going; place = l.place; target = l.target; loops = p } ≡ onward_of r place end o
+  pub leap-way : (l : made.Lead) {p : Loops} → lead_in l ≡ leap_of r place end o → p ≡ loops_by (lead_in l) o → way_by l.going p ≡ onward_of r place end o
   unfolding leap_of
-  leap-way e d = rw (d, e, leap-loops)
+  leap-way l e d = rw d (rw (ap (λ (x : Lead). loops_by x o) e, leap-loops) (ap (λ (x : Lead). record { going = x.going; place = x.place; target = x.target; loops = (onward_of r place end o).loops }) e))

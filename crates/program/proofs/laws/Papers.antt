@@ -11,8 +11,7 @@ use Rattle.count.specs.Pick.{pick}
 use Rattle.count.specs.Ranges.{nth}
 use Rattle.record.specs.declared.Record.{Record}
 use Rattle.program.specs.declared.Loops.{Loops}
-use Rattle.program.specs.declared.Going.TheVariants.{Waits}
-use Rattle.program.specs.declared.Way.{Way}
+use Rattle.program.specs.Going.{Waits, Way}
 use Rattle.program.specs.Onward.{counter, opened, last_of, went, to, wrong, inside, target_of, again, opens, looped, aimed, onward_of, going_paper}
 
 module _ (r : Record) where

@@ -10,9 +10,7 @@ use Rattle.count.specs.Pick.{pick}
 use Rattle.record.specs.declared.Record.{Record}
 use Rattle.record.specs.Bytes.{is_right, made}
 use Rattle.program.specs.declared.Loops.{Loops}
-use Rattle.program.specs.declared.Going.{Going}
-use Rattle.program.specs.declared.Going.TheVariants.{To, Waits, Wrong}
-use Rattle.program.specs.declared.Way.{Way}
+use Rattle.program.specs.Going.{Going, To, Waits, Wrong, Way}
 use Rattle.program.specs.Program.{passes}
 use Rattle.program.specs.Onward.{onward_of, no_loops}
 use Rattle.program.proofs.laws.Flow.{noted}

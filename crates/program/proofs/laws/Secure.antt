@@ -9,7 +9,7 @@ use lib.Dec.{ltb, leb, T}
 use lib.ListN.{length}
 use Rattle.count.proofs.laws.Truth.{and_parts}
 use Rattle.record.specs.declared.Record.{Record}
-use Rattle.program.specs.declared.Verdict.TheVariants.{Sound}
+use Rattle.program.specs.Verdict.{Sound}
 use Rattle.program.specs.work.Marks.{mark, holds, meets, overlaps, holders, strays}
 use Rattle.program.specs.work.Aims.{Aim, goes, jumps, waits, loops, offset_of, aim_at, loop_at, turn_at, far_at, marked_of}
 use Rattle.program.specs.work.Aims as aims

@@ -15,7 +15,7 @@ use Rattle.count.proofs.laws.Truth.{and_left}
 use Rattle.record.specs.declared.Record.{Record}
 use Rattle.record.specs.Bytes.{is_right}
 use Rattle.program.specs.declared.Loops.{Loops}
-use Rattle.program.specs.declared.Going.TheVariants.{Waits}
+use Rattle.program.specs.Going.{Waits}
 use Rattle.program.specs.work.Marks.{mark}
 use Rattle.program.specs.work.Aims.{shift}
 use Rattle.program.specs.Onward.{inside, target_of, aimed, looped, onward_of, went, to}

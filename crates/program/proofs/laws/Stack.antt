@@ -12,9 +12,7 @@ use lib.Seq.{get_or-set_same, get_or-set_other}
 use Rattle.count.specs.Pick.{pick}
 use Rattle.program.specs.declared.Loop.{Loop}
 use Rattle.program.specs.declared.Loops.{Loops}
-use Rattle.program.specs.declared.Going.{Going}
-use Rattle.program.specs.declared.Going.TheVariants.{To, Waits, Wrong}
-use Rattle.program.specs.declared.Way.{Way}
+use Rattle.program.specs.Going.{Going, To, Waits, Wrong, Way}
 use lib.IntN.{ℤ}
 use Rattle.count.specs.Ranges.{nth}
 use Rattle.count.proofs.laws.Truth.{and_left}

@@ -4,7 +4,7 @@ use Rattle.std.specs.Prelude.{ℕ, ◌+◌, ◌-◌, Bool, true, false, List, eq
 use Rattle.count.specs.Pick.{pick}
 use Rattle.count.specs.Ranges.{nth}
 use Rattle.record.specs.declared.Record.{Record}
-use Rattle.program.specs.declared.Verdict.{Verdict}
+use Rattle.program.specs.Verdict.{Verdict}
 use Rattle.program.specs.Program.{record_in}
 use Rattle.program.specs.work.Marks.{checked}
 

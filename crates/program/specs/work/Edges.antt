@@ -1,11 +1,9 @@
 -- Stands in contracts of functions that are not exported: nothing of it need be believed. The edges of a program over marks, all in ℕ. Its
 -- laws: proofs/laws/Edges.antt.
 use Rattle.std.specs.Prelude.{ℕ, Bool, true, false, ◌&&◌, List, eqb, get_or}
-use Rattle.program.specs.declared.Acceptance.{Acceptance}
-use Rattle.program.specs.declared.Verdict.{Verdict}
-use Rattle.program.specs.declared.Verdict.TheVariants.{Sound, Fault, Unreadable}
+use Rattle.program.specs.Verdict.{Verdict, Sound, Fault, Unreadable}
 use Rattle.program.specs.Check.{some}
-use Rattle.program.specs.Edges.{acceptance}
+use Rattle.program.specs.Edges.{Acceptance, acceptance}
 
 -- the place is of this kind: 1 a loop, 2 a jump or wait
 abbrev pub kind_is : List ℕ → ℕ → ℕ → Bool

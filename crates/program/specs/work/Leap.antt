@@ -4,9 +4,22 @@
 use Rattle.std.specs.Prelude.{ℕ, ◌-◌, max, get_or, set}
 use Rattle.record.specs.declared.Record.{Record}
 use Rattle.program.specs.declared.Loops.{Loops}
-use Rattle.program.specs.declared.Way.{Way}
-use Rattle.program.specs.declared.Lead.{Lead}
+use Rattle.program.specs.Going.{Going, Way, kind_in, place_in, target_in}
+use Rattle.program.specs.declared.Loop.{Loop}
+use Rattle.program.specs.declared.Lead as made
 use Rattle.program.specs.Onward.{counter, opened, onward_of}
+
+-- where a record sends a run, how many loops are open afterwards, and the one entry of theirs that can have changed
+pub record Lead : Type 0 where
+  pub going : Going
+  pub place : ℕ
+  pub target : ℕ
+  pub depth : ℕ
+  pub top : ℕ
+  pub last : Loop
+
+abbrev pub lead_in : made.Lead → Lead
+lead_in l = record { going = kind_in l.going; place = place_in l.going; target = target_in l.going; depth = l.depth; top = l.top; last = l.last }
 
 -- the entry that can have changed
 abbrev pub top_of : Loops → Loops → ℕ

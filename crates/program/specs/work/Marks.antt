@@ -3,7 +3,7 @@
 use Rattle.std.specs.Prelude.{ℕ, ◌+◌, Bool, not, ◌&&◌, ◌||◌, ltb, leb}
 use Rattle.std.specs.Bool.{beq}
 use Rattle.count.specs.Pick.{pick}
-use Rattle.program.specs.declared.Verdict.{Verdict}
+use Rattle.program.specs.Verdict.{Verdict}
 use Rattle.program.specs.Check.{some, tally, fault_from}
 
 -- the mark of a place is counted from 32,768 places before place 0

@@ -20,7 +20,7 @@ use Rattle.record.specs.Places.{records_of}
 use Rattle.record.specs.Places.Records.{are}
 use Rattle.record.specs.Table.{fetch_of, TableTrue}
 use Rattle.program.specs.declared.Loops.{Loops}
-use Rattle.program.specs.declared.Way.{Way}
+use Rattle.program.specs.Going.{Way}
 use Rattle.program.specs.Program.{record_in, turn_at, target_at, accepted}
 use Rattle.program.specs.Onward.{onward_of}
 use Rattle.program.proofs.laws.Accepting.{records-count, accepted-holds}

@@ -16,8 +16,7 @@ use Rattle.record.specs.declared.Held.{Held}
 use Rattle.record.specs.declared.Record.{Record}
 use Rattle.record.specs.Places.{Records, records_of}
 use Rattle.record.specs.Places.Records.{are, none-are}
-use Rattle.program.specs.declared.Verdict.{Verdict}
-use Rattle.program.specs.declared.Verdict.TheVariants.{Sound, Fault, Unreadable}
+use Rattle.program.specs.Verdict.{Verdict, Sound, Fault, Unreadable}
 use Rattle.program.specs.Check.{outside, early, overlaps, holders, strays, letter, checked}
 use Rattle.count.specs.Axes.{axes_set}
 use Rattle.program.specs.Program.{loop_at, turn_at, target_at, check_of, verdict_on, verdict_of, is_sound, passes, passing, sized, accepted}

@@ -33,9 +33,9 @@ use Rattle.record.specs.declared.Found.{Found}
 use Rattle.record.specs.declared.Found.TheVariants.{Got, End, Wrong}
 use Rattle.record.specs.Memory.{Memory}
 use Rattle.record.specs.Table.{fetch_of}
-use Rattle.program.specs.declared.Going.{Going}
-use Rattle.program.specs.declared.Going.TheVariants as going
-use Rattle.program.specs.declared.Way.{Way}
+use Rattle.program.specs.Going.{Going}
+use Rattle.program.specs.Going as going
+use Rattle.program.specs.Going.{Way}
 use Rattle.program.specs.Onward.{onward_of}
 use Rattle.engine.specs.declared.Answer.{Answer}
 use Rattle.engine.specs.declared.Answer.TheVariants as answer

@@ -20,7 +20,7 @@ use Rattle.travel.proofs.laws.Whole.{over-left, none_left}
 use Rattle.record.specs.declared.Record.{Record}
 use Rattle.record.specs.declared.Found.TheVariants.{Got, End, Wrong}
 use Rattle.program.specs.declared.Loops.{Loops}
-use Rattle.program.specs.declared.Going.{Going}
+use Rattle.program.specs.Going.{Going}
 use Rattle.program.specs.Onward.{onward_of}
 use Rattle.program.proofs.laws.Sends.{on-other}
 use Rattle.program.proofs.laws.Run.{record_in, Stands, taken_by, taken}

@@ -15,8 +15,7 @@ use Rattle.count.specs.Ranges.{nth}
 use Rattle.count.proofs.laws.Truth.{never}
 use Rattle.record.specs.declared.Record.{Record}
 use Rattle.program.specs.declared.Loops.{Loops}
-use Rattle.program.specs.declared.Way.{Way}
-use Rattle.program.specs.declared.Going.TheVariants.{Waits}
+use Rattle.program.specs.Going.{Way, Waits}
 use Rattle.program.specs.Onward.{no_loops, inside, target_of, aimed, onward_of, went, to, wrong}
 use Rattle.program.specs.Rounds.{Rounds}
 use Rattle.program.proofs.laws.Sends.{on-other, on-three, on-two}

@@ -7,7 +7,7 @@ use Rattle.program.proofs.laws.Accepting.{sized-parts}
 use Rattle.program.proofs.accepting.accepts.Goals as goal
 
 pub returns-then-not-is_sized-axes_set : goal.returns-then-not-is_sized-axes_set
-returns-then-not-is_sized-axes_set c = c.refused.ensures ∙ not-asked _ _ c.is_sized.ensures c.axes_set.ensures (ap not c.if-not-is_sized-axes_set.true)
+returns-then-not-is_sized-axes_set c = not-asked _ _ c.is_sized.ensures c.axes_set.ensures (ap not c.if-not-is_sized-axes_set.true)
 
 pub decode-requires : goal.decode-requires
 decode-requires c =
@@ -27,4 +27,4 @@ returns-then-decode c =
 pub returns : goal.returns
 returns c =
     let d = asked _ c.is_sized.ensures c.axes_set.ensures (ap not c.if-not-is_sized-axes_set.false) in
-    c.refused-2.ensures ∙ told-unread _ _ (not-read _ _ (sized-parts _ d.0).1 _ _ c.if-decode.false c.decode.ensures)
+    told-unread _ _ (not-read _ _ (sized-parts _ d.0).1 _ _ c.if-decode.false c.decode.ensures)

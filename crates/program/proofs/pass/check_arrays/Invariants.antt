@@ -1,5 +1,4 @@
 -- `program::check_arrays` meets its contract. Assumes nothing.
-use Prim.Native.Nat.{◌-◌, ◌≤◌}
 use mathlib.Core.Path.{◌≡◌}
 use lib.ListN.{length}
 use Rattle.program.specs.work.Work.{loop_in, far_in}
@@ -7,7 +6,4 @@ use Rattle.program.specs.work.Ranges.{Counts}
 use Rattle.program.proofs.pass.check_arrays.Given as goal
 
 abbrev pub invariant-loop-i : goal.invariant-loop-i
-invariant-loop-i l = (l.i ≤ l.n) × (length l.notes ≡ 1000) × Counts (loop_in l.kinds) (far_in l.offsets) l.notes l.i
-
-abbrev pub decreases-loop-i : goal.decreases-loop-i
-decreases-loop-i l = l.n - l.i
+invariant-loop-i l = record { long : length l.notes ≡ 1000; counts : Counts (loop_in l.kinds) (far_in l.offsets) l.notes l.i }

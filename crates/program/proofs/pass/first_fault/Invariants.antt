@@ -8,8 +8,8 @@ use Rattle.program.specs.work.Ranges.{goes_on}
 use Rattle.program.proofs.pass.first_fault.Given as goal
 
 abbrev pub invariant-loop-p : goal.invariant-loop-p
-invariant-loop-p l = (l.p ≤ l.n) × (l.on ≤ l.n) × (l.on ≡ tally l.n (goes_on (loop_in l.kinds) (far_in l.offsets) l.p))
-    × (checked (loop_in l.kinds) (turn_in l.kinds) (far_in l.offsets) l.n ≡ fault_from (letter (loop_in l.kinds) (turn_in l.kinds) (far_in l.offsets) l.n) (l.n - l.p) l.p)
-
-abbrev pub decreases-loop-p : goal.decreases-loop-p
-decreases-loop-p l = l.n - l.p
+invariant-loop-p l = record {
+  few : l.on ≤ l.n;
+  on : l.on ≡ tally l.n (goes_on (loop_in l.kinds) (far_in l.offsets) l.p);
+  left : checked (loop_in l.kinds) (turn_in l.kinds) (far_in l.offsets) l.n ≡ fault_from (letter (loop_in l.kinds) (turn_in l.kinds) (far_in l.offsets) l.n) (l.n - l.p) l.p;
+}

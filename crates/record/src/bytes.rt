@@ -1,5 +1,5 @@
 // A record read from bytes: one number, all numbers, the record at the front of a part, and the record at a byte of the part in use.
-ghost use Rattle.std.specs.Prelude.{◌≡◌, ◌+◌, ◌*◌, ◌≤◌, ◌<◌, length, take};
+ghost use Rattle.std.specs.Prelude.{◌≡◌, ◌+◌, ◌*◌, ◌≤◌, ◌<◌, length};
 ghost use Rattle.count.specs.Words.{pad};
 ghost use Rattle.record.specs.Bytes.{word_at, words_of, front};
 ghost use Rattle.record.specs.work.Work.{head_of};
@@ -65,18 +65,11 @@ pub(crate) fn record_in(s: &[u8], axes: u8) -> Found
     }
 }
 
-// Where the part in use ends.
-pub(crate) fn end_of(store: &[u8], used: u16) -> usize
-    ensures { result ≡ length (take used store.now) }
-{
-    store.len().min(usize::from(used))
-}
-
 // The record at a byte of the part in use.
 pub fn record_at(store: &[u8], held: Held, at: usize) -> Found
     ensures { result ≡ record_at held store.now at }
 {
-    let end = end_of(store, held.used);
+    let end = held.end(store);
     if end < at {
         return Found::Wrong;
     }

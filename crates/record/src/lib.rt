@@ -1,8 +1,9 @@
 // Records of the store: what is wrong with one, its bytes, its place, the table of the places, storing it, listing it.
 #![tactic(auto)]
 
-ghost use Rattle.std.specs.Prelude.{◌≡◌};
+ghost use Rattle.std.specs.Prelude.{◌≡◌, length};
 ghost use Rattle.record.specs.Bytes.{numbers_of, length_of};
+ghost use Rattle.record.specs.Places.{in_use};
 
 mod bytes;
 mod fault;
@@ -25,6 +26,15 @@ pub struct Held {
     pub used: u16,
     pub records: u16,
     pub axes: u8,
+}
+
+impl Held {
+    // Where it ends in a store.
+    pub fn end(self, store: &[u8]) -> usize
+        ensures { result ≡ length (in_use self store.now) }
+    {
+        store.len().min(usize::from(self.used))
+    }
 }
 
 // A record: its code, and its numbers in the first `count` of the words; the words past them are 0.

@@ -4,7 +4,7 @@ ghost use Rattle.record.specs.Places.{records_from, is_list};
 ghost use Rattle.record.specs.Listing.{line_text, list_text, told, list_of};
 ghost use Rattle.record.specs.work.Writing.{item_text, line_left, list_in};
 
-use super::bytes::{end_of, record_in};
+use super::bytes::record_in;
 use super::places::readable;
 use super::{Found, Held, Record};
 use count::{Fault, Refusal};
@@ -77,7 +77,7 @@ pub fn list(store: &[u8], held: Held, text: &mut [u8]) -> Result<u32, Refusal>
     if !readable(store, held) {
         return Err(Refusal::Program(Fault::Refused));
     }
-    let end = end_of(store, held.used);
+    let end = held.end(store);
     let n = put_lines(text, &store[..end], held.axes, held.records);
     Ok(n as u32)
 }

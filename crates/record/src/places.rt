@@ -2,7 +2,7 @@
 ghost use Rattle.std.specs.Prelude.{◌≡◌, ◌≤◌, length};
 ghost use Rattle.record.specs.Places.{spot_from, readable_of};
 
-use super::bytes::{end_of, record_in};
+use super::bytes::record_in;
 use super::{Found, Held};
 
 // The byte where the record `k` places behind the front starts.
@@ -24,7 +24,7 @@ fn walk(s: &[u8], axes: u8, k: u16) -> Option<u16>
 pub fn readable(store: &[u8], held: Held) -> bool
     ensures { result ≡ readable_of held store.now }
 {
-    let end = end_of(store, held.used);
+    let end = held.end(store);
     match walk(&store[..end], held.axes, held.records) {
         Some(at) => usize::from(at) == end,
         None => false,

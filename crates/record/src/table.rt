@@ -5,7 +5,7 @@ ghost use Rattle.record.specs.Memory.{memory};
 ghost use Rattle.record.specs.Places.{records_from, is_list};
 ghost use Rattle.record.specs.Table.{entry_at, spot_of, fetch_of, starts_of, refused, filling, can_fill, fill_of};
 
-use super::bytes::{end_of, record_at, record_in};
+use super::bytes::{record_at, record_in};
 use super::places::readable;
 use super::{Found, Held};
 use count::{Fault, Refusal};
@@ -30,7 +30,7 @@ pub fn find(store: &[u8], table: &[u16], held: Held, place: u16) -> Option<u16>
         return entry_at(table, place);
     }
     if place == held.records {
-        return Some(end_of(store, held.used) as u16);
+        return Some(held.end(store) as u16);
     }
     None
 }
@@ -85,7 +85,7 @@ pub fn fill(store: &[u8], table: &mut [u16], held: Held) -> Result<(), Refusal>
     if !can_fill(store, held) {
         return Err(Refusal::Program(Fault::Refused));
     }
-    let end = end_of(store, held.used);
+    let end = held.end(store);
     put_starts(table, &store[..end], held.axes, usize::from(held.records));
     Ok(())
 }

@@ -3,7 +3,7 @@ use crate::arcs::{
     PLANE, TURN, bent, is_coordinate, is_turn, kept_turn, values_round, with_plane, with_turn,
 };
 use board::Board;
-use engine::{Engine, Run, Under};
+use engine::{Engine, Run};
 use motion::{Counters, Move};
 use travel::Travel;
 
@@ -118,15 +118,15 @@ fn values_travel(t: Travel, name: u64) -> u64 {
 }
 
 // The same, or none if nothing moves.
-fn values_under(under: Under, name: u64) -> u64 {
+fn values_under(under: Option<Travel>, name: u64) -> u64 {
     match under {
-        Under::Going(t) => values_travel(t, name),
-        Under::Nothing => 0,
+        Some(t) => values_travel(t, name),
+        None => 0,
     }
 }
 
 // Whether there is a field of this name, the board's or of what is under way, and it can hold the value.
-pub(crate) fn can_hold(name: u64, value: u64, under: Under) -> bool {
+pub(crate) fn can_hold(name: u64, value: u64, under: Option<Travel>) -> bool {
     (value < values_of(name)) | (value < values_under(under, name))
 }
 
@@ -194,8 +194,8 @@ fn run_with(old: Run, name: u64, value: u64) -> Run {
 fn moving_with(e: Engine, name: u64, value: u64) -> Engine {
     let under = e.under_way();
     match under {
-        Under::Going(t) => e.glide(e.at, travel_with(t, name, value)),
-        Under::Nothing => e,
+        Some(t) => e.glide(e.at, travel_with(t, name, value)),
+        None => e,
     }
 }
 

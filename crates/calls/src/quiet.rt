@@ -3,8 +3,9 @@ use crate::show::{show_job, show_named, show_point, show_ticked, within};
 use crate::table::entries_of;
 use crate::{Play, called};
 use board::Board;
-use engine::{Answer, Under};
+use engine::Answer;
 use std::io;
+use travel::Travel;
 
 fn is_nothing(answer: Answer) -> bool {
     match answer {
@@ -27,10 +28,10 @@ fn is_pulse(answer: Answer) -> bool {
 }
 
 // Whether a pulse just made was the first of its phase.
-fn is_first(under: Under) -> bool {
+fn is_first(under: Option<Travel>) -> bool {
     match under {
-        Under::Going(t) => t.made() == 1,
-        Under::Nothing => false,
+        Some(t) => t.made() == 1,
+        None => false,
     }
 }
 

@@ -1,14 +1,11 @@
 -- An arc: its pulses one by one (02, §3, sentences 3, 6 and 7).
-use Rattle.std.specs.Prelude.{ℕ, ◌+◌, ◌-◌, Bool, ◌&&◌, ltb}
+use Rattle.motion.specs.declared.Beat.{Beat}
+use Rattle.std.specs.Prelude.{ℕ, ◌+◌, ◌-◌, Bool, ◌&&◌, ltb, Option, Some, None}
 use Rattle.count.specs.Pick.{pick}
 use Rattle.count.specs.Numbers.{half, full}
 use Rattle.motion.specs.declared.Signs.{Signs}
 use Rattle.motion.specs.declared.Counters.{Counters}
-use Rattle.motion.specs.declared.Moved.{Moved}
-use Rattle.motion.specs.declared.Moved.TheVariants as moved
 use Rattle.motion.specs.declared.Mark.{Mark}
-use Rattle.motion.specs.declared.Beaten.{Beaten}
-use Rattle.motion.specs.declared.Beaten.TheVariants as beat
 use Rattle.motion.specs.Sound.{counted}
 use Rattle.motion.specs.Pulse.{step_to}
 use Rattle.circle.specs.declared.Pair.{Pair}
@@ -37,16 +34,16 @@ counted_pair p = ltb p.first full && ltb p.second full
 abbrev pub next_mark : Arc → Mark
 next_mark a = record { phase = 0; made = a.made + 1 }
 
-abbrev pub beat_to : Arc → Signs → Moved → Beaten
-beat_to a s (moved.To there) = beat.Made (record { signs = s; speed = a.speed; at = there; mark = next_mark a })
-beat_to a s moved.Outside = beat.Over
+abbrev pub beat_to : Arc → Signs → Option Counters → Option Beat
+beat_to a s (Some there) = Some (record { signs = s; speed = a.speed; at = there; mark = next_mark a })
+beat_to a s None = None
 
 -- the next pulse, at the speed sent, or that none is left: the arc length counts them. An arc with a number beyond 24 bits, or whose next
 -- pulse would lead there, has none: no arc that 103 lets pass is one.
-unfoldable pub arc_beat : Arc → Counters → Beaten
+unfoldable pub arc_beat : Arc → Counters → Option Beat
 arc_beat a at =
     pick (ltb a.made a.length && (counted at && counted_pair a.centre && counted_pair a.start))
-    (beat_to a (arc_signs a at) (step_to at (arc_signs a at))) beat.Over
+    (beat_to a (arc_signs a at) (step_to at (arc_signs a at))) None
 
 -- the same arc with so many pulses made
 abbrev pub with_made : Arc → ℕ → Arc

@@ -1,8 +1,11 @@
 -- How a circle is planned from its line or record: its refusals in their order, and its arc (02, §3).
-use Rattle.std.specs.Prelude.{ℕ, zero, suc, ◌+◌, ◌-◌, ◌*◌, Bool, not, ◌&&◌, List, [], ◌∷◌, ltb, leb, eqb, pos, get_or}
+use Rattle.count.specs.declared.Fault.{Fault}
+use Rattle.count.specs.declared.Fault.TheVariants as fault
+use Rattle.std.specs.Prelude.{ℕ, zero, suc, ◌+◌, ◌-◌, ◌*◌, Bool, not, ◌&&◌, List, [], ◌∷◌, ltb, leb, eqb, pos, get_or, Result, Ok, Err}
 use Rattle.count.specs.Chars.{ch}
 use Rattle.count.specs.Pick.{pick}
 use Rattle.count.specs.Paper.{Paper, says}
+use Rattle.count.specs.Refusals.{fault_paper}
 use Rattle.count.specs.Numbers.{half, full, value, count, word}
 use Rattle.count.specs.Axes.{has}
 use Rattle.count.specs.Ranges.{nth, in_speed, right_arc}
@@ -19,8 +22,6 @@ use Rattle.circle.specs.declared.Circling.{Circling}
 use Rattle.circle.specs.declared.Pair.{Pair}
 use Rattle.circle.specs.declared.Ways.{Ways}
 use Rattle.circle.specs.declared.Arc.{Arc}
-use Rattle.circle.specs.declared.Bent.{Bent}
-use Rattle.circle.specs.declared.Bent.TheVariants.{Going, Refused}
 use Rattle.circle.specs.Rule.{pair, ways, first_axis, second_axis, plane_number, direction_number, on_plane, measure, ways_at, shifted}
 use Rattle.circle.specs.Arc as arc
 
@@ -103,23 +104,23 @@ abbrev pub arc_from : Circling → Pair → Pair → List ℕ → Arc
 arc_from c centre start l = record { circling = c; centre = centre; start = start; speed = get_or l 1 0; length = get_or l 0 0; made = 0 }
 
 -- 9, or the arc. A position outside 24 bits, with which no call comes here, answers 9 too.
-unfoldable pub going_by : Circling → Counters → Pair → List ℕ → Bent
+unfoldable pub going_by : Circling → Counters → Pair → List ℕ → Result Arc Fault
 going_by c at start l =
     let centre = centre_of (on_plane c.plane at) start in
-    pick (not (counted at)) (Refused (ch "9")) (pick (has_room centre start) (Going (arc_from c centre start l)) (Refused (ch "9")))
+    pick (not (counted at)) (Err fault.Outside) (pick (has_room centre start) (Ok (arc_from c centre start l)) (Err fault.Outside))
 
 -- 3, 1, D and 9 in this order. A line or record that comes here has passed some of them already.
-unfoldable pub bend_of : ℕ → Circling → Counters → List ℕ → Bent
+unfoldable pub bend_of : ℕ → Circling → Counters → List ℕ → Result Arc Fault
 bend_of axes c at l =
-    pick (not (plane_set axes c.plane)) (Refused (ch "3"))
-    (pick (not (right_arc l)) (Refused (ch "1"))
-    (pick (not (ways_fit c.direction l)) (Refused (ch "1"))
-    (pick (not (in_speed (nth l 1))) (Refused (ch "D")) (going_by c at (start_of l) l))))
+    pick (not (plane_set axes c.plane)) (Err fault.Axes)
+    (pick (not (right_arc l)) (Err fault.Range)
+    (pick (not (ways_fit c.direction l)) (Err fault.Range)
+    (pick (not (in_speed (nth l 1))) (Err fault.Speed) (going_by c at (start_of l) l))))
 
 -- the reply; of an accepted circle its plane, direction, centre, start, speed and length
-abbrev pub bent_paper : Bent → Paper
-bent_paper (Refused b) = says b []
-bent_paper (Going a) =
+abbrev pub bent_paper : Result Arc Fault → Paper
+bent_paper (Err f) = fault_paper f
+bent_paper (Ok a) =
     says (ch "0")
     (pos (plane_number a.circling.plane) ∷ direction_number a.circling.direction ∷ value a.centre.first ∷ value a.centre.second
     ∷ value a.start.first ∷ value a.start.second ∷ pos a.speed ∷ pos a.length ∷ [])

@@ -1,10 +1,9 @@
 -- What 103 asks of an arc under way (02, §3, last sentence; 01, "Calls", row 103, on speeds).
-use Rattle.std.specs.Prelude.{Bool, not, ◌&&◌, leb, eqb}
+use Rattle.motion.specs.declared.Beat.{Beat}
+use Rattle.std.specs.Prelude.{Bool, not, ◌&&◌, leb, eqb, Option, Some, None}
 use Rattle.count.specs.Pick.{pick}
 use Rattle.count.specs.Numbers.{half, far}
 use Rattle.motion.specs.declared.Counters.{Counters}
-use Rattle.motion.specs.declared.Beaten.{Beaten}
-use Rattle.motion.specs.declared.Beaten.TheVariants as beat
 use Rattle.motion.specs.declared.Look.{Look}
 use Rattle.motion.specs.declared.Look.TheVariants as look
 use Rattle.motion.specs.Sound.{speed_right, counted}
@@ -34,9 +33,9 @@ arc_under_way a at =
     && point_sound a.start a.centre (on_plane a.circling.plane at) && leb a.made a.length
 
 -- together with the next pulse
-abbrev pub looked_arc : Beaten → Look
-looked_arc (beat.Made b) = look.Made b
-looked_arc beat.Over = look.Over
+abbrev pub looked_arc : Option Beat → Look
+looked_arc (Some b) = look.Made b
+looked_arc None = look.Over
 
 unfoldable pub arc_look : Arc → Counters → Look
 arc_look a at = pick (arc_under_way a at) (looked_arc (arc_beat a at)) look.Wrong

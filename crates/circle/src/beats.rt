@@ -7,7 +7,7 @@ ghost use Rattle.circle.specs.Arc.{zero, arc_signs, counted_pair, arc_beat, with
 
 use super::rule::{measured, move_by, on_axes, on_plane, ways_of};
 use super::{Arc, Pair};
-use motion::{Beat, Beaten, Counters, Mark, Moved, Signs};
+use motion::{Beat, Counters, Mark, Signs};
 
 fn is_counted_pair(p: Pair) -> bool
     ensures { result ≡ counted_pair p }
@@ -40,43 +40,37 @@ impl Arc {
             × (self.start.first < 16777216) × (self.start.second < 16777216) }
         ensures { result ≡ arc_signs self at }
     {
-        let circling = self.circling;
-        let plane = circling.plane;
-        let direction = circling.direction;
-        let p = on_plane(plane, at);
-        let w = ways_of(direction, self.centre, p);
-        on_axes(plane, move_by(start_value(self.start), self.centre, p, w))
+        let p = on_plane(self.circling.plane, at);
+        let w = ways_of(self.circling.direction, self.centre, p);
+        let turn = move_by(start_value(self.start), self.centre, p, w);
+        on_axes(self.circling.plane, turn)
     }
 
     // The pulse after so many, or that none is left.
-    pub fn beat_in(self, made: u32, at: Counters) -> Beaten
+    pub fn beat_in(self, made: u32, at: Counters) -> Option<Beat>
         ensures { result ≡ arc_beat (with_made self made) at }
     {
         if self.length <= made {
-            return Beaten::Over;
+            return None;
         }
         if !(motion::counted_at(at) & is_counted_pair(self.centre) & is_counted_pair(self.start)) {
-            return Beaten::Over;
+            return None;
         }
         let signs = self.signs(at);
-        let step = motion::step_to(at, signs);
-        let Moved::To(there) = step else {
-            return Beaten::Over;
-        };
-        let mark = Mark {
-            phase: 0,
-            made: made + 1,
-        };
-        Beaten::Made(Beat {
+        let there = motion::step_to(at, signs)?;
+        Some(Beat {
             signs,
             speed: self.speed,
             at: there,
-            mark,
+            mark: Mark {
+                phase: 0,
+                made: made + 1,
+            },
         })
     }
 
     // The next pulse, or that none is left.
-    pub fn beat(self, at: Counters) -> Beaten
+    pub fn beat(self, at: Counters) -> Option<Beat>
         ensures { result ≡ arc_beat self at }
     {
         self.beat_in(self.made, at)
@@ -86,18 +80,13 @@ impl Arc {
     pub fn with_made(self, made: u32) -> Arc
         ensures { result ≡ with_made self made }
     {
-        let mut a = self;
-        a.made = made;
-        a
+        Arc { made, ..self }
     }
 
     // The pulses still to make.
     pub fn left(self) -> u32
         ensures { result ≡ arc_left self }
     {
-        if self.length <= self.made {
-            return 0;
-        }
-        self.length - self.made
+        self.length.saturating_sub(self.made)
     }
 }

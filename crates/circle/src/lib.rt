@@ -55,10 +55,3 @@ pub struct Arc {
     pub length: u32,
     pub made: u32,
 }
-
-// A planned arc, or the character that refuses it.
-#[derive(Clone, Copy)]
-pub enum Bent {
-    Going(Arc),
-    Refused(u8),
-}

@@ -8,8 +8,8 @@ ghost use Rattle.circle.specs.Plan.{plane_of, direction_of, plane_set, start_of,
 use super::beats::at_centre;
 use super::rule::{on_plane, shifted_by, ways_of};
 use super::sound::has_room;
-use super::{Arc, Bent, Circling, Direction, Pair, Plane, Ways};
-use count::Axis;
+use super::{Arc, Circling, Direction, Pair, Plane, Ways};
+use count::{Axis, Fault};
 use motion::{Counters, Sign};
 
 // The plane of a number.
@@ -69,9 +69,8 @@ fn or_else(s: Sign, later: Sign) -> Sign
     ensures { result ≡ or_else s later }
 {
     match s {
-        Sign::Minus => s,
         Sign::Rest => later,
-        Sign::Plus => s,
+        Sign::Minus | Sign::Plus => s,
     }
 }
 
@@ -83,13 +82,10 @@ fn first_ways(d: Direction, start: Pair) -> Ways
     let centre = at_centre();
     let w = ways_of(d, centre, start);
     let later = ways_of(d, centre, shifted_by(start, w));
-    let a = w.first;
-    let b = w.second;
-    let c = later.first;
-    let e = later.second;
-    let first = or_else(a, c);
-    let second = or_else(b, e);
-    Ways { first, second }
+    Ways {
+        first: or_else(w.first, later.first),
+        second: or_else(w.second, later.second),
+    }
 }
 
 // A sign's number as a word.
@@ -97,7 +93,7 @@ fn way_word(s: Sign) -> u32
     ensures { result ≡ word (sign_value s) }
 {
     match s {
-        Sign::Minus => 4294967295,
+        Sign::Minus => u32::MAX,
         Sign::Rest => 0,
         Sign::Plus => 1,
     }
@@ -107,9 +103,7 @@ fn way_word(s: Sign) -> u32
 fn ways_fit(w: Ways, words: [u32; 8]) -> bool
     ensures { result ≡ eqb (get_or words 5 0) (word (sign_value w.first)) && eqb (get_or words 6 0) (word (sign_value w.second)) }
 {
-    let a = w.first;
-    let b = w.second;
-    (words[5] == way_word(a)) & (words[6] == way_word(b))
+    (words[5] == way_word(w.first)) & (words[6] == way_word(w.second))
 }
 
 // The position minus the start.
@@ -117,20 +111,17 @@ fn less_by(at: u32, start: u32) -> u32
     requires { (at < 16777216) × (start < 16777216) }
     ensures { result ≡ less at start }
 {
-    let sum = at + 8388608;
-    if sum < start {
-        return 0;
-    }
-    sum - start
+    (at + 8388608).saturating_sub(start)
 }
 
 fn centre_of(at: Pair, start: Pair) -> Pair
     requires { (at.first < 16777216) × (at.second < 16777216) × (start.first < 16777216) × (start.second < 16777216) }
     ensures { result ≡ centre_of at start }
 {
-    let first = less_by(at.first, start.first);
-    let second = less_by(at.second, start.second);
-    Pair { first, second }
+    Pair {
+        first: less_by(at.first, start.first),
+        second: less_by(at.second, start.second),
+    }
 }
 
 fn arc_of(circling: Circling, centre: Pair, start: Pair, words: [u32; 8]) -> Arc
@@ -148,39 +139,36 @@ fn arc_of(circling: Circling, centre: Pair, start: Pair, words: [u32; 8]) -> Arc
 }
 
 // 9: the arc, if the square around its centre lies within 24 bits.
-fn bend_by(circling: Circling, at: Counters, start: Pair, words: [u32; 8]) -> Bent
+fn bend_by(circling: Circling, at: Counters, start: Pair, words: [u32; 8]) -> Result<Arc, Fault>
     requires { (start.first < 16777216) × (start.second < 16777216) × (get_or words 1 0 ≤ 10000) }
     ensures { result ≡ going_by circling at start words }
 {
     if !motion::counted_at(at) {
-        return Bent::Refused(b'9');
+        return Err(Fault::Outside);
     }
-    let plane = circling.plane;
-    let centre = centre_of(on_plane(plane, at), start);
+    let centre = centre_of(on_plane(circling.plane, at), start);
     if has_room(centre, start) {
-        return Bent::Going(arc_of(circling, centre, start, words));
+        return Ok(arc_of(circling, centre, start, words));
     }
-    Bent::Refused(b'9')
+    Err(Fault::Outside)
 }
 
 // The plan of a circle, or what refuses it: 3, 1, D, 9 in this order.
-pub fn bend(axes: u8, circling: Circling, at: Counters, words: [u32; 8]) -> Bent
+pub fn bend(axes: u8, circling: Circling, at: Counters, words: [u32; 8]) -> Result<Arc, Fault>
     ensures { result ≡ bend_of axes circling at words }
 {
-    let plane = circling.plane;
-    let direction = circling.direction;
-    if !plane_set(axes, plane) {
-        return Bent::Refused(b'3');
+    if !plane_set(axes, circling.plane) {
+        return Err(Fault::Axes);
     }
     if !count::right_arc(words) {
-        return Bent::Refused(b'1');
+        return Err(Fault::Range);
     }
     let start = start_of(words);
-    if !ways_fit(first_ways(direction, start), words) {
-        return Bent::Refused(b'1');
+    if !ways_fit(first_ways(circling.direction, start), words) {
+        return Err(Fault::Range);
     }
     if !count::is_speed(words[1]) {
-        return Bent::Refused(b'D');
+        return Err(Fault::Speed);
     }
     bend_by(circling, at, start, words)
 }

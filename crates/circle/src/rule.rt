@@ -31,27 +31,27 @@ pub(crate) fn on_plane(plane: Plane, c: Counters) -> Pair
 pub(crate) fn on_axes(plane: Plane, w: Ways) -> Signs
     ensures { result ≡ on_axes plane w }
 {
-    let a = w.first;
-    let b = w.second;
-    let rest = Sign::Rest;
+    let still = Signs {
+        x: Sign::Rest,
+        y: Sign::Rest,
+        z: Sign::Rest,
+        a: Sign::Rest,
+    };
     match plane {
         Plane::XY => Signs {
-            x: a,
-            y: b,
-            z: rest,
-            a: rest,
+            x: w.first,
+            y: w.second,
+            ..still
         },
         Plane::XZ => Signs {
-            x: a,
-            y: rest,
-            z: b,
-            a: rest,
+            x: w.first,
+            z: w.second,
+            ..still
         },
         Plane::YZ => Signs {
-            x: rest,
-            y: a,
-            z: b,
-            a: rest,
+            y: w.first,
+            z: w.second,
+            ..still
         },
     }
 }
@@ -124,11 +124,7 @@ pub(crate) fn ways_of(d: Direction, centre: Pair, at: Pair) -> Ways
 fn is_rest(s: Sign) -> bool
     ensures { result ≡ rests s }
 {
-    match s {
-        Sign::Minus => false,
-        Sign::Rest => true,
-        Sign::Plus => false,
-    }
+    matches!(s, Sign::Rest)
 }
 
 // A count with a sign; one at 0 stays there.
@@ -137,12 +133,7 @@ fn shift(c: u32, s: Sign) -> u32
     ensures { (result ≡ moved c s) × (result ≤ 16777216) }
 {
     match s {
-        Sign::Minus => {
-            if c == 0 {
-                return 0;
-            }
-            c - 1
-        }
+        Sign::Minus => c.saturating_sub(1),
         Sign::Rest => c,
         Sign::Plus => c + 1,
     }
@@ -152,11 +143,10 @@ pub(crate) fn shifted_by(at: Pair, w: Ways) -> Pair
     requires { (at.first < 16777216) × (at.second < 16777216) }
     ensures { (result ≡ shifted at w) × (result.first ≤ 16777216) × (result.second ≤ 16777216) }
 {
-    let a = w.first;
-    let b = w.second;
-    let first = shift(at.first, a);
-    let second = shift(at.second, b);
-    Pair { first, second }
+    Pair {
+        first: shift(at.first, w.first),
+        second: shift(at.second, w.second),
+    }
 }
 
 // How far x² + y² is from its start value.
@@ -164,8 +154,7 @@ fn off_by(value: u64, centre: Pair, at: Pair) -> u64
     requires { (far centre.first at.first ≤ 16777216) × (far centre.second at.second ≤ 16777216) }
     ensures { result ≡ off value centre at }
 {
-    let m = measured(centre, at);
-    if value < m { m - value } else { value - m }
+    value.abs_diff(measured(centre, at))
 }
 
 // Which of the two axes moves.
@@ -173,21 +162,18 @@ pub(crate) fn move_by(value: u64, centre: Pair, at: Pair, w: Ways) -> Ways
     requires { (centre.first < 16777216) × (centre.second < 16777216) × (at.first < 16777216) × (at.second < 16777216) }
     ensures { result ≡ move_of value centre at w }
 {
-    let a = w.first;
-    let b = w.second;
-    let rest = Sign::Rest;
     let one = Ways {
-        first: a,
-        second: rest,
+        second: Sign::Rest,
+        ..w
     };
     let two = Ways {
-        first: rest,
-        second: b,
+        first: Sign::Rest,
+        ..w
     };
-    if is_rest(a) {
+    if is_rest(w.first) {
         return two;
     }
-    if is_rest(b) {
+    if is_rest(w.second) {
         return one;
     }
     let by_one = off_by(value, centre, shifted_by(at, one));

@@ -8,14 +8,7 @@ ghost use Rattle.circle.specs.Sound.{start_sound, point_sound, arc_under_way, ar
 use super::beats::start_value;
 use super::rule::on_plane;
 use super::{Arc, Pair};
-use motion::{Beaten, Counters, Look};
-
-// A speed: 30 to 10,000.
-fn speed_right(v: u16) -> bool
-    ensures { result ≡ speed_right v }
-{
-    (30 <= v) & (v <= 10000)
-}
+use motion::{Counters, Look};
 
 // A start that a line can send.
 fn start_right(s: Pair) -> bool
@@ -33,9 +26,8 @@ fn reaches_by(n: u64, c: u32) -> bool
     ensures { result ≡ reaches (root n + 1) c }
 {
     let below = c as u64;
-    let above = if c < 16777215 { 16777215 - c } else { 0 };
-    let wide = above as u64;
-    (n < below * below) & (n < wide * wide)
+    let above = 16777215u32.saturating_sub(c) as u64;
+    (n < below * below) & (n < above * above)
 }
 
 // Whether the square around a centre, which an arc never leaves, lies within 24 bits.
@@ -76,9 +68,7 @@ impl Arc {
         requires { start_sound self.start ≡ true }
         ensures { result ≡ has_room self.centre self.start && point_sound self.start self.centre (on_plane self.circling.plane at) }
     {
-        let circling = self.circling;
-        let plane = circling.plane;
-        let p = on_plane(plane, at);
+        let p = on_plane(self.circling.plane, at);
         has_room(self.centre, self.start) & point_right(self.start, self.centre, p)
     }
 
@@ -86,7 +76,7 @@ impl Arc {
     pub fn sound(self, at: Counters) -> bool
         ensures { result ≡ arc_under_way self at }
     {
-        if !(motion::counted_at(at) & speed_right(self.speed) & start_right(self.start)) {
+        if !(motion::counted_at(at) & motion::speed_right(self.speed) & start_right(self.start)) {
             return false;
         }
         self.placed(at) & (self.made <= self.length)
@@ -99,10 +89,9 @@ impl Arc {
         if !self.sound(at) {
             return Look::Wrong;
         }
-        let next = self.beat(at);
-        match next {
-            Beaten::Made(b) => Look::Made(b),
-            Beaten::Over => Look::Over,
+        match self.beat(at) {
+            Some(b) => Look::Made(b),
+            None => Look::Over,
         }
     }
 }

@@ -30,6 +30,11 @@ unfoldable pub hexes : ℕ → ℕ → List ℕ
 hexes zero n = []
 hexes (suc k) n = hexes k (n / 16) ++ hex_digit (n % 16) ∷ []
 
+-- the last k digits of n in a base of at most 16
+unfoldable pub last_digits : ℕ → ℕ → ℕ → List ℕ
+last_digits base zero n = []
+last_digits base (suc k) n = last_digits base k (n / base) ++ hex_digit (n % base) ∷ []
+
 -- two's complement in 24 bits
 unfoldable pub twos24 : ℤ → ℕ
 twos24 (pos n) = n % full

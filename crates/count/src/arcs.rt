@@ -1,4 +1,6 @@
 // The numbers of a circle: arc length, speed, D, the start on both axes and their two ways.
+#![tactic(auto, unfolding(crate::specs::Ranges::right_arc))]
+
 ghost use Rattle.std.specs.Prelude.{◌≡◌, ◌&&◌, not};
 ghost use Rattle.count.specs.Numbers.{signed};
 ghost use Rattle.count.specs.Ranges.{in_start, in_zero, right_arc};

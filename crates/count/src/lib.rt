@@ -21,9 +21,9 @@ pub use ranges::{
 };
 pub use text::{put_byte, put_count, put_place, put_report, put_word};
 
-const HALF: u32 = 8388608;
+const HALF: u32 = 8_388_608;
 
-const FULL: u32 = 16777216;
+const FULL: u32 = 16_777_216;
 
 // The axes: A is a turntable's.
 #[derive(Clone, Copy)]
@@ -64,6 +64,13 @@ pub enum Refusal {
     Program(Fault),
 }
 
+// One of two by a test.
+pub fn chosen<T: Copy>(b: bool, x: T, y: T) -> T
+    ensures { result ≡ pick b x y }
+{
+    if b { x } else { y }
+}
+
 // Whether a count is of 24 bits.
 pub fn in_range(c: u32) -> bool
     ensures { result ≡ ltb c full }
@@ -97,20 +104,14 @@ pub fn add(c: u32, w: u32) -> Option<u32>
 pub fn distance(from: u32, to: u32) -> u32
     ensures { result ≡ far from to }
 {
-    if from < to { to - from } else { from - to }
+    from.abs_diff(to)
 }
 
 // The word of a number's sign and size.
 pub fn word_of(minus: bool, size: u32) -> u32
     ensures { result ≡ word (with_sign minus size) }
 {
-    if minus {
-        if size == 0 {
-            return 0;
-        }
-        return 4294967295 - (size - 1);
-    }
-    size
+    if minus { size.wrapping_neg() } else { size }
 }
 
 // The count of a word's number.
@@ -130,15 +131,12 @@ pub fn count_of(w: u32) -> Option<u32>
 pub fn count_word(c: u32) -> u32
     ensures { result ≡ word (value c) }
 {
-    if c < HALF { c + 4286578688 } else { c - HALF }
+    c.wrapping_sub(HALF)
 }
 
 // The number of a count, and 0 where the count is not of 24 bits.
 pub fn number(c: u32) -> i32
     ensures { result ≡ pick (ltb c full) (value c) (pos 0) }
 {
-    if c < FULL {
-        return (c as i32) - 8388608;
-    }
-    0
+    if c < FULL { (c as i32) - 8_388_608 } else { 0 }
 }

@@ -1,61 +1,57 @@
 // Numbers as text, each written at the front of a lent part; a part that is too short stays as it is.
 ghost use Rattle.std.specs.Prelude.{◌≡◌, ◌++◌, ◌+◌, ◌<◌, ◌≤◌, ◌%◌, negsuc, length, drop};
 ghost use Rattle.count.specs.Numbers.{value, signed};
-ghost use Rattle.count.specs.Text.{written, wrote, hex_digit, twos24, report, two_hex, digits, shown, four_digits};
+ghost use Rattle.count.specs.Text.{written, wrote, hex_digit, twos24, report, last_digits, two_hex, digits, shown, four_digits};
 
-const HALF: u32 = 8388608;
+use super::{FULL, HALF};
 
-const FULL: u32 = 16777216;
+// The greatest word of a number that is not below 0.
+const MOST: u32 = u32::MAX / 2;
 
-// The last hexadecimal digit of a number.
+// A digit of a base of at most 16.
 fn hex_digit(n: u32) -> u8
-    ensures { result ≡ hex_digit (n % 16) }
+    requires { n < 16 }
+    ensures { result ≡ hex_digit n }
 {
-    let d = (n % 16) as u8;
-    if d < 10 {
-        return b'0' + d;
+    let d = n as u8;
+    if d < 10 { b'0' + d } else { b'A' + (d - 10) }
+}
+
+// The last `count` digits of a number in a base of at most 16.
+fn put_last(text: &mut [u8], base: u32, count: usize, n: u32) -> usize
+    requires { (0 < base) × (base ≤ 16) }
+    ensures { written result text.new ≡ wrote count (last_digits base count n) text.old }
+{
+    if text.len() < count {
+        return 0;
     }
-    b'A' + (d - 10)
+    let mut rest = n;
+    for i in (0..count).rev() {
+        text[i] = hex_digit(rest % base);
+        rest /= base;
+    }
+    count
 }
 
 // The 24 bits, two's complement, of a count's number.
 fn twos_24(c: u32) -> u32
     ensures { result ≡ twos24 (value c) }
 {
-    if c < HALF {
-        return c + HALF;
-    }
-    (c - HALF) % FULL
+    c.wrapping_sub(HALF) % FULL
 }
 
 // A position as P reports it: six bytes.
 pub fn put_report(text: &mut [u8], c: u32) -> usize
     ensures { written result text.new ≡ wrote 6 (report c) text.old }
 {
-    if text.len() < 6 {
-        return 0;
-    }
-    let n = twos_24(c);
-    text[0] = hex_digit(n / 1048576);
-    text[1] = hex_digit(n / 65536);
-    text[2] = hex_digit(n / 4096);
-    text[3] = hex_digit(n / 256);
-    text[4] = hex_digit(n / 16);
-    text[5] = hex_digit(n);
-    6
+    put_last(text, 16, 6, twos_24(c))
 }
 
 // A port's byte as b reports it: two bytes.
 pub fn put_byte(text: &mut [u8], b: u8) -> usize
     ensures { written result text.new ≡ wrote 2 (two_hex b) text.old }
 {
-    if text.len() < 2 {
-        return 0;
-    }
-    let n = b as u32;
-    text[0] = hex_digit(n / 16);
-    text[1] = hex_digit(n);
-    2
+    put_last(text, 16, 2, u32::from(b))
 }
 
 // The digits of `n` at the front of `text`; answers how many.
@@ -64,11 +60,11 @@ fn put_digits(text: &mut [u8], n: u32) -> usize
     ensures { (result ≡ length (digits n)) × (text.new ≡ digits n ++ drop (length (digits n)) text.old) }
 {
     if n < 10 {
-        text[0] = (48 + n) as u8;
+        text[0] = b'0' + n as u8;
         return 1;
     }
     let k = put_digits(&mut *text, n / 10);
-    text[k] = (48 + n % 10) as u8;
+    text[k] = b'0' + (n % 10) as u8;
     k + 1
 }
 
@@ -89,10 +85,10 @@ pub fn put_word(text: &mut [u8], w: u32) -> usize
     if text.len() < 11 {
         return 0;
     }
-    if w < 2147483648 {
+    if w <= MOST {
         return put_digits(text, w);
     }
-    put_minus(text, 4294967295 - w)
+    put_minus(text, u32::MAX - w)
 }
 
 // The number of a count in decimal: at most eleven bytes.
@@ -108,23 +104,9 @@ pub fn put_count(text: &mut [u8], c: u32) -> usize
     put_minus(text, HALF - 1 - c)
 }
 
-// The last decimal digit of a number.
-fn last_digit(n: u16) -> u8
-    ensures { result ≡ 48 + n % 10 }
-{
-    b'0' + (n % 10) as u8
-}
-
 // A record's place as four digits.
 pub fn put_place(text: &mut [u8], p: u16) -> usize
     ensures { written result text.new ≡ wrote 4 (four_digits p) text.old }
 {
-    if text.len() < 4 {
-        return 0;
-    }
-    text[0] = last_digit(p / 1000);
-    text[1] = last_digit(p / 100);
-    text[2] = last_digit(p / 10);
-    text[3] = last_digit(p);
-    4
+    put_last(text, 10, 4, u32::from(p))
 }

@@ -1,4 +1,5 @@
 -- The loop over the pulses of a phase. Assumes nothing.
+use Rattle.std.specs.Prelude.{Option, Some, None}
 use Prim.Native.Nat.{ℕ, ◌+◌, ◌-◌, ◌*◌, ◌<◌, ◌≤◌}
 use mathlib.Core.Path.{◌≡◌, refl, ap, sym, subst, ◌∙◌}
 use mathlib.Core.Bool.{Bool, true, false}
@@ -13,8 +14,6 @@ use Rattle.motion.specs.declared.Counters.{Counters}
 use Rattle.motion.specs.declared.Move.{Move}
 use Rattle.motion.specs.declared.Signs.{Signs}
 use Rattle.motion.specs.declared.Beat.{Beat}
-use Rattle.motion.specs.declared.Beaten.{Beaten}
-use Rattle.motion.specs.declared.Beaten.TheVariants as beat
 use Rattle.motion.specs.work.Here.{within_of as straight_in}
 use Rattle.motion.specs.work.Beat.{beaten as straight_beaten}
 use Rattle.circle.specs.declared.Arc.{Arc}
@@ -54,11 +53,11 @@ GKept turns limit m₀ at₀ out₀ n m at out k = Kept glides glide_on (glide_s
 
 -- ---- a pulse of either kind is one of what moves
 
-pub straight-beat : (m : Move) (at : Counters) {x : Beaten} → x ≡ straight_beaten (straight_in m at) → x ≡ beaten (within_of (travel.Straight m) at)
+pub straight-beat : (m : Move) (at : Counters) {x : Option Beat} → x ≡ straight_beaten (straight_in m at) → x ≡ beaten (within_of (travel.Straight m) at)
 unfolding within_of
 straight-beat m at e = e ∙ straight-within m at
 
-pub round-beat : (a : Arc) (at : Counters) {x : Beaten} → x ≡ arc_beat a at → x ≡ beaten (within_of (travel.Round a) at)
+pub round-beat : (a : Arc) (at : Counters) {x : Option Beat} → x ≡ arc_beat a at → x ≡ beaten (within_of (travel.Round a) at)
 unfolding within_of
 round-beat a at e = e ∙ arc-beaten a at
 
@@ -67,7 +66,7 @@ made-marked (travel.Straight m) = refl
 made-marked (travel.Round a) = refl
 
 module _ (m : Travel) (at : Counters) where
-  pub over : {x : Beaten} → x ≡ beaten (within_of m at) → x ≡ beat.Over → glides (here m at) ≡ false
+  pub over : {x : Option Beat} → x ≡ beaten (within_of m at) → x ≡ None → glides (here m at) ≡ false
   unfolding glides
   over e p = rw (missed (within_of m at) e p)
 
@@ -101,7 +100,7 @@ module _ (turns : Bool) (limit : ℕ) (m₀ : Travel) (at₀ : Counters) (out₀
       (record { state = here s.rest s.at; calls = 1; text = pulse_text turns s.signs s.speed })
       (part m at turns (limit - n) s e (omega arith)) (omega arith) ys j w (omega arith) (omega arith)
 
-  pub turn : {x : Beaten} (b : Beat) (ys : List ℕ) (j : ℕ) → x ≡ beaten (within_of m at) → x ≡ beat.Made b → n < limit → 13 * limit ≤ length out₀ → b.speed ≤ 65535
+  pub turn : {x : Option Beat} (b : Beat) (ys : List ℕ) (j : ℕ) → x ≡ beaten (within_of m at) → x ≡ Some b → n < limit → 13 * limit ≤ length out₀ → b.speed ≤ 65535
       → Wrote (pulse_text turns b.signs b.speed) (take (length out - k) (drop k out)) j ys
       → GKept turns limit m₀ at₀ out₀ (n + 1) (with_made m b.mark.made) b.at (put_mid k (length out - k) out ys) (k + j)
   turn b ys j e p h l =

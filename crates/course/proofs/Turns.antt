@@ -1,4 +1,5 @@
 -- One turn of the run's loop: a clock call, and the pulses that follow it. Assumes nothing.
+use Rattle.std.specs.Prelude.{Option, Some, None}
 use Prim.Native.Nat.{ℕ, ◌+◌, ◌-◌, ◌*◌, ◌<◌, ◌≤◌}
 use mathlib.Core.Path.{◌≡◌, refl, ap, sym, ◌∙◌}
 use mathlib.Core.Bool.{true}
@@ -11,8 +12,6 @@ use Rattle.travel.specs.work.Beat.{next_of}
 use Rattle.record.specs.Memory.{Memory}
 use Rattle.record.specs.Table.{fetch_of}
 use Rattle.engine.specs.declared.Engine.{Engine}
-use Rattle.engine.specs.declared.Under.{Under}
-use Rattle.engine.specs.declared.Under.TheVariants as under
 use Rattle.engine.specs.declared.Told.{Told}
 use Rattle.engine.specs.declared.Job.{Job}
 use Rattle.engine.specs.declared.Job.TheVariants as job
@@ -68,7 +67,7 @@ module _ (mem : Memory) (limit : ℕ) (e₀ : Engine) (out₀ : List ℕ) (l : 1
 -- ---- what the code of `glide_on` has
 
 module _ (e : Engine) (limit : ℕ) (out : List ℕ) where
-  none-by : (j : Job) → under_of j ≡ under.Nothing → glide_job j limit e ≡ stays e
+  none-by : (j : Job) → under_of j ≡ None → glide_job j limit e ≡ stays e
   unfolding glide_job
   none-by job.Idle h = refl
   none-by job.Storing h = refl
@@ -78,7 +77,7 @@ module _ (e : Engine) (limit : ℕ) (out : List ℕ) where
   none-by (job.Delay q) h = refl
   none-by (job.Wait c t) h = refl
 
-  pub stays-left : {u : Under} {w : Went} → u ≡ under_of e.run.job → u ≡ under.Nothing → w ≡ record { engine = e; calls = 0; len = 0 }
+  pub stays-left : {u : Option Travel} {w : Went} → u ≡ under_of e.run.job → u ≡ None → w ≡ record { engine = e; calls = 0; len = 0 }
       → (went_of w out ≡ left_by (glide_job e.run.job limit e) out) × (w.len ≤ 13 * w.calls)
   stays-left p h q =
       (ap (λ (x : Went). went_of x out) q ∙ sym (ap (λ (x : Way Engine). left_by x out) (none-by e.run.job (sym p ∙ h))), rw q (omega arith))
@@ -105,7 +104,7 @@ module _ (e : Engine) (limit : ℕ) (out : List ℕ) where
         ∙ ap (λ (x : Left Gone). map_left (in_moving e) x) q
         ∙ sym (ap (λ (j : Job). left_by (glide_job j limit e) out) p)
 
-    going-by : (j : Job) → e.run.job ≡ j → under_of j ≡ under.Going m → d ≡ glided g.at g.rest e
+    going-by : (j : Job) → e.run.job ≡ j → under_of j ≡ Some m → d ≡ glided g.at g.rest e
         → ◌≡◌ {A = Left Engine} (record { state = d; calls = g.calls; len = g.len; out = last }) (left_by (glide_job e.run.job limit e) out)
     going-by (job.Direct n) p h r = let s : n ≡ m = cc in direct-left (p ∙ ap job.Direct s) r
     going-by (job.Moving n) p h r = let s : n ≡ m = cc in moving-left (p ∙ ap job.Moving s) r
@@ -115,6 +114,6 @@ module _ (e : Engine) (limit : ℕ) (out : List ℕ) where
     going-by (job.Delay k) p h r = let z : ◌≡◌ {A = ℕ} 0 1 = cc in absurd (omega arith)
     going-by (job.Wait c t) p h r = let z : ◌≡◌ {A = ℕ} 0 1 = cc in absurd (omega arith)
 
-    pub going-left : {u : Under} → u ≡ under_of e.run.job → u ≡ under.Going m → d ≡ glided g.at g.rest e
+    pub going-left : {u : Option Travel} → u ≡ under_of e.run.job → u ≡ Some m → d ≡ glided g.at g.rest e
         → ◌≡◌ {A = Left Engine} (record { state = d; calls = g.calls; len = g.len; out = last }) (left_by (glide_job e.run.job limit e) out)
     going-left p h r = going-by e.run.job refl (sym p ∙ h) r

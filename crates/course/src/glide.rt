@@ -6,7 +6,7 @@ ghost use Rattle.course.specs.work.Glide.{glided, gliding};
 use super::Glided;
 use super::text::put_pulse;
 use circle::Arc;
-use motion::{Beaten, Counters, Move};
+use motion::{Counters, Move};
 use travel::Travel;
 
 // What moves with so many pulses of its phase made, the counters, and what that took.
@@ -32,7 +32,7 @@ fn glide_straight(start: Move, from: Counters, turns: bool, limit: u32, out: &mu
     let mut k = 0;
     while n < limit {
         let next = start.beat_in(made, at);
-        let Beaten::Made(b) = next else {
+        let Some(b) = next else {
             return glided_to(Travel::Straight(start), made, at, n, k);
         };
         let signs = b.signs;
@@ -58,7 +58,7 @@ fn glide_round(start: Arc, from: Counters, turns: bool, limit: u32, out: &mut [u
     let mut k = 0;
     while n < limit {
         let next = start.beat_in(made, at);
-        let Beaten::Made(b) = next else {
+        let Some(b) = next else {
             return glided_to(Travel::Round(start), made, at, n, k);
         };
         let signs = b.signs;

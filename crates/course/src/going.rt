@@ -9,7 +9,7 @@ use super::Went;
 use super::glide::glide;
 use super::text::put_answer;
 use count::Axis;
-use engine::{Engine, Under};
+use engine::Engine;
 
 fn stay(engine: Engine) -> Went
     ensures { result ≡ record { engine = engine; calls = 0; len = 0 } }
@@ -34,7 +34,7 @@ fn glide_on(e: Engine, limit: u32, out: &mut [u8]) -> Went
     ensures { (went_of result out.new ≡ left_by (glide_job e.run.job limit e) out.old) × (result.len ≤ 13 * result.calls) }
 {
     let under = e.under_way();
-    let Under::Going(m) = under else {
+    let Some(m) = under else {
         return stay(e);
     };
     let turns = is_turning(e);

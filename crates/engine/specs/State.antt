@@ -1,6 +1,8 @@
 -- The engine's state and what lines and control codes do to it (01, "Lines", table of lines; "Running a program", last paragraph; 02, §3 for
 -- circles, §7 for the A axis).
-use Rattle.std.specs.Prelude.{ℕ, ◌+◌, Bool, false, List, [], ◌∷◌, eqb, pos}
+use Rattle.count.specs.declared.Fault.{Fault}
+use Rattle.count.specs.Refusals.{letter_of}
+use Rattle.std.specs.Prelude.{ℕ, ◌+◌, Bool, false, List, [], ◌∷◌, eqb, pos, Result, Ok, Err}
 use Rattle.count.specs.Chars.{ch}
 use Rattle.count.specs.Pick.{pick}
 use Rattle.count.specs.Paper.{Paper, says}
@@ -16,8 +18,6 @@ use Rattle.circle.specs.declared.Direction.{Direction}
 use Rattle.circle.specs.declared.Circling.{Circling}
 use Rattle.circle.specs.Plan.{circling, at_first}
 use Rattle.travel.specs.declared.Travel.{Travel}
-use Rattle.travel.specs.declared.Planned.{Planned}
-use Rattle.travel.specs.declared.Planned.TheVariants as planned
 use Rattle.travel.specs.Next.{left_of}
 use Rattle.travel.specs.Plan.{plan_of, circle_of}
 use Rattle.record.specs.declared.Held.{Held}
@@ -170,9 +170,9 @@ begun reply e = record { engine = e; reply = reply }
 abbrev pub no_pulse : Travel → Bool
 no_pulse m = eqb (left_of m) 0
 
-abbrev pub begun_by : Planned → Engine → Begun
-begun_by (planned.Going m) e = pick (no_pulse m) (begun (ch "0") e) (begun 0 (with_job e (job.Direct m)))
-begun_by (planned.Refused b) e = begun b e
+abbrev pub begun_by : Result Travel Fault → Engine → Begun
+begun_by (Ok m) e = pick (no_pulse m) (begun (ch "0") e) (begun 0 (with_job e (job.Direct m)))
+begun_by (Err f) e = begun (letter_of f) e
 
 unfoldable pub begin_of : Bool → List ℕ → Engine → Begun
 begin_of absolute words e = begun_by (plan_of (asked e.axes e.three e.at e.origin absolute words)) e

@@ -1,6 +1,8 @@
 -- One clock call (01, "Running a program", paragraph 1; "Movement", last sentence; 02, §3): the next pulse, one pause, or one record. It is
 -- defined once, over the rule that gives the next pulse and over how the record at a place is fetched.
-use Rattle.std.specs.Prelude.{ℕ, zero, suc, ◌+◌, Bool, List, [], ltb, eqb, length, get_or}
+use Rattle.count.specs.declared.Fault.{Fault}
+use Rattle.count.specs.Refusals.{letter_of}
+use Rattle.std.specs.Prelude.{ℕ, zero, suc, ◌+◌, Bool, List, [], ltb, eqb, length, get_or, Result, Ok, Err}
 use Rattle.count.specs.Chars.{ch}
 use Rattle.count.specs.Pick.{pick}
 use Rattle.motion.specs.declared.Counters.{Counters}
@@ -8,8 +10,6 @@ use Rattle.motion.specs.Phase.{moved_all}
 use Rattle.motion.specs.Plan.{asked}
 use Rattle.circle.specs.Plan.{plane_of, direction_of}
 use Rattle.travel.specs.declared.Travel.{Travel}
-use Rattle.travel.specs.declared.Planned.{Planned}
-use Rattle.travel.specs.declared.Planned.TheVariants as planned
 use Rattle.travel.specs.Next.{Next}
 use Rattle.travel.specs.Next.Next.{Made, Over}
 use Rattle.travel.specs.Plan.{plan_of, circle_of}
@@ -70,9 +70,9 @@ moving (Made s) e = told (on_to (job.Moving s.rest) e) (answer.Pulse s.signs s.s
 moving Over e = told (on_to job.Ready e) answer.Done
 
 -- it is planned as it is run, under the store's axes; 9, or a circle's 3 or 1, ends the program without a pulse of it and keeps the store
-abbrev pub moving_by : Rule → Planned → Engine → Told
-moving_by rule (planned.Going m) e = moving (rule m e.at) e
-moving_by rule (planned.Refused b) e = finished b e
+abbrev pub moving_by : Rule → Result Travel Fault → Engine → Told
+moving_by rule (Ok m) e = moving (rule m e.at) e
+moving_by rule (Err f) e = finished (letter_of f) e
 
 -- the pauses after this one
 abbrev pub after_pause : ℕ → Job

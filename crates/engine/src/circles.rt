@@ -10,37 +10,36 @@ use circle::{Circling, Direction, Plane};
 pub(crate) fn circling_first() -> Circling
     ensures { result ≡ at_first }
 {
-    let plane = Plane::XY;
-    let direction = Direction::Clockwise;
-    Circling { plane, direction }
+    Circling {
+        plane: Plane::XY,
+        direction: Direction::Clockwise,
+    }
 }
 
 impl Engine {
     fn with_circling(self, circling: Circling) -> Engine
         ensures { result ≡ with_circling self circling }
     {
-        let mut e = self;
-        e.circling = circling;
-        e
+        Engine { circling, ..self }
     }
 
     // The plane, by its number.
     pub fn set_plane(self, w: u32) -> Engine
         ensures { result ≡ with_plane (plane_of w) self }
     {
-        let circling = self.circling;
-        let direction = circling.direction;
-        let plane = circle::plane_of(w);
-        self.with_circling(Circling { plane, direction })
+        self.with_circling(Circling {
+            plane: circle::plane_of(w),
+            ..self.circling
+        })
     }
 
     // The direction, by its number.
     pub fn set_direction(self, w: u32) -> Engine
         ensures { result ≡ with_direction (direction_of w) self }
     {
-        let circling = self.circling;
-        let plane = circling.plane;
-        let direction = circle::direction_of(w);
-        self.with_circling(Circling { plane, direction })
+        self.with_circling(Circling {
+            direction: circle::direction_of(w),
+            ..self.circling
+        })
     }
 }

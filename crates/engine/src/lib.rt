@@ -82,10 +82,3 @@ pub enum Act {
     Finish,
     Record,
 }
-
-// What moves, if something does.
-#[derive(Clone, Copy)]
-pub enum Under {
-    Going(Travel),
-    Nothing,
-}

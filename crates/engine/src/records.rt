@@ -10,10 +10,11 @@ ghost use Rattle.engine.specs.work.Work.{Fits};
 ghost use Rattle.engine.specs.work.Acts.{pulsed};
 
 use super::{Answer, Engine, Job, Run, Told};
-use motion::{Beat, Beaten};
+use count::Fault;
+use motion::Beat;
 use program::{Going, Loops};
 use record::Record;
-use travel::{Planned, Travel};
+use travel::Travel;
 
 // The pauses after one.
 pub(crate) fn after_pause(q: u16) -> Job
@@ -40,12 +41,12 @@ impl Engine {
     pub(crate) fn pulse(self, run: Run, b: Beat) -> Told
         ensures { result ≡ pulsed run b self }
     {
-        let at = b.at;
-        let signs = b.signs;
-        let mut e = self;
-        e.at = at;
-        e.run = run;
-        e.tell(Answer::Pulse(signs, b.speed))
+        let e = Engine {
+            at: b.at,
+            run,
+            ..self
+        };
+        e.tell(Answer::Pulse(b.signs, b.speed))
     }
 
     // The run is over and its last character sent.
@@ -67,8 +68,7 @@ impl Engine {
         requires { self.run.place < 65535 }
         ensures { result ≡ on_to job self }
     {
-        let run = self.run;
-        self.with_run(run.at_place(job, run.place + 1))
+        self.with_run(self.run.at_place(job, self.run.place + 1))
     }
 
     // A movement's first pulse, or done without one.
@@ -76,26 +76,23 @@ impl Engine {
         requires { self.run.place < 65535 }
         ensures { result ≡ moving (next_of m self.at) self }
     {
-        let at = self.at;
-        let next = m.beat(at);
-        match next {
-            Beaten::Made(b) => {
-                let mark = b.mark;
-                let run = self.run;
-                self.pulse(run.at_place(Job::Moving(m.at_mark(mark)), run.place + 1), b)
+        match m.beat(self.at) {
+            Some(b) => {
+                let job = Job::Moving(m.at_mark(b.mark));
+                self.pulse(self.run.at_place(job, self.run.place + 1), b)
             }
-            Beaten::Over => self.on_to(Job::Ready).tell(Answer::Done),
+            None => self.on_to(Job::Ready).tell(Answer::Done),
         }
     }
 
     // What moves as it is planned; what refuses it ends the program without a pulse of it.
-    fn travel_by(self, plan: Planned) -> Told
+    fn travel_by(self, plan: Result<Travel, Fault>) -> Told
         requires { self.run.place < 65535 }
         ensures { result ≡ moving_by next_of plan self }
     {
         match plan {
-            Planned::Going(m) => self.first_pulse(m),
-            Planned::Refused(b) => self.finish(b),
+            Ok(m) => self.first_pulse(m),
+            Err(fault) => self.finish(fault.letter()),
         }
     }
 
@@ -104,9 +101,8 @@ impl Engine {
         requires { self.run.place < 65535 }
         ensures { result ≡ moving_by next_of (plan_of (asked self.held.axes self.three self.at self.origin absolute words)) self }
     {
-        let held = self.held;
-        let plan = travel::plan(held.axes, self.three, self.at, self.origin, absolute, words);
-        self.travel_by(plan)
+        let axes = self.held.axes;
+        self.travel_by(travel::plan(axes, self.three, self.at, self.origin, absolute, words))
     }
 
     // A circle, planned under the store's axes.
@@ -114,9 +110,7 @@ impl Engine {
         requires { self.run.place < 65535 }
         ensures { result ≡ moving_by next_of (circle_of self.held.axes self.circling self.at words) self }
     {
-        let held = self.held;
-        let plan = travel::circle(held.axes, self.circling, self.at, words);
-        self.travel_by(plan)
+        self.travel_by(travel::circle(self.held.axes, self.circling, self.at, words))
     }
 
     // A delay's first pause, or done without one.
@@ -161,18 +155,16 @@ impl Engine {
         requires { (self.run.place < 65535) × Fits item }
         ensures { result ≡ performed next_of item self }
     {
-        let words = item.words;
-        let w = words[0];
-        let code = item.code;
-        match code {
-            b'0' | b'm' => self.travel(code == b'm', words),
+        let w = item.words[0];
+        match item.code {
+            b'0' | b'm' => self.travel(item.code == b'm', item.words),
             b'n' => self.origin_at(w).on_to(Job::Ready).tell(Answer::Done),
             b'z' => self.set_three(w == 1).on_to(Job::Ready).tell(Answer::Done),
             b'5' => self.delay(w as u16),
             b'1' => self.on_to(Job::Ready).tell(Answer::Send(w as u8)),
             b'e' => self.set_plane(w).on_to(Job::Ready).tell(Answer::Done),
             b'f' => self.set_direction(w).on_to(Job::Ready).tell(Answer::Done),
-            b'y' => self.turn(words),
+            b'y' => self.turn(item.words),
             _ => self.lead(item),
         }
     }

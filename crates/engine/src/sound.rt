@@ -19,13 +19,8 @@ fn is_sound(job: Job, at: Counters) -> bool
     ensures { result ≡ job_sound job at }
 {
     match job {
-        Job::Idle => true,
-        Job::Storing => true,
-        Job::Direct(m) => m.sound(at),
-        Job::Ready => true,
-        Job::Moving(m) => m.sound(at),
-        Job::Delay(_) => true,
-        Job::Wait(_, _) => true,
+        Job::Direct(m) | Job::Moving(m) => m.sound(at),
+        Job::Idle | Job::Storing | Job::Ready | Job::Delay(_) | Job::Wait(_, _) => true,
     }
 }
 
@@ -34,21 +29,15 @@ impl Engine {
     pub(crate) fn fits(self) -> bool
         ensures { result ≡ fits_of self }
     {
-        let at = self.at;
-        let held = self.held;
-        let run = self.run;
-        let loops = run.loops;
-        let points = motion::counted_at(at) & motion::counted_at(self.origin);
-        let axes = is_known(self.axes) & is_known(held.axes);
-        let used = (held.used <= 16384) & (held.records <= 1000);
-        points & axes & used & (loops.depth <= 7)
+        let points = motion::counted_at(self.at) & motion::counted_at(self.origin);
+        let axes = is_known(self.axes) & is_known(self.held.axes);
+        let used = (self.held.used <= 16384) & (self.held.records <= 1000);
+        points & axes & used & (self.run.loops.depth <= 7)
     }
 
     pub fn sound(self) -> bool
         ensures { result ≡ sound_of self }
     {
-        let run = self.run;
-        let job = run.job;
-        self.fits() & is_sound(job, self.at)
+        self.fits() & is_sound(self.run.job, self.at)
     }
 }

@@ -7,11 +7,11 @@ ghost use Rattle.engine.specs.State.{with_at, with_origin, with_three, with_outp
 
 use super::circles::circling_first;
 use super::{Begun, Engine, Job, Run};
-use count::Axis;
+use count::{Axis, Fault};
 use motion::Counters;
 use program::{Loop, Loops};
 use record::Held;
-use travel::{Planned, Travel};
+use travel::Travel;
 
 // The counters of all axes at 0.
 fn at_zero() -> Counters
@@ -50,25 +50,20 @@ fn beside_a(axes: u8) -> u8
     if count::has(axes as u32, Axis::A) {
         return axes;
     }
-    let both = axes + 8;
-    both
-}
-
-fn chosen(b: bool, x: u32, y: u32) -> u32
-    ensures { result ≡ pick b x y }
-{
-    if b { x } else { y }
+    axes + 8
 }
 
 // The counters of the axes named from one, the others from another.
+#[tactic(auto, unfolding(crate::specs::State::mixed))]
 fn mix(axes: u32, c: Counters, d: Counters) -> Counters
     ensures { result ≡ mixed axes c d }
 {
-    let x = chosen(count::has(axes, Axis::X), c.x, d.x);
-    let y = chosen(count::has(axes, Axis::Y), c.y, d.y);
-    let z = chosen(count::has(axes, Axis::Z), c.z, d.z);
-    let a = chosen(count::has(axes, Axis::A), c.a, d.a);
-    Counters { x, y, z, a }
+    Counters {
+        x: count::chosen(count::has(axes, Axis::X), c.x, d.x),
+        y: count::chosen(count::has(axes, Axis::Y), c.y, d.y),
+        z: count::chosen(count::has(axes, Axis::Z), c.z, d.z),
+        a: count::chosen(count::has(axes, Axis::A), c.a, d.a),
+    }
 }
 
 impl Run {
@@ -76,30 +71,23 @@ impl Run {
     fn first(job: Job) -> Run
         ensures { result ≡ running job 0 no_loops }
     {
-        let loops = no_loops();
         Run {
             job,
             place: 0,
-            loops,
+            loops: no_loops(),
         }
     }
 
     pub(crate) fn with_job(self, job: Job) -> Run
         ensures { result ≡ running job self.place self.loops }
     {
-        let loops = self.loops;
-        Run {
-            job,
-            place: self.place,
-            loops,
-        }
+        Run { job, ..self }
     }
 
     pub(crate) fn at_place(self, job: Job, place: u16) -> Run
         ensures { result ≡ running job place self.loops }
     {
-        let loops = self.loops;
-        Run { job, place, loops }
+        Run { job, place, ..self }
     }
 }
 
@@ -107,8 +95,6 @@ impl Engine {
     pub fn fresh() -> Engine
         ensures { result ≡ fresh }
     {
-        let held = held_none(0);
-        let run = Run::first(Job::Idle);
         Engine {
             axes: 0,
             at: at_zero(),
@@ -116,33 +102,31 @@ impl Engine {
             three: false,
             circling: circling_first(),
             output: 0,
-            held,
-            run,
+            held: held_none(0),
+            run: Run::first(Job::Idle),
         }
     }
 
     pub(crate) fn with_run(self, run: Run) -> Engine
         ensures { result ≡ with_run self run }
     {
-        let mut e = self;
-        e.run = run;
-        e
+        Engine { run, ..self }
     }
 
     pub(crate) fn with_job(self, job: Job) -> Engine
         ensures { result ≡ with_job self job }
     {
-        let run = self.run;
-        self.with_run(run.with_job(job))
+        self.with_run(self.run.with_job(job))
     }
 
     // The turntable's line: A beside the axes set, A's position and origin 0, all else as it was.
     fn set_turntable(self) -> Engine
         ensures { result ≡ turntable_of self }
     {
-        let mut e = self.set_zero(8);
-        e.axes = beside_a(self.axes);
-        e
+        Engine {
+            axes: beside_a(self.axes),
+            ..self.set_zero(8)
+        }
     }
 
     // Setting axes: positions and origins 0, 2.5D on; plane 0, clockwise. 8 adds the turntable.
@@ -152,38 +136,34 @@ impl Engine {
         if axes == 8 {
             return self.set_turntable();
         }
-        let zero = at_zero();
-        let circling = circling_first();
-        let mut e = self;
-        e.axes = axes;
-        e.at = zero;
-        e.origin = zero;
-        e.three = false;
-        e.circling = circling;
-        e
+        Engine {
+            axes,
+            at: at_zero(),
+            origin: at_zero(),
+            three: false,
+            circling: circling_first(),
+            ..self
+        }
     }
 
     // Positions and origins of the axes named := 0.
     pub fn set_zero(self, axes: u8) -> Engine
         ensures { result ≡ zero_of axes self }
     {
-        let w = axes as u32;
-        let zero = at_zero();
-        let at = mix(w, zero, self.at);
-        let origin = mix(w, zero, self.origin);
-        let mut e = self;
-        e.at = at;
-        e.origin = origin;
-        e
+        Engine {
+            at: mix(axes as u32, at_zero(), self.at),
+            origin: mix(axes as u32, at_zero(), self.origin),
+            ..self
+        }
     }
 
     pub(crate) fn origin_at(self, axes: u32) -> Engine
         ensures { result ≡ origin_of axes self }
     {
-        let origin = mix(axes, self.at, self.origin);
-        let mut e = self;
-        e.origin = origin;
-        e
+        Engine {
+            origin: mix(axes, self.at, self.origin),
+            ..self
+        }
     }
 
     // Origins of the axes named := positions.
@@ -196,25 +176,19 @@ impl Engine {
     pub fn set_three(self, on: bool) -> Engine
         ensures { result ≡ with_three self on }
     {
-        let mut e = self;
-        e.three = on;
-        e
+        Engine { three: on, ..self }
     }
 
     pub fn set_output(self, v: u8) -> Engine
         ensures { result ≡ with_output self v }
     {
-        let mut e = self;
-        e.output = v;
-        e
+        Engine { output: v, ..self }
     }
 
     pub fn set_held(self, held: Held) -> Engine
         ensures { result ≡ with_held self held }
     {
-        let mut e = self;
-        e.held = held;
-        e
+        Engine { held, ..self }
     }
 
     // The store emptied; its bytes stay.
@@ -228,12 +202,11 @@ impl Engine {
     pub fn store(self) -> Engine
         ensures { result ≡ storing_of self }
     {
-        let held = held_none(self.axes);
-        let run = Run::first(Job::Storing);
-        let mut e = self;
-        e.held = held;
-        e.run = run;
-        e
+        Engine {
+            held: held_none(self.axes),
+            run: Run::first(Job::Storing),
+            ..self
+        }
     }
 
     // A program's start.
@@ -251,52 +224,36 @@ impl Engine {
     }
 
     // A reset: a fresh engine, but the store kept, unless it is being written.
+    #[tactic(auto, unfolding(crate::specs::State::reset_of))]
     pub fn reset(self) -> Engine
         ensures { result ≡ reset_of self }
     {
-        let held = self.held;
-        let run = self.run;
-        let job = run.job;
-        let e = Engine::fresh();
-        match job {
-            Job::Idle => e.set_held(held),
-            Job::Storing => e,
-            Job::Direct(_) => e.set_held(held),
-            Job::Ready => e.set_held(held),
-            Job::Moving(_) => e.set_held(held),
-            Job::Delay(_) => e.set_held(held),
-            Job::Wait(_, _) => e.set_held(held),
+        match self.run.job {
+            Job::Storing => Engine::fresh(),
+            _ => Engine::fresh().set_held(self.held),
         }
     }
 
     // A byte at a wait.
+    #[tactic(auto, unfolding(crate::specs::State::heard))]
     pub fn hear(self, byte: u8) -> Engine
         ensures { result ≡ heard byte self }
     {
-        let run = self.run;
-        let job = run.job;
-        match job {
-            Job::Idle => self,
-            Job::Storing => self,
-            Job::Direct(_) => self,
-            Job::Ready => self,
-            Job::Moving(_) => self,
-            Job::Delay(_) => self,
-            Job::Wait(c, t) => {
-                if byte == c {
-                    return self.with_run(run.at_place(Job::Ready, t));
-                }
-                self.with_job(Job::Ready)
-            }
+        let Job::Wait(c, t) = self.run.job else {
+            return self;
+        };
+        if byte == c {
+            return self.with_run(self.run.at_place(Job::Ready, t));
         }
+        self.with_job(Job::Ready)
     }
 
     // A direct movement or circle as it is planned.
-    fn begin_by(self, plan: Planned) -> Begun
+    fn begin_by(self, plan: Result<Travel, Fault>) -> Begun
         ensures { result ≡ begun_by plan self }
     {
         match plan {
-            Planned::Going(m) => {
+            Ok(m) => {
                 if m.left() == 0 {
                     return Begun {
                         engine: self,
@@ -308,51 +265,47 @@ impl Engine {
                     reply: 0,
                 }
             }
-            Planned::Refused(b) => Begun {
+            Err(b) => Begun {
                 engine: self,
-                reply: b,
+                reply: b.letter(),
             },
         }
     }
 
     // A direct movement's line.
+    #[tactic(auto, unfolding(crate::specs::State::begin_of))]
     pub fn begin(self, absolute: bool, words: [u32; 8]) -> Begun
         ensures { result ≡ begin_of absolute words self }
     {
-        let plan = travel::plan(self.axes, self.three, self.at, self.origin, absolute, words);
-        self.begin_by(plan)
+        self.begin_by(travel::plan(self.axes, self.three, self.at, self.origin, absolute, words))
     }
 
     // A direct circle's line.
+    #[tactic(auto, unfolding(crate::specs::State::circle_begun))]
     pub fn begin_circle(self, words: [u32; 8]) -> Begun
         ensures { result ≡ circle_begun words self }
     {
-        let plan = travel::circle(self.axes, self.circling, self.at, words);
-        self.begin_by(plan)
+        self.begin_by(travel::circle(self.axes, self.circling, self.at, words))
     }
 
     // What moves with its counters and what is left of it, further on.
+    #[tactic(auto, unfolding(crate::specs::work::Glide::glided))]
     pub fn glide(self, at: Counters, rest: Travel) -> Engine
         ensures { result ≡ glided at rest self }
     {
-        let run = self.run;
-        let job = run.job;
-        match job {
-            Job::Idle => self,
-            Job::Storing => self,
+        match self.run.job {
             Job::Direct(_) => self.move_to(at, Job::Direct(rest)),
-            Job::Ready => self,
             Job::Moving(_) => self.move_to(at, Job::Moving(rest)),
-            Job::Delay(_) => self,
-            Job::Wait(_, _) => self,
+            Job::Idle | Job::Storing | Job::Ready | Job::Delay(_) | Job::Wait(_, _) => self,
         }
     }
 
     fn move_to(self, at: Counters, job: Job) -> Engine
         ensures { result ≡ with_job (with_at self at) job }
     {
-        let mut e = self.with_job(job);
-        e.at = at;
-        e
+        Engine {
+            at,
+            ..self.with_job(job)
+        }
     }
 }

@@ -8,21 +8,18 @@ ghost use Rattle.engine.specs.Tick.{fetched, ticked, runs_of};
 ghost use Rattle.engine.specs.work.Acts.{under_of, rest_of, act_by, look_by, seen_of, marked_job, pulsed, acted_by};
 
 use super::records::after_pause;
-use super::{Act, Answer, Engine, Job, Told, Under};
-use motion::{Beat, Beaten, Counters, Look, Mark};
+use super::{Act, Answer, Engine, Job, Told};
+use motion::{Beat, Counters, Look, Mark};
 use record::Found;
+use travel::Travel;
 
-fn is_under_way(job: Job) -> Under
+// What moves, if something does.
+fn under_way(job: Job) -> Option<Travel>
     ensures { result ≡ under_of job }
 {
     match job {
-        Job::Idle => Under::Nothing,
-        Job::Storing => Under::Nothing,
-        Job::Direct(m) => Under::Going(m),
-        Job::Ready => Under::Nothing,
-        Job::Moving(m) => Under::Going(m),
-        Job::Delay(_) => Under::Nothing,
-        Job::Wait(_, _) => Under::Nothing,
+        Job::Direct(m) | Job::Moving(m) => Some(m),
+        Job::Idle | Job::Storing | Job::Ready | Job::Delay(_) | Job::Wait(_, _) => None,
     }
 }
 
@@ -31,13 +28,10 @@ fn rest_of(job: Job) -> Act
     ensures { result ≡ rest_of job }
 {
     match job {
-        Job::Idle => Act::Still,
-        Job::Storing => Act::Still,
+        Job::Idle | Job::Storing | Job::Wait(_, _) => Act::Still,
         Job::Direct(_) => Act::Finish,
-        Job::Ready => Act::Record,
-        Job::Moving(_) => Act::Record,
+        Job::Ready | Job::Moving(_) => Act::Record,
         Job::Delay(q) => Act::Pause(q),
-        Job::Wait(_, _) => Act::Still,
     }
 }
 
@@ -45,14 +39,12 @@ fn rest_of(job: Job) -> Act
 fn act_of(job: Job, at: Counters) -> Act
     ensures { result ≡ act_by next_of job at }
 {
-    let under = is_under_way(job);
-    let Under::Going(m) = under else {
+    let Some(m) = under_way(job) else {
         return rest_of(job);
     };
-    let next = m.beat(at);
-    match next {
-        Beaten::Made(b) => Act::Pulse(b),
-        Beaten::Over => rest_of(job),
+    match m.beat(at) {
+        Some(b) => Act::Pulse(b),
+        None => rest_of(job),
     }
 }
 
@@ -60,12 +52,10 @@ fn act_of(job: Job, at: Counters) -> Act
 fn look_at(job: Job, at: Counters) -> Act
     ensures { result ≡ look_by job at }
 {
-    let under = is_under_way(job);
-    let Under::Going(m) = under else {
+    let Some(m) = under_way(job) else {
         return rest_of(job);
     };
-    let look = m.look(at);
-    match look {
+    match m.look(at) {
         Look::Wrong => Act::Wrong,
         Look::Made(b) => Act::Pulse(b),
         Look::Over => rest_of(job),
@@ -78,49 +68,36 @@ impl Job {
         ensures { result ≡ marked_job mark self }
     {
         match self {
-            Job::Idle => self,
-            Job::Storing => self,
             Job::Direct(m) => Job::Direct(m.at_mark(mark)),
-            Job::Ready => self,
             Job::Moving(m) => Job::Moving(m.at_mark(mark)),
-            Job::Delay(_) => self,
-            Job::Wait(_, _) => self,
+            Job::Idle | Job::Storing | Job::Ready | Job::Delay(_) | Job::Wait(_, _) => self,
         }
     }
 }
 
 impl Engine {
     // What moves, if something does.
-    pub fn under_way(self) -> Under
+    pub fn under_way(self) -> Option<Travel>
         ensures { result ≡ under_of self.run.job }
     {
-        let run = self.run;
-        let job = run.job;
-        is_under_way(job)
+        under_way(self.run.job)
     }
 
     // A pulse of the movement under way.
     fn step(self, b: Beat) -> Told
         ensures { result ≡ pulsed (running (marked_job b.mark self.run.job) self.run.place self.run.loops) b self }
     {
-        let run = self.run;
-        let job = run.job;
-        let mark = b.mark;
-        self.pulse(run.with_job(job.at_mark(mark)), b)
+        let job = self.run.job.at_mark(b.mark);
+        self.pulse(self.run.with_job(job), b)
     }
 
     // The record at the place; the 0 at the end place; G where none can be found and read.
     fn ready(self, store: &[u8], table: &[u16]) -> Told
         ensures { result ≡ fetched next_of (fetch_of self.held (memory store.now table.now) self.run.place) self }
     {
-        let run = self.run;
-        let f = record::fetch(store, table, self.held, run.place);
-        let found = f.found;
-        match found {
-            Found::Right => {
-                let item = f.item;
-                self.perform(item)
-            }
+        let f = record::fetch(store, table, self.held, self.run.place);
+        match f.found {
+            Found::Right => self.perform(f.item),
             Found::End => self.finish(b'0'),
             Found::Wrong => self.fail(),
         }
@@ -130,9 +107,7 @@ impl Engine {
     pub fn see(self) -> Act
         ensures { result ≡ seen_of self }
     {
-        let run = self.run;
-        let job = run.job;
-        let act = look_at(job, self.at);
+        let act = look_at(self.run.job, self.at);
         if !self.fits() {
             return Act::Wrong;
         }
@@ -144,8 +119,7 @@ impl Engine {
         ensures { result ≡ acted_by next_of (fetch_of self.held (memory store.now table.now)) act self }
     {
         match act {
-            Act::Wrong => self.tell(Answer::Nothing),
-            Act::Still => self.tell(Answer::Nothing),
+            Act::Wrong | Act::Still => self.tell(Answer::Nothing),
             Act::Pulse(b) => self.step(b),
             Act::Pause(q) => self.with_job(after_pause(q)).tell(Answer::Pause),
             Act::Finish => self.finish(b'0'),
@@ -157,25 +131,17 @@ impl Engine {
     pub fn tick(self, store: &[u8], table: &[u16]) -> Told
         ensures { result ≡ ticked next_of (fetch_of self.held (memory store.now table.now)) self }
     {
-        let run = self.run;
-        let job = run.job;
-        self.act(act_of(job, self.at), store, table)
+        self.act(act_of(self.run.job, self.at), store, table)
     }
 
     // Whether a clock call has something to do.
+    #[tactic(auto, unfolding(crate::specs::Tick::runs_of))]
     pub fn runs(self) -> bool
         ensures { result ≡ runs_of self }
     {
-        let run = self.run;
-        let job = run.job;
-        match job {
-            Job::Idle => false,
-            Job::Storing => false,
-            Job::Direct(_) => true,
-            Job::Ready => true,
-            Job::Moving(_) => true,
-            Job::Delay(_) => true,
-            Job::Wait(_, _) => false,
-        }
+        matches!(
+            self.run.job,
+            Job::Direct(_) | Job::Ready | Job::Moving(_) | Job::Delay(_)
+        )
     }
 }

@@ -1,5 +1,7 @@
 -- Worked examples of 01, "Prove these", (1), (2) and (12), by computing on the definitions: a movement planned from its numbers, and its
 -- pulses by 01's formula. Assumes nothing.
+use Rattle.std.specs.Prelude.{Option, Some, None}
+use Rattle.motion.specs.declared.Move.{Move}
 use mathlib.Core.Path.{◌≡◌, refl}
 use mathlib.Core.Bool.{false}
 use mathlib.Core.List.{List, [], ◌∷◌, map}
@@ -10,9 +12,6 @@ use Rattle.count.specs.Numbers.{half, count, word, signed, within, in24, placed,
 use Rattle.count.specs.Ranges.{in_speed, in_zero, right_z2, right_distances, right_speeds}
 use Rattle.motion.specs.declared.Counters.{Counters}
 use Rattle.motion.specs.declared.Stepped.{Stepped}
-use Rattle.motion.specs.declared.Planned.{Planned}
-use Rattle.motion.specs.declared.Planned.TheVariants.{Going, Outside}
-use Rattle.motion.specs.declared.Next.TheVariants.{Made}
 use Rattle.motion.specs.Phase.{pulses, steps, sign_at}
 use Rattle.motion.specs.Plan.{asked, goal, goal_of, goal_z2, first_speed, later_speed, route, going_to, plan_of, planned_paper}
 use Rattle.motion.specs.Next.{from_of, to_of, speed_at, skipped, next_by, pulse_of, after_of, left_of, next_paper}
@@ -22,16 +21,16 @@ abbrev at : ℤ → ℤ → ℤ → Counters
 at x y z = record { x = count x; y = count y; z = count z; a = half }
 
 -- a relative movement of two axes in 2.5D from the zero point, and of x alone from a position
-abbrev pair : ℤ → ℕ → ℤ → ℕ → Planned
+abbrev pair : ℤ → ℕ → ℤ → ℕ → Option Move
 pair x v y w = plan_of (asked 3 false (at (pos 0) (pos 0) (pos 0)) (at (pos 0) (pos 0) (pos 0)) false (word x ∷ v ∷ word y ∷ w ∷ 0 ∷ 0 ∷ 0 ∷ 0 ∷ []))
 
-abbrev along : ℤ → ℤ → ℕ → Planned
+abbrev along : ℤ → ℤ → ℕ → Option Move
 along p x v = plan_of (asked 1 false (at p (pos 0) (pos 0)) (at (pos 0) (pos 0) (pos 0)) false (word x ∷ v ∷ 0 ∷ 0 ∷ 0 ∷ 0 ∷ 0 ∷ 0 ∷ []))
 
 -- its pulses as the paper has them: the signs of x, y, z, a and the speed
-abbrev shown : Planned → List Paper
-shown (Going m) = map (λ (s : Stepped). next_paper (Made s)) (all_pulses m m.start)
-shown Outside = []
+abbrev shown : Option Move → List Paper
+shown (Some m) = map (λ (s : Stepped). next_paper (Some s)) (all_pulses m m.start)
+shown None = []
 
 abbrev pulse : ℤ → ℤ → ℤ → Paper
 pulse x y v = says 1 (x ∷ y ∷ pos 0 ∷ pos 0 ∷ v ∷ [])

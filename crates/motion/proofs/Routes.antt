@@ -1,4 +1,5 @@
 -- A plan from its parts, as the code has them. Assumes nothing.
+use Rattle.std.specs.Prelude.{Option, Some, None}
 use mathlib.Core.Path.{◌≡◌, refl, sym, ap, ◌∙◌}
 use mathlib.Core.Bool.{Bool, true, false, not, ◌&&◌}
 use mathlib.Core.List.{List}
@@ -10,11 +11,8 @@ use Rattle.count.specs.Pick.{pick}
 use Rattle.count.specs.declared.Axis.TheVariants.{X, Y, Z, A}
 use Rattle.count.specs.Axes.{has}
 use Rattle.count.specs.Ranges.{right_speeds}
-use Rattle.count.specs.declared.Placed.{Placed}
-use Rattle.count.specs.declared.Placed.TheVariants as placed
 use Rattle.count.proofs.laws.Truth.{and_right}
 use Rattle.motion.specs.declared.Move.{Move}
-use Rattle.motion.specs.declared.Planned.TheVariants.{Going, Outside}
 use Rattle.motion.specs.declared.Counters.{Counters}
 use Rattle.motion.specs.Plan.{Asked, goal, goal_of, goal_z2, moves_z2, on_from, first_speed, later_speed, with_z, route, count_of, going_to}
 use Rattle.motion.specs.Sound.{speed_right}
@@ -25,8 +23,8 @@ fourth-by : (l : List ℕ) (b : Bool) → pick b (get_or l 6 0) (get_or l 0 0) �
 fourth-by l true = refl
 fourth-by l false = refl
 
-pub a-by : (q : Asked) {h : Bool} {w : ℕ} {g : Placed} → h ≡ has q.axes X → w ≡ pick h (get_or q.words 6 0) (get_or q.words 0 0)
-    → g ≡ pick (has q.axes A) (goal q.absolute q.at.a q.origin.a w) (placed.At q.at.a) → g ≡ goal_of q A
+pub a-by : (q : Asked) {h : Bool} {w : ℕ} {g : Option ℕ} → h ≡ has q.axes X → w ≡ pick h (get_or q.words 6 0) (get_or q.words 0 0)
+    → g ≡ pick (has q.axes A) (goal q.absolute q.at.a q.origin.a w) (Some q.at.a) → g ≡ goal_of q A
 unfolding goal_of
 a-by q p e f = f ∙ rw (e, p, fourth-by q.words (has q.axes X))
 
@@ -58,42 +56,42 @@ speed-most : (v : ℕ) → speed_right v ≡ true → v ≤ 10000
 speed-most v e = leb-true v 10000 (and_right (leb 30 v) (leb v 10000) e)
 
 -- its speeds are at most 10,000
-pub speeds-fit : (q : Asked) (goals : Counters) {gy : Placed} → right_speeds q.axes q.words ≡ true → gy ≡ goal_of q Y → gy ≡ placed.At goals.y
+pub speeds-fit : (q : Asked) (goals : Counters) {gy : Option ℕ} → right_speeds q.axes q.words ≡ true → gy ≡ goal_of q Y → gy ≡ Some goals.y
     → (first_speed q goals ≤ 10000) × (later_speed q 5 ≤ 10000) × (later_speed q 7 ≤ 10000)
 speeds-fit q goals h p f =
     let e : goals.y ≡ count_of (goal_of q Y) = sym (ap count_of (sym p ∙ f)) in
     (speed-most (first_speed q goals) (first-right q h goals e), speed-most (later_speed q 5) (second-right q h), speed-most (later_speed q 7) (third-right q h))
 
 -- the first resting point outside ends the plan. Each place is what a call answered (p), and what its answer was (e).
-module _ (q : Asked) {gx : Placed} (px : gx ≡ goal_of q X) where
-  pub out-x : gx ≡ placed.Outside → Outside ≡ going_to q
+module _ (q : Asked) {gx : Option ℕ} (px : gx ≡ goal_of q X) where
+  pub out-x : gx ≡ None → None ≡ going_to q
   unfolding going_to
   out-x e = rw (← px, e)
 
-  module _ {x : ℕ} {gy : Placed} (ex : gx ≡ placed.At x) (py : gy ≡ goal_of q Y) where
-    pub out-y : gy ≡ placed.Outside → Outside ≡ going_to q
+  module _ {x : ℕ} {gy : Option ℕ} (ex : gx ≡ Some x) (py : gy ≡ goal_of q Y) where
+    pub out-y : gy ≡ None → None ≡ going_to q
     unfolding going_to
     out-y e = rw (← px, ex, ← py, e)
 
-    module _ {y : ℕ} {gz : Placed} (ey : gy ≡ placed.At y) (pz : gz ≡ goal_of q Z) where
-      pub out-z : gz ≡ placed.Outside → Outside ≡ going_to q
+    module _ {y : ℕ} {gz : Option ℕ} (ey : gy ≡ Some y) (pz : gz ≡ goal_of q Z) where
+      pub out-z : gz ≡ None → None ≡ going_to q
       unfolding going_to
       out-z e = rw (← px, ex, ← py, ey, ← pz, e)
 
-      module _ {z : ℕ} {ga : Placed} (ez : gz ≡ placed.At z) (pa : ga ≡ goal_of q A) where
-        pub out-a : ga ≡ placed.Outside → Outside ≡ going_to q
+      module _ {z : ℕ} {ga : Option ℕ} (ez : gz ≡ Some z) (pa : ga ≡ goal_of q A) where
+        pub out-a : ga ≡ None → None ≡ going_to q
         unfolding going_to
         out-a e = rw (← px, ex, ← py, ey, ← pz, ez, ← pa, e)
 
-        module _ {a : ℕ} {gz2 : Placed} (ea : ga ≡ placed.At a) (pz2 : gz2 ≡ pick (moves_z2 q) (on_from (placed.At z) (get_or q.words 6 0)) (placed.At z)) where
+        module _ {a : ℕ} {gz2 : Option ℕ} (ea : ga ≡ Some a) (pz2 : gz2 ≡ pick (moves_z2 q) (on_from (Some z) (get_or q.words 6 0)) (Some z)) where
           z2-of : goal_z2 q ≡ gz2
           unfolding goal_z2
           z2-of = rw (pz2, ← pz, ez)
 
-          pub out-z2 : gz2 ≡ placed.Outside → Outside ≡ going_to q
+          pub out-z2 : gz2 ≡ None → None ≡ going_to q
           unfolding going_to
           out-z2 e = rw (z2-of, ← px, ex, ← py, ey, ← pz, ez, ← pa, ea, e)
 
-          pub all_in : {z2 : ℕ} {m : Move} → gz2 ≡ placed.At z2 → m ≡ route q (record { x = x; y = y; z = z; a = a }) z2 → Going m ≡ going_to q
+          pub all_in : {z2 : ℕ} {m : Move} → gz2 ≡ Some z2 → m ≡ route q (record { x = x; y = y; z = z; a = a }) z2 → Some m ≡ going_to q
           unfolding going_to
           all_in e p = rw (z2-of, ← px, ex, ← py, ey, ← pz, ez, ← pa, ea, e, p)

@@ -1,4 +1,5 @@
 -- What the code's own tests rest on: products that fit, and the pulse of a phase from its parts. Assumes nothing.
+use Rattle.std.specs.Prelude.{Some, None}
 use mathlib.Core.Path.{◌≡◌}
 use Prim.Native.Nat.{ℕ, ◌*◌, ◌≤◌, ◌<◌}
 use native.Mathlib.Nat.{mul-le-mul_right, mul-le-mul_left}
@@ -9,7 +10,6 @@ use Rattle.motion.specs.declared.Counters.{Counters}
 use Rattle.motion.specs.declared.Signs.{Signs}
 use Rattle.motion.specs.declared.Move.{Move}
 use Rattle.motion.specs.declared.Beat.{Beat}
-use Rattle.motion.specs.declared.Beaten.TheVariants as beat
 use Rattle.count.specs.declared.Axis.{Axis}
 use Rattle.count.proofs.laws.Axes.{each_of}
 use Rattle.motion.specs.Axes.{on}
@@ -34,13 +34,13 @@ module _ (m : Move) (at : Counters) {f t : Counters} {n : ℕ} (p : f ≡ from_o
   pub leg-is : n ≡ leg m
   leg-is = rw (e, p, q)
 
-  pub beat-made : {s : Signs} {b : Beat} → m.made < n → s ≡ signs_by sign_here at f t m.made n → b ≡ beat_of (stepped m at s) → beat.Made b ≡ beaten (within_of m at)
+  pub beat-made : {s : Signs} {b : Beat} → m.made < n → s ≡ signs_by sign_here at f t m.made n → b ≡ beat_of (stepped m at s) → Some b ≡ beaten (within_of m at)
   unfolding within_of
   beat-made h u v =
       let l = leg-is in
       rw (v, u, l, p, q, lt-ltb m.made (leg m) (rw l at h))
 
-  pub beat-over : n ≤ m.made → beat.Over ≡ beaten (within_of m at)
+  pub beat-over : n ≤ m.made → None ≡ beaten (within_of m at)
   unfolding within_of
   beat-over h =
       let l = leg-is in

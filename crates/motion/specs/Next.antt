@@ -1,5 +1,5 @@
 -- The next pulse of a movement (01, "Movement", paragraph 2).
-use Rattle.std.specs.Prelude.{[], ◌∷◌, ℕ, ◌+◌, ◌-◌, ltb, leb, eqb, pos}
+use Rattle.std.specs.Prelude.{[], ◌∷◌, ℕ, ◌+◌, ◌-◌, ltb, leb, eqb, pos, Option, Some, None}
 use Rattle.count.specs.Pick.{pick}
 use Rattle.count.specs.Paper.{Paper, says}
 use Rattle.motion.specs.declared.Sign.{Sign}
@@ -7,8 +7,6 @@ use Rattle.motion.specs.declared.Signs.{Signs}
 use Rattle.motion.specs.declared.Counters.{Counters}
 use Rattle.motion.specs.declared.Move.{Move}
 use Rattle.motion.specs.declared.Stepped.{Stepped}
-use Rattle.motion.specs.declared.Next.{Next}
-use Rattle.motion.specs.declared.Next.TheVariants.{Over, Made}
 use Rattle.motion.specs.Axes.{on, pulse}
 use Rattle.motion.specs.Phase.{pulses, sign_at, moved_all, signs_then}
 
@@ -59,15 +57,15 @@ abbrev pub stepped : Move → Counters → Signs → Stepped
 stepped m at s = record { signs = s; speed = speed_at m (m.made + 1); at = moved_all at s; rest = at_phase m m.phase (m.made + 1) }
 
 -- the next pulse of the phase under way, or that it has none left
-abbrev pub within_by : SignRule → Move → Counters → Next
-within_by rule m at = pick (ltb m.made (leg m)) (Made (stepped m at (signs_by rule at (from_of m) (to_of m) m.made (leg m)))) Over
+abbrev pub within_by : SignRule → Move → Counters → Option Stepped
+within_by rule m at = pick (ltb m.made (leg m)) (Some (stepped m at (signs_by rule at (from_of m) (to_of m) m.made (leg m)))) None
 
 -- the next pulse of a movement, or that it has none left
-unfoldable pub next_by : SignRule → Move → Counters → Next
+unfoldable pub next_by : SignRule → Move → Counters → Option Stepped
 next_by rule m at = within_by rule (settled m) at
 
 -- by 01's formula: the rule that the board and every promise cite
-unfoldable pub pulse_of : Move → Counters → Next
+unfoldable pub pulse_of : Move → Counters → Option Stepped
 pulse_of m at = next_by (λ here from to k n. sign_at k from to n) m at
 
 -- the pulses of the phases after the one under way; after the third, and past it, there are none
@@ -81,6 +79,6 @@ unfoldable pub left_of : Move → ℕ
 left_of m = (leg m - m.made) + after_of m
 
 -- the clock's answers are 1, a pulse with its signs and speed, to 5, nothing
-abbrev pub next_paper : Next → Paper
-next_paper (Made s) = says 1 (signs_then s.signs (pos s.speed ∷ []))
-next_paper Over = says 5 []
+abbrev pub next_paper : Option Stepped → Paper
+next_paper (Some s) = says 1 (signs_then s.signs (pos s.speed ∷ []))
+next_paper None = says 5 []

@@ -1,6 +1,6 @@
 -- How a movement is planned: its resting points and its speeds (01, "Movement", paragraph 1, and paragraph 2 on speed;
 -- 02, §7 for the A axis).
-use Rattle.std.specs.Prelude.{Bool, true, false, ◌&&◌, ◌||◌, not, List, [], ◌∷◌, ℕ, ltb, leb, eqb, pos, get_or}
+use Rattle.std.specs.Prelude.{Bool, true, false, ◌&&◌, ◌||◌, not, List, [], ◌∷◌, ℕ, ltb, leb, eqb, pos, get_or, Option, Some, None}
 use Rattle.count.specs.Chars.{ch}
 use Rattle.count.specs.Pick.{pick}
 use Rattle.count.specs.Paper.{Paper, says}
@@ -9,12 +9,8 @@ use Rattle.count.specs.declared.Axis.{Axis}
 use Rattle.count.specs.declared.Axis.TheVariants.{X, Y, Z, A}
 use Rattle.count.specs.Axes.{has, on_all}
 use Rattle.count.specs.Ranges.{right_distances, right_speeds}
-use Rattle.count.specs.declared.Placed.{Placed}
-use Rattle.count.specs.declared.Placed.TheVariants as placed
 use Rattle.motion.specs.declared.Counters.{Counters}
 use Rattle.motion.specs.declared.Move.{Move}
-use Rattle.motion.specs.declared.Planned.{Planned}
-use Rattle.motion.specs.declared.Planned.TheVariants.{Going, Outside}
 use Rattle.motion.specs.Axes.{on, point, point_then}
 
 -- what a movement is planned from: the axes set, 3D or not, where the axes stand, their origins, absolute or relative, and the
@@ -31,7 +27,7 @@ abbrev pub asked : ℕ → Bool → Counters → Counters → Bool → List ℕ 
 asked axes three at origin absolute words = record { axes = axes; three = three; at = at; origin = origin; absolute = absolute; words = words }
 
 -- where an axis rests: an absolute target is counted from the origin, a relative distance from where the axis stands
-unfoldable pub goal : Bool → ℕ → ℕ → ℕ → Placed
+unfoldable pub goal : Bool → ℕ → ℕ → ℕ → Option ℕ
 goal absolute at origin w = pick absolute (added origin w) (added at w)
 
 -- the place of an axis's distance or target among the numbers: x, y, z (or z1) and a in this order; A alone has the first
@@ -42,20 +38,20 @@ slot axes Z = 4
 slot axes A = pick (has axes X) 6 0
 
 -- an axis that is set goes to its goal, one that is not stays
-unfoldable pub goal_of : Asked → Axis → Placed
+unfoldable pub goal_of : Asked → Axis → Option ℕ
 goal_of q i =
     pick (has q.axes i) (goal q.absolute (on i q.at) (on i q.origin) (get_or q.words (slot q.axes i) 0))
-    (placed.At (on i q.at))
+    (Some (on i q.at))
 
 -- z2 moves with three axes in 2.5D and relative movement only, from where z1 rests
 abbrev pub moves_z2 : Asked → Bool
 moves_z2 q = eqb q.axes 7 && not q.three && not q.absolute
 
-abbrev pub on_from : Placed → ℕ → Placed
-on_from (placed.At c) w = added c w
-on_from placed.Outside w = placed.Outside
+abbrev pub on_from : Option ℕ → ℕ → Option ℕ
+on_from (Some c) w = added c w
+on_from None w = None
 
-unfoldable pub goal_z2 : Asked → Placed
+unfoldable pub goal_z2 : Asked → Option ℕ
 goal_z2 q = pick (moves_z2 q) (on_from (goal_of q Z) (get_or q.words 6 0)) (goal_of q Z)
 
 -- speeds: in 3D the x speed; in 2.5D the longest axis's, x at a tie, and each phase of z, z2 or a its own. A phase that the axes do not have
@@ -97,25 +93,25 @@ route q goals z2 = record {
 }
 
 -- a resting point lies in 24 bits; its count (of one outside, nothing asks)
-abbrev pub lies : Placed → Bool
-lies (placed.At c) = true
-lies placed.Outside = false
+abbrev pub lies : Option ℕ → Bool
+lies (Some c) = true
+lies None = false
 
-abbrev pub count_of : Placed → ℕ
-count_of (placed.At c) = c
-count_of placed.Outside = 0
+abbrev pub count_of : Option ℕ → ℕ
+count_of (Some c) = c
+count_of None = 0
 
 -- the movement to its goals; reply 9 exactly if one of the resting points lies outside 24 bits
-unfoldable pub going_to : Asked → Planned
+unfoldable pub going_to : Asked → Option Move
 going_to q =
-    pick (on_all (λ i. lies (goal_of q i)) && lies (goal_z2 q)) (Going (route q (point (λ i. count_of (goal_of q i))) (count_of (goal_z2 q)))) Outside
+    pick (on_all (λ i. lies (goal_of q i)) && lies (goal_z2 q)) (Some (route q (point (λ i. count_of (goal_of q i))) (count_of (goal_z2 q)))) None
 
 -- numbers that are no movement's under these axes answer as a resting point outside does; no line or record reaches the plan with them
-unfoldable pub plan_of : Asked → Planned
-plan_of q = pick (right_distances q.axes q.absolute q.words && right_speeds q.axes q.words) (going_to q) Outside
+unfoldable pub plan_of : Asked → Option Move
+plan_of q = pick (right_distances q.axes q.absolute q.words && right_speeds q.axes q.words) (going_to q) None
 
 -- reply 9, or 0 with the three resting points and the three speeds
-abbrev pub planned_paper : Planned → Paper
-planned_paper (Going m) =
+abbrev pub planned_paper : Option Move → Paper
+planned_paper (Some m) =
     says (ch "0") (point_then m.first (point_then m.second (point_then m.third (pos m.speed1 ∷ pos m.speed2 ∷ pos m.speed3 ∷ []))))
-planned_paper Outside = says (ch "9") []
+planned_paper None = says (ch "9") []

@@ -1,5 +1,5 @@
 -- One pulse on the counters, whatever it is a pulse of (01, "Calls", on the axis counters).
-use Rattle.std.specs.Prelude.{ℕ, ◌+◌, Bool, true, [], ltb}
+use Rattle.std.specs.Prelude.{ℕ, ◌+◌, Bool, true, [], ltb, Option, Some, None}
 use Rattle.count.specs.Pick.{pick}
 use Rattle.count.specs.Paper.{Paper, says}
 use Rattle.count.specs.Numbers.{full}
@@ -8,8 +8,6 @@ use Rattle.motion.specs.declared.Sign.{Sign}
 use Rattle.motion.specs.declared.Sign.TheVariants.{Minus, Rest, Plus}
 use Rattle.motion.specs.declared.Signs.{Signs}
 use Rattle.motion.specs.declared.Counters.{Counters}
-use Rattle.motion.specs.declared.Moved.{Moved}
-use Rattle.motion.specs.declared.Moved.TheVariants.{To, Outside}
 use Rattle.motion.specs.Axes.{on, shows, point_then}
 use Rattle.motion.specs.Phase.{moved_all}
 
@@ -23,10 +21,10 @@ abbrev pub have_steps : Counters → Signs → Bool
 have_steps c s = on_all (λ i. has_step (on i c) (shows i s))
 
 -- the counters with one pulse's signs, or that one of them has no such step
-unfoldable pub step_to : Counters → Signs → Moved
-step_to c s = pick (have_steps c s) (To (moved_all c s)) Outside
+unfoldable pub step_to : Counters → Signs → Option Counters
+step_to c s = pick (have_steps c s) (Some (moved_all c s)) None
 
 -- a pulse with where it leads, or nothing
-abbrev pub moved_paper : Moved → Paper
-moved_paper (To c) = says 1 (point_then c [])
-moved_paper Outside = says 5 []
+abbrev pub moved_paper : Option Counters → Paper
+moved_paper (Some c) = says 1 (point_then c [])
+moved_paper None = says 5 []

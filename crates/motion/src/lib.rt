@@ -8,7 +8,7 @@ mod sound;
 mod steps;
 
 pub use route::plan;
-pub use sound::counted_at;
+pub use sound::{counted_at, speed_right};
 pub use steps::step_to;
 
 // The positions, origins or resting points of the four axes, as counts.
@@ -37,13 +37,6 @@ pub struct Signs {
     pub a: Sign,
 }
 
-// The counters after one pulse, or that one of them would leave 24 bits.
-#[derive(Clone, Copy)]
-pub enum Moved {
-    To(Counters),
-    Outside,
-}
-
 // A movement: where it starts, its three resting points and speeds, the phase, and the pulses made in it.
 #[repr(C)]
 #[derive(Clone, Copy)]
@@ -59,13 +52,6 @@ pub struct Move {
     pub made: u32,
 }
 
-// A planned movement, or that one of its resting points lies outside 24 bits.
-#[derive(Clone, Copy)]
-pub enum Planned {
-    Going(Move),
-    Outside,
-}
-
 // One pulse: its signs and speed, the counters and the movement afterwards.
 #[derive(Clone, Copy)]
 pub struct Stepped {
@@ -73,12 +59,6 @@ pub struct Stepped {
     pub speed: u16,
     pub at: Counters,
     pub rest: Move,
-}
-
-#[derive(Clone, Copy)]
-pub enum Next {
-    Made(Stepped),
-    Over,
 }
 
 // Where a movement stands: the phase, and the pulses made in it.
@@ -95,12 +75,6 @@ pub struct Beat {
     pub speed: u16,
     pub at: Counters,
     pub mark: Mark,
-}
-
-#[derive(Clone, Copy)]
-pub enum Beaten {
-    Made(Beat),
-    Over,
 }
 
 // A movement under way at a clock call: 103 refuses it, its next pulse, or that none is left.

@@ -1,25 +1,11 @@
 // One phase: its pulses, and what the next of them does to an axis.
-ghost use Rattle.std.specs.Prelude.{◌≡◌, ◌≤◌, ◌<◌, max};
-ghost use Rattle.count.specs.Pick.{pick};
+ghost use Rattle.std.specs.Prelude.{◌≡◌, ◌≤◌, ◌<◌};
 ghost use Rattle.count.specs.Numbers.{far};
 ghost use Rattle.motion.specs.work.Here.{sign_here};
 ghost use Rattle.motion.specs.Phase.{pulses};
 ghost use Rattle.motion.specs.work.Room.{RoomFor};
 
 use super::{Counters, Sign};
-
-// One of two numbers by a test.
-pub(crate) fn chosen(b: bool, x: u32, y: u32) -> u32
-    ensures { result ≡ pick b x y }
-{
-    if b { x } else { y }
-}
-
-fn larger(a: u32, b: u32) -> u32
-    ensures { result ≡ max a b }
-{
-    if a < b { b } else { a }
-}
 
 // The pulses of a phase; none if a distance is beyond 24 bits.
 pub(crate) fn pulses_of(from: Counters, to: Counters) -> u32
@@ -29,7 +15,7 @@ pub(crate) fn pulses_of(from: Counters, to: Counters) -> u32
     let y = count::distance(from.y, to.y);
     let z = count::distance(from.z, to.z);
     let a = count::distance(from.a, to.a);
-    let n = larger(x, larger(y, larger(z, a)));
+    let n = x.max(y.max(z.max(a)));
     if 16777215 < n {
         return 0;
     }

@@ -8,8 +8,8 @@ ghost use Rattle.motion.specs.work.Beat.{mark_of, at_mark, beat_of, beaten, next
 ghost use Rattle.motion.specs.Next.{from_of, to_of, leg, speed_at, at_phase, skipped, settled, signs_by, stepped, left_of, after_of};
 ghost use Rattle.motion.specs.work.Room.{RoomFor, HasRoom, NoFurther};
 
-use super::phase::{chosen, pulses_of, sign_here};
-use super::{Beat, Beaten, Counters, Mark, Move, Next, Sign, Signs, Stepped};
+use super::phase::{pulses_of, sign_here};
+use super::{Beat, Counters, Mark, Move, Sign, Signs, Stepped};
 
 // A count with one pulse's sign.
 fn moved_by(c: u32, s: Sign) -> u32
@@ -28,15 +28,12 @@ fn pulsed(c: Counters, s: Signs) -> Counters
     requires { HasRoom c s }
     ensures { result ≡ moved_all c s }
 {
-    let sx = s.x;
-    let sy = s.y;
-    let sz = s.z;
-    let sa = s.a;
-    let x = moved_by(c.x, sx);
-    let y = moved_by(c.y, sy);
-    let z = moved_by(c.z, sz);
-    let a = moved_by(c.a, sa);
-    Counters { x, y, z, a }
+    Counters {
+        x: moved_by(c.x, s.x),
+        y: moved_by(c.y, s.y),
+        z: moved_by(c.z, s.z),
+        a: moved_by(c.a, s.a),
+    }
 }
 
 // The counters, lent, with one pulse's signs.
@@ -84,17 +81,17 @@ fn to_by(p: u8, a: u32, b: u32, c: u32) -> u32
 fn from_in(p: u8, a: u32, b: u32, c: u32, d: u32) -> u32
     ensures { result ≡ pick (eqb p 0) a (pick (eqb p 1) b (pick (eqb p 2) c d)) }
 {
-    let last = chosen(p == 2, c, d);
-    let late = chosen(p == 1, b, last);
-    chosen(p == 0, a, late)
+    let last = count::chosen(p == 2, c, d);
+    let late = count::chosen(p == 1, b, last);
+    count::chosen(p == 0, a, late)
 }
 
 // The same as `to_by`.
 fn to_in(p: u8, a: u32, b: u32, c: u32) -> u32
     ensures { result ≡ pick (eqb p 0) a (pick (eqb p 1) b c) }
 {
-    let late = chosen(p == 1, b, c);
-    chosen(p == 0, a, late)
+    let late = count::chosen(p == 1, b, c);
+    count::chosen(p == 0, a, late)
 }
 
 // What the pulse after pulse k of n shows on the axes.
@@ -102,11 +99,12 @@ pub(crate) fn signs_at(at: Counters, from: Counters, to: Counters, k: u32, n: u3
     requires { (k < n) × (n < 16777216) × NoFurther from to n }
     ensures { (result ≡ signs_by sign_here at from to k n) × HasRoom at result }
 {
-    let x = sign_here(at.x, from.x, to.x, k, n);
-    let y = sign_here(at.y, from.y, to.y, k, n);
-    let z = sign_here(at.z, from.z, to.z, k, n);
-    let a = sign_here(at.a, from.a, to.a, k, n);
-    Signs { x, y, z, a }
+    Signs {
+        x: sign_here(at.x, from.x, to.x, k, n),
+        y: sign_here(at.y, from.y, to.y, k, n),
+        z: sign_here(at.z, from.z, to.z, k, n),
+        a: sign_here(at.a, from.a, to.a, k, n),
+    }
 }
 
 impl Move {
@@ -164,8 +162,7 @@ impl Move {
     fn speed_at(self, mark: Mark, k: u32) -> u16
         ensures { result ≡ speed_at (at_mark self mark) k }
     {
-        let p = mark.phase;
-        match p {
+        match mark.phase {
             0 => self.speed1,
             1 => self.speed2,
             _ => self.speed3,
@@ -176,25 +173,25 @@ impl Move {
     pub fn at_mark(self, mark: Mark) -> Move
         ensures { result ≡ at_mark self mark }
     {
-        let mut m = self;
-        m.phase = mark.phase;
-        m.made = mark.made;
-        m
+        Move {
+            phase: mark.phase,
+            made: mark.made,
+            ..self
+        }
     }
 
     // The mark past a phase that has no pulse left.
     fn skip(self, mark: Mark) -> Mark
         ensures { result ≡ mark_of (skipped (at_mark self mark)) }
     {
-        let p = mark.phase;
-        if 3 <= p {
+        if 3 <= mark.phase {
             return mark;
         }
         if mark.made < self.leg_at(mark) {
             return mark;
         }
         Mark {
-            phase: p + 1,
+            phase: mark.phase + 1,
             made: 0,
         }
     }
@@ -204,8 +201,7 @@ impl Move {
         ensures { result ≡ mark_of (settled self) }
     {
         let mark = self.mark();
-        let here = self.leg_at(mark);
-        if self.made < here {
+        if self.made < self.leg_at(mark) {
             return mark;
         }
         self.skip(self.skip(self.skip(mark)))
@@ -216,22 +212,17 @@ impl Move {
         requires { HasRoom at signs × (mark.made < 16777216) }
         ensures { result ≡ beat_of (stepped (at_mark self mark) at signs) }
     {
-        let there = with_pulse(at, signs);
-        let k = mark.made + 1;
-        let next = Mark {
-            phase: mark.phase,
-            made: k,
-        };
+        let made = mark.made + 1;
         Beat {
             signs,
-            speed: self.speed_at(mark, k),
-            at: there,
-            mark: next,
+            speed: self.speed_at(mark, made),
+            at: with_pulse(at, signs),
+            mark: Mark { made, ..mark },
         }
     }
 
     // The pulse after a mark, or that none is left of its phase.
-    fn beat_at(self, mark: Mark, at: Counters) -> Beaten
+    fn beat_at(self, mark: Mark, at: Counters) -> Option<Beat>
         ensures { result ≡ beaten (within_of (at_mark self mark) at) }
     {
         let from = self.from_at(mark);
@@ -239,13 +230,13 @@ impl Move {
         let n = pulses_of(from, to);
         if mark.made < n {
             let signs = signs_at(at, from, to, mark.made, n);
-            return Beaten::Made(self.beat_by(mark, at, signs));
+            return Some(self.beat_by(mark, at, signs));
         }
-        Beaten::Over
+        None
     }
 
     // The next pulse, or that none is left.
-    pub fn beat(self, at: Counters) -> Beaten
+    pub fn beat(self, at: Counters) -> Option<Beat>
         ensures { result ≡ beaten (next_of self at) }
     {
         self.beat_at(self.settle(), at)
@@ -286,7 +277,7 @@ impl Move {
 
     // The pulse after `made` of the phase under way, or that none is left of it. It is `beat_at` once more, since a function with one caller
     // becomes a part of it: in a loop over a phase, what is the same for each pulse is then worked out once.
-    pub fn beat_in(self, made: u32, at: Counters) -> Beaten
+    pub fn beat_in(self, made: u32, at: Counters) -> Option<Beat>
         ensures { result ≡ beaten (within_of (at_phase self self.phase made) at) }
     {
         let mark = Mark {
@@ -298,34 +289,25 @@ impl Move {
         let n = pulses_of(from, to);
         if made < n {
             let signs = signs_at(at, from, to, made, n);
-            return Beaten::Made(self.beat_by(mark, at, signs));
+            return Some(self.beat_by(mark, at, signs));
         }
-        Beaten::Over
+        None
     }
 
     // A pulse with the movement after it.
-    fn as_next(self, beat: Beaten) -> Next
+    fn as_next(self, beat: Option<Beat>) -> Option<Stepped>
         ensures { result ≡ next_back self beat }
     {
-        match beat {
-            Beaten::Made(b) => {
-                let signs = b.signs;
-                let at = b.at;
-                let mark = b.mark;
-                let rest = self.at_mark(mark);
-                Next::Made(Stepped {
-                    signs,
-                    speed: b.speed,
-                    at,
-                    rest,
-                })
-            }
-            Beaten::Over => Next::Over,
-        }
+        beat.map(|b| Stepped {
+            signs: b.signs,
+            speed: b.speed,
+            at: b.at,
+            rest: self.at_mark(b.mark),
+        })
     }
 
     // The same as `beat_in`, with the movement after it.
-    pub fn within(self, made: u32, at: Counters) -> Next
+    pub fn within(self, made: u32, at: Counters) -> Option<Stepped>
         ensures { result ≡ within_of (at_phase self self.phase made) at }
     {
         let mark = Mark {
@@ -336,7 +318,7 @@ impl Move {
     }
 
     // The same as `beat`.
-    pub fn next(self, at: Counters) -> Next
+    pub fn next(self, at: Counters) -> Option<Stepped>
         ensures { result ≡ next_of self at }
     {
         self.as_next(self.beat(at))
@@ -346,9 +328,8 @@ impl Move {
     fn after(self) -> u32
         ensures { result ≡ after_of self }
     {
-        let p = self.phase;
         let last = pulses_of(self.second, self.third);
-        match p {
+        match self.phase {
             0 => pulses_of(self.first, self.second) + last,
             1 => last,
             _ => 0,
@@ -359,13 +340,7 @@ impl Move {
     pub fn left(self) -> u32
         ensures { result ≡ left_of self }
     {
-        let n = self.leg_at(self.mark());
-        let k = self.made;
-        let later = self.after();
-        if n <= k {
-            return later;
-        }
-        n - k + later
+        self.leg_at(self.mark()).saturating_sub(self.made) + self.after()
     }
 
     // The last resting point.

@@ -1,14 +1,12 @@
 // The plan of a movement: its resting points and its speeds.
-ghost use Rattle.std.specs.Prelude.{◌≡◌, true, ◌&&◌, ◌≤◌, ◌<◌};
+ghost use Rattle.std.specs.Prelude.{◌≡◌, true, ◌&&◌, ◌≤◌, ◌<◌, Some};
 ghost use Rattle.count.specs.Pick.{pick};
 ghost use Rattle.count.specs.Axes.{has};
 ghost use Rattle.count.specs.Ranges.{right_distances, right_speeds};
-ghost use Rattle.count.specs.declared.Placed.TheVariants as placed;
 ghost use Rattle.motion.specs.Plan.{asked, goal, on_from, first_speed, later_speed, route, going_to, plan_of};
 
-use super::phase::chosen;
-use super::{Counters, Move, Planned};
-use count::{Axis, Placed};
+use super::{Counters, Move};
+use count::{Axis, chosen};
 
 // Whether the numbers are a movement's under these axes.
 fn right(axes: u8, absolute: bool, words: [u32; 8]) -> bool
@@ -18,7 +16,7 @@ fn right(axes: u8, absolute: bool, words: [u32; 8]) -> bool
 }
 
 // Where an axis rests.
-fn goal_of(absolute: bool, at: u32, origin: u32, w: u32) -> Placed
+fn goal_of(absolute: bool, at: u32, origin: u32, w: u32) -> Option<u32>
     ensures { result ≡ goal absolute at origin w }
 {
     if absolute {
@@ -28,23 +26,23 @@ fn goal_of(absolute: bool, at: u32, origin: u32, w: u32) -> Placed
 }
 
 // The same of an axis, which stays where it is not set.
-fn goal_on(axis: Axis, axes: u8, absolute: bool, at: u32, origin: u32, w: u32) -> Placed
-    ensures { result ≡ pick (has axes axis) (goal absolute at origin w) (placed.At at) }
+fn goal_on(axis: Axis, axes: u8, absolute: bool, at: u32, origin: u32, w: u32) -> Option<u32>
+    ensures { result ≡ pick (has axes axis) (goal absolute at origin w) (Some at) }
 {
     if count::has(axes as u32, axis) {
         return goal_of(absolute, at, origin, w);
     }
-    Placed::At(at)
+    Some(at)
 }
 
 // Where z2 rests, from where z1 does.
-fn goal_z2(moves: bool, z1: u32, w: u32) -> Placed
-    ensures { result ≡ pick moves (on_from (placed.At z1) w) (placed.At z1) }
+fn goal_z2(moves: bool, z1: u32, w: u32) -> Option<u32>
+    ensures { result ≡ pick moves (on_from (Some z1) w) (Some z1) }
 {
     if moves {
         return count::add(z1, w);
     }
-    Placed::At(z1)
+    Some(z1)
 }
 
 // A speed's word as a speed.
@@ -76,15 +74,14 @@ fn route_of(axes: u8, three: bool, at: Counters, words: [u32; 8], goals: Counter
         z: chosen(three, goals.z, at.z),
         a: chosen(three, goals.a, at.a),
     };
-    let mut second = first;
-    second.z = goals.z;
-    let mut third = goals;
-    third.z = z2;
     Move {
         start: at,
         first,
-        second,
-        third,
+        second: Counters {
+            z: goals.z,
+            ..first
+        },
+        third: Counters { z: z2, ..goals },
         speed1: narrow(first_speed(three, at, goals, words)),
         speed2: narrow(chosen(own, words[5], words[1])),
         speed3: narrow(chosen(own, words[7], words[1])),
@@ -101,28 +98,18 @@ fn routed_from(
     origin: Counters,
     absolute: bool,
     words: [u32; 8],
-) -> Planned
+) -> Option<Move>
     requires { right_speeds axes words ≡ true }
     ensures { result ≡ going_to (asked axes three at origin absolute words) }
 {
-    let Placed::At(x) = goal_on(Axis::X, axes, absolute, at.x, origin.x, words[0]) else {
-        return Planned::Outside;
-    };
-    let Placed::At(y) = goal_on(Axis::Y, axes, absolute, at.y, origin.y, words[2]) else {
-        return Planned::Outside;
-    };
-    let Placed::At(z) = goal_on(Axis::Z, axes, absolute, at.z, origin.z, words[4]) else {
-        return Planned::Outside;
-    };
+    let x = goal_on(Axis::X, axes, absolute, at.x, origin.x, words[0])?;
+    let y = goal_on(Axis::Y, axes, absolute, at.y, origin.y, words[2])?;
+    let z = goal_on(Axis::Z, axes, absolute, at.z, origin.z, words[4])?;
     let w = chosen(count::has(axes as u32, Axis::X), words[6], words[0]);
-    let Placed::At(a) = goal_on(Axis::A, axes, absolute, at.a, origin.a, w) else {
-        return Planned::Outside;
-    };
-    let Placed::At(z2) = goal_z2((axes == 7) & !three & !absolute, z, words[6]) else {
-        return Planned::Outside;
-    };
+    let a = goal_on(Axis::A, axes, absolute, at.a, origin.a, w)?;
+    let z2 = goal_z2((axes == 7) & !three & !absolute, z, words[6])?;
     let goals = Counters { x, y, z, a };
-    Planned::Going(route_of(axes, three, at, words, goals, z2))
+    Some(route_of(axes, three, at, words, goals, z2))
 }
 
 // The plan of a movement, or that one of its resting points lies outside 24 bits.
@@ -133,11 +120,11 @@ pub fn plan(
     origin: Counters,
     absolute: bool,
     words: [u32; 8],
-) -> Planned
+) -> Option<Move>
     ensures { result ≡ plan_of (asked axes three at origin absolute words) }
 {
     if right(axes, absolute, words) {
         return routed_from(axes, three, at, origin, absolute, words);
     }
-    Planned::Outside
+    None
 }

@@ -11,10 +11,10 @@ ghost use Rattle.motion.specs.work.Beat.{looked_by, look_of};
 
 use super::phase::pulses_of;
 use super::pulse::signs_at;
-use super::{Beaten, Counters, Look, Move};
+use super::{Counters, Look, Move};
 
 // A speed: 30 to 10,000.
-fn speed_right(v: u16) -> bool
+pub fn speed_right(v: u16) -> bool
     ensures { result ≡ speed_right v }
 {
     (30 <= v) & (v <= 10000)
@@ -32,12 +32,9 @@ fn has_made(s: u32, k: u32, d: u32, n: u32) -> bool
     requires { (0 < n) × (n < 16777216) × (k ≤ n) × (d ≤ n) }
     ensures { result ≡ eqb s (steps k d n) }
 {
-    let wide_s = s as u64;
-    let wide_k = k as u64;
-    let wide_d = d as u64;
     let wide_n = n as u64;
-    let sum = 2 * wide_k * wide_d + wide_n;
-    let low = 2 * wide_n * wide_s;
+    let sum = 2 * (k as u64) * (d as u64) + wide_n;
+    let low = 2 * wide_n * (s as u64);
     (low <= sum) & (sum < low + 2 * wide_n)
 }
 
@@ -101,10 +98,9 @@ impl Move {
     fn look_on(self, at: Counters) -> Look
         ensures { result ≡ looked_by (next_of self at) }
     {
-        let next = self.beat(at);
-        match next {
-            Beaten::Made(b) => Look::Made(b),
-            Beaten::Over => Look::Over,
+        match self.beat(at) {
+            Some(b) => Look::Made(b),
+            None => Look::Over,
         }
     }
 

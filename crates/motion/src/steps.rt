@@ -3,7 +3,7 @@ ghost use Rattle.std.specs.Prelude.{◌≡◌};
 ghost use Rattle.motion.specs.Pulse.{has_step, step_to};
 
 use super::pulse::with_pulse;
-use super::{Counters, Moved, Sign, Signs};
+use super::{Counters, Sign, Signs};
 
 // Whether a count has a step left in the direction of a sign.
 fn has_step(c: u32, s: Sign) -> bool
@@ -17,19 +17,15 @@ fn has_step(c: u32, s: Sign) -> bool
 }
 
 // The counters with one pulse's signs, or that one of them would leave 24 bits.
-pub fn step_to(c: Counters, s: Signs) -> Moved
+pub fn step_to(c: Counters, s: Signs) -> Option<Counters>
     ensures { result ≡ step_to c s }
 {
-    let sx = s.x;
-    let sy = s.y;
-    let sz = s.z;
-    let sa = s.a;
-    let x = has_step(c.x, sx);
-    let y = has_step(c.y, sy);
-    let z = has_step(c.z, sz);
-    let a = has_step(c.a, sa);
+    let x = has_step(c.x, s.x);
+    let y = has_step(c.y, s.y);
+    let z = has_step(c.z, s.z);
+    let a = has_step(c.a, s.a);
     if x & y & z & a {
-        return Moved::To(with_pulse(c, s));
+        return Some(with_pulse(c, s));
     }
-    Moved::Outside
+    None
 }

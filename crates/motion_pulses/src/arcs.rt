@@ -1,7 +1,7 @@
 // The pulses of a circle.
 use super::{beside_of, narrow, point, show_count, show_number, show_point, show_signs, show_two};
-use circle::{Arc, Bent, Circling};
-use motion::{Beat, Beaten, Counters};
+use circle::{Arc, Circling};
+use motion::{Beat, Counters};
 use std::io;
 
 fn show_sound(rt: &impl Print, a: Arc, at: Counters) -> io::Result<()> {
@@ -22,7 +22,7 @@ fn run_arc(rt: &impl Print, start: Arc, from: Counters, few: u32) -> io::Result<
     let mut left = total;
     while 0 < left {
         let next = a.beat(at);
-        let Beaten::Made(b) = next else {
+        let Some(b) = next else {
             return Ok(());
         };
         if (left <= few) | (total - left < few) {
@@ -66,7 +66,7 @@ pub(crate) fn show_arc(rt: &impl Print, words: [u32; 20]) -> io::Result<()> {
     ];
     let bent = circle::bend(narrow(words[0]), Circling { plane, direction }, at, given);
     match bent {
-        Bent::Going(a) => show_going(rt, a, at, words[19]),
-        Bent::Refused(b) => show_refused(rt, b),
+        Ok(a) => show_going(rt, a, at, words[19]),
+        Err(fault) => show_refused(rt, fault.letter()),
     }
 }

@@ -8,7 +8,7 @@ ghost use Rattle.std.specs.Io.{ReadsAtMost};
 mod arcs;
 
 use arcs::show_arc;
-use motion::{Counters, Move, Next, Planned, Sign, Signs, Stepped};
+use motion::{Counters, Move, Sign, Signs, Stepped};
 use std::io;
 use std::io::Read;
 
@@ -19,8 +19,8 @@ fn narrow(w: u32) -> u8 {
 fn counted(w: u32) -> u32 {
     let p = count::count_of(w);
     match p {
-        count::Placed::At(c) => c,
-        count::Placed::Outside => 0,
+        Some(c) => c,
+        None => 0,
     }
 }
 
@@ -124,7 +124,7 @@ fn run(rt: &impl Print, start: Move, from: Counters, few: u32) -> io::Result<()>
     let mut left = total;
     while 0 < left {
         let next = m.next(at);
-        let Next::Made(s) = next else {
+        let Some(s) = next else {
             return Ok(());
         };
         if (left <= few) | (total - left < few) {
@@ -157,7 +157,7 @@ fn show_straight(rt: &impl Print, words: [u32; 20]) -> io::Result<()> {
         words[2] == 1,
         given,
     );
-    let Planned::Going(m) = planned else {
+    let Some(m) = planned else {
         return println!(rt; "9");
     };
     print!(rt; "N ")?;

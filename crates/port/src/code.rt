@@ -7,7 +7,7 @@ ghost use Rattle.port.specs.Code.{flag, direction_code, circling_of, arc_of, rou
 use crate::{Round, State};
 use board::{Board, Line};
 use circle::{Arc, Circling, Direction, Pair, Plane};
-use engine::{Engine, Job, Run, Under};
+use engine::{Engine, Job, Run};
 use motion::{Counters, Move};
 use program::{Loop, Loops};
 use record::Held;
@@ -125,32 +125,32 @@ fn kind_in(t: Travel) -> u8
 }
 
 // The straight movement under way, or what stood there.
-fn straight_over(u: Under, old: Move) -> Move
+fn straight_over(u: Option<Travel>, old: Move) -> Move
     ensures { result ≡ straight_under u old }
 {
     match u {
-        Under::Going(t) => straight_in(t, old),
-        Under::Nothing => old,
+        Some(t) => straight_in(t, old),
+        None => old,
     }
 }
 
 // The arc under way, or what stood there.
-fn round_over(u: Under, old: Round) -> Round
+fn round_over(u: Option<Travel>, old: Round) -> Round
     ensures { result ≡ round_under u old }
 {
     match u {
-        Under::Going(t) => round_in(t, old),
-        Under::Nothing => old,
+        Some(t) => round_in(t, old),
+        None => old,
     }
 }
 
 // Which of the two moves, or what stood there.
-fn kind_over(u: Under, old: u8) -> u8
+fn kind_over(u: Option<Travel>, old: u8) -> u8
     ensures { result ≡ kind_under u old }
 {
     match u {
-        Under::Going(t) => kind_in(t),
-        Under::Nothing => old,
+        Some(t) => kind_in(t),
+        None => old,
     }
 }
 

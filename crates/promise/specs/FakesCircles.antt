@@ -1,10 +1,9 @@
 -- More machines that the requests must shut out: ours but for the move of an arc's pulse (02 §3). The file FakesCircles of proofs/laws shows
 -- what each fails.
-use Rattle.std.specs.Prelude.{ℕ, not, ltb}
+use Rattle.std.specs.Prelude.{ℕ, not, ltb, None}
 use Rattle.count.specs.Pick.{pick}
 use Rattle.motion.specs.declared.Signs.{Signs}
 use Rattle.motion.specs.declared.Counters.{Counters}
-use Rattle.motion.specs.declared.Beaten.TheVariants as beat
 use Rattle.motion.specs.Pulse.{step_to}
 use Rattle.circle.specs.declared.Pair.{Pair}
 use Rattle.circle.specs.declared.Ways.{Ways}
@@ -50,7 +49,7 @@ signs_by move a at = on_axes a.circling.plane (move a (on_plane a.circling.plane
 abbrev pub arcs_by : (Arc → Pair → Ways) → Rule
 arcs_by move (travel.Straight m) at = pulse_of (travel.Straight m) at
 arcs_by move (travel.Round a) at =
-    arc_next a (pick (ltb a.made a.length) (beat_to a (signs_by move a at) (step_to at (signs_by move a at))) beat.Over)
+    arc_next a (pick (ltb a.made a.length) (beat_to a (signs_by move a at) (step_to at (signs_by move a at))) None)
 
 -- ---- at a tie it takes the second axis
 

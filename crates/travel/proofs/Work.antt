@@ -1,13 +1,13 @@
 -- What the functions of a kind rest on: a look at it from the straight movement's or the arc's. Assumes nothing.
+use Rattle.std.specs.Prelude.{Option, Some, None}
+use Rattle.motion.specs.declared.Beat.{Beat}
+use Rattle.motion.specs.declared.Stepped.{Stepped as StraightStepped}
 use mathlib.Core.Path.{◌≡◌, refl, ap, ◌∙◌}
 use Rattle.count.specs.Pick.{pick}
 use Rattle.motion.specs.declared.Counters.{Counters}
 use Rattle.motion.specs.declared.Move.{Move}
-use Rattle.motion.specs.declared.Beaten.{Beaten}
 use Rattle.motion.specs.declared.Look.{Look}
 use Rattle.motion.specs.declared.Look.TheVariants as look
-use Rattle.motion.specs.declared.Next.{Next as StraightNext}
-use Rattle.motion.specs.declared.Next.TheVariants as straight
 use Rattle.motion.specs.Sound.{under_way as straight_under_way}
 use Rattle.motion.specs.work.Here.{next_of as straight_of}
 use Rattle.motion.specs.work.Beat.{looked_by as straight_looked, look_of as straight_look}
@@ -21,9 +21,9 @@ use Rattle.travel.specs.Sound.{under_way}
 use Rattle.travel.specs.work.Beat.{next_of, beaten, looked_by, look_of}
 use Rattle.travel.proofs.laws.Beats.{arc-beaten}
 
-straight-looked : (n : StraightNext) → straight_looked n ≡ looked_by (straight_next n)
-straight-looked (straight.Made s) = refl
-straight-looked straight.Over = refl
+straight-looked : (n : Option StraightStepped) → straight_looked n ≡ looked_by (straight_next n)
+straight-looked (Some s) = refl
+straight-looked None = refl
 
 pub straight-look : (m : Move) (at : Counters) → straight_look m at ≡ look_of (travel.Straight m) at
 unfolding straight_look look_of under_way next_of
@@ -37,4 +37,4 @@ pub arc-look : (a : Arc) (at : Counters) → arc_look a at ≡ look_of (travel.R
 unfolding arc_look look_of under_way next_of
 arc-look a at =
     ap (λ (l : Look). pick (arc_under_way a at) l look.Wrong)
-    (ap (λ (b : Beaten). looked_arc b) (arc-beaten a at) ∙ arc-looked (arc_next a (arc_beat a at)))
+    (ap (λ (b : Option Beat). looked_arc b) (arc-beaten a at) ∙ arc-looked (arc_next a (arc_beat a at)))

@@ -1,12 +1,10 @@
 -- What moves is a straight movement (01, "Movement") or an arc (02, §3): its next pulse, and the pulses left.
-use Rattle.std.specs.Prelude.{[], ◌∷◌, ℕ, pos}
+use Rattle.motion.specs.declared.Beat.{Beat}
+use Rattle.motion.specs.declared.Stepped.{Stepped as StraightStepped}
+use Rattle.std.specs.Prelude.{[], ◌∷◌, ℕ, pos, Option, Some, None}
 use Rattle.count.specs.Paper.{Paper, says}
 use Rattle.motion.specs.declared.Signs.{Signs}
 use Rattle.motion.specs.declared.Counters.{Counters}
-use Rattle.motion.specs.declared.Next.{Next as StraightNext}
-use Rattle.motion.specs.declared.Next.TheVariants as straight
-use Rattle.motion.specs.declared.Beaten.{Beaten}
-use Rattle.motion.specs.declared.Beaten.TheVariants as beat
 use Rattle.motion.specs.Phase.{signs_then}
 use Rattle.motion.specs.Next.{pulse_of as straight_pulse, left_of as straight_left}
 use Rattle.circle.specs.declared.Arc.{Arc}
@@ -26,13 +24,13 @@ pub data Next : Type 0 where
   Over : Next
 
 -- a straight movement's pulse, and an arc's
-abbrev pub straight_next : StraightNext → Next
-straight_next (straight.Made s) = Made (record { signs = s.signs; speed = s.speed; at = s.at; rest = travel.Straight s.rest })
-straight_next straight.Over = Over
+abbrev pub straight_next : Option StraightStepped → Next
+straight_next (Some s) = Made (record { signs = s.signs; speed = s.speed; at = s.at; rest = travel.Straight s.rest })
+straight_next None = Over
 
-abbrev pub arc_next : Arc → Beaten → Next
-arc_next a (beat.Made b) = Made (record { signs = b.signs; speed = b.speed; at = b.at; rest = travel.Round (with_made a b.mark.made) })
-arc_next a beat.Over = Over
+abbrev pub arc_next : Arc → Option Beat → Next
+arc_next a (Some b) = Made (record { signs = b.signs; speed = b.speed; at = b.at; rest = travel.Round (with_made a b.mark.made) })
+arc_next a None = Over
 
 -- the next pulse: 01's formula for a straight movement, 02's rule for an arc
 unfoldable pub pulse_of : Travel → Counters → Next

@@ -13,10 +13,3 @@ pub enum Travel {
     Straight(Move),
     Round(Arc),
 }
-
-// What is planned, or the character that refuses it.
-#[derive(Clone, Copy)]
-pub enum Planned {
-    Going(Travel),
-    Refused(u8),
-}

@@ -3,26 +3,24 @@ ghost use Rattle.std.specs.Prelude.{◌≡◌};
 ghost use Rattle.motion.specs.Plan.{asked};
 ghost use Rattle.travel.specs.Plan.{straightly, roundly, plan_of, circle_of};
 
-use super::{Planned, Travel};
-use circle::{Bent, Circling};
-use motion::Counters;
+use super::Travel;
+use circle::{Arc, Circling};
+use count::Fault;
+use motion::{Counters, Move};
 
-fn as_straight(plan: motion::Planned) -> Planned
+fn as_straight(plan: Option<Move>) -> Result<Travel, Fault>
     ensures { result ≡ straightly plan }
 {
     match plan {
-        motion::Planned::Going(m) => Planned::Going(Travel::Straight(m)),
-        motion::Planned::Outside => Planned::Refused(b'9'),
+        Some(m) => Ok(Travel::Straight(m)),
+        None => Err(Fault::Outside),
     }
 }
 
-fn as_round(bent: Bent) -> Planned
+fn as_round(bent: Result<Arc, Fault>) -> Result<Travel, Fault>
     ensures { result ≡ roundly bent }
 {
-    match bent {
-        Bent::Going(a) => Planned::Going(Travel::Round(a)),
-        Bent::Refused(b) => Planned::Refused(b),
-    }
+    Ok(Travel::Round(bent?))
 }
 
 // A straight movement, or 9.
@@ -33,14 +31,14 @@ pub fn plan(
     origin: Counters,
     absolute: bool,
     words: [u32; 8],
-) -> Planned
+) -> Result<Travel, Fault>
     ensures { result ≡ plan_of (asked axes three at origin absolute words) }
 {
     as_straight(motion::plan(axes, three, at, origin, absolute, words))
 }
 
 // A circle, or 3, 1, D or 9.
-pub fn circle(axes: u8, circling: Circling, at: Counters, words: [u32; 8]) -> Planned
+pub fn circle(axes: u8, circling: Circling, at: Counters, words: [u32; 8]) -> Result<Travel, Fault>
     ensures { result ≡ circle_of axes circling at words }
 {
     as_round(circle::bend(axes, circling, at, words))

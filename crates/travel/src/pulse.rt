@@ -5,11 +5,11 @@ ghost use Rattle.travel.specs.Sound.{under_way};
 ghost use Rattle.travel.specs.work.Beat.{made_of, with_made, next_of, within_of, at_mark, beaten, look_of};
 
 use super::Travel;
-use motion::{Beaten, Counters, Look, Mark};
+use motion::{Beat, Counters, Look, Mark};
 
 impl Travel {
     // The next pulse, or that none is left.
-    pub fn beat(self, at: Counters) -> Beaten
+    pub fn beat(self, at: Counters) -> Option<Beat>
         ensures { result ≡ beaten (next_of self at) }
     {
         match self {
@@ -19,7 +19,7 @@ impl Travel {
     }
 
     // The pulse after `made` of the phase under way, or that none is left of it.
-    pub fn beat_in(self, made: u32, at: Counters) -> Beaten
+    pub fn beat_in(self, made: u32, at: Counters) -> Option<Beat>
         ensures { result ≡ beaten (within_of (with_made self made) at) }
     {
         match self {
@@ -83,13 +83,10 @@ impl Travel {
         ensures { result ≡ with_made self made }
     {
         match self {
-            Travel::Straight(m) => {
-                let mark = Mark {
-                    phase: m.phase,
-                    made,
-                };
-                Travel::Straight(m.at_mark(mark))
-            }
+            Travel::Straight(m) => Travel::Straight(m.at_mark(Mark {
+                phase: m.phase,
+                made,
+            })),
             Travel::Round(a) => Travel::Round(a.with_made(made)),
         }
     }

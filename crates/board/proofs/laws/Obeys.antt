@@ -1,4 +1,10 @@
 -- The code's way through a line outside storing is the definition's: the table's rows one after the other, then the effect. Assumes nothing.
+use Rattle.std.specs.Prelude.{Option, Result, Some, None, Ok, Err}
+use Rattle.count.specs.Refusals.{letter_of}
+use Rattle.circle.specs.declared.Arc.{Arc}
+use Rattle.count.specs.declared.Fault.{Fault}
+use Rattle.motion.specs.declared.Move.{Move}
+use Rattle.travel.specs.declared.Travel.{Travel}
 use Prim.Native.Nat.{ℕ, ◌%◌, ◌<◌}
 use mathlib.Core.Path.{◌≡◌, refl, sym, ap, ◌∙◌}
 use mathlib.Core.Bool.{Bool, true, false, not, ◌&&◌}
@@ -14,16 +20,10 @@ use Rattle.count.specs.Ranges.{in_byte, in_zero}
 use Rattle.count.proofs.laws.Laws.{within-zero}
 use Rattle.count.proofs.laws.Truth.{never, and_right}
 use Rattle.motion.specs.declared.Counters.{Counters}
-use Rattle.motion.specs.declared.Planned.{Planned as StraightPlan}
-use Rattle.motion.specs.declared.Planned.TheVariants as straight
 use Rattle.motion.specs.Plan.{Asked, asked, plan_of as straight_plan}
 use Rattle.circle.specs.declared.Circling.{Circling}
-use Rattle.circle.specs.declared.Bent.{Bent}
-use Rattle.circle.specs.declared.Bent.TheVariants as bent
 use Rattle.circle.specs.Plan.{bend_of, bent_paper}
 use Rattle.circle.proofs.laws.Papers.{is_reply, bend-replies}
-use Rattle.travel.specs.declared.Planned.{Planned}
-use Rattle.travel.specs.declared.Planned.TheVariants as planned
 use Rattle.travel.specs.Plan.{straightly, roundly, plan_of, circle_of, refusal}
 use Rattle.record.specs.Memory.{Memory}
 use Rattle.record.specs.Fault.{is_code, count_right, axes_right, ranges_right, speeds_right, numbers_reply, fault_of}
@@ -163,25 +163,25 @@ refused-by : (t : Bool) (r : ℕ) (b : Board) (m : Memory) → eqb r 48 ≡ t �
 refused-by true r b m e z = rw z
 refused-by false r b m e z = rw (e, z)
 
-begin-so : (p : Planned) (b : Board) (m : Memory) → eqb (refusal p) 0 ≡ false
+begin-so : (p : Result Travel Fault) (b : Board) (m : Memory) → eqb (refusal p) 0 ≡ false
     → pick (eqb (planned-reply (refusal p)) 48) (accepted_said (started_with (begun_by p b.engine) b.standing) m) (said (line_done b) (planned-reply (refusal p) ∷ []) m)
     ≡ spoke (begun_with b (begun_by p b.engine)) m
 unfolding begun_with
-begin-so (planned.Going v) b m z = begun-by (eqb (begun_by (planned.Going v) b.engine).reply 0) b (begun_by (planned.Going v) b.engine) m
-begin-so (planned.Refused r) b m z = refused-by (eqb r 48) r b m refl z
+begin-so (Ok v) b m z = begun-by (eqb (begun_by (Ok v) b.engine).reply 0) b (begun_by (Ok v) b.engine) m
+begin-so (Err r) b m z = refused-by (eqb (letter_of r) 48) (letter_of r) b m refl z
 
 -- what refuses a plan is a character, and so not the 0 of a reply that is still to come
-straight-by : (p : StraightPlan) → eqb (refusal (straightly p)) 0 ≡ false
-straight-by (straight.Going v) = refl
-straight-by straight.Outside = refl
+straight-by : (p : Option Move) → eqb (refusal (straightly p)) 0 ≡ false
+straight-by (Some v) = refl
+straight-by None = refl
 
 plan-replies : (q : Asked) → eqb (refusal (plan_of q)) 0 ≡ false
 unfolding plan_of
 plan-replies q = straight-by (straight_plan q)
 
-round_by : (p : Bent) → is_reply (bent_paper p).number ≡ true → eqb (refusal (roundly p)) 0 ≡ false
-round_by (bent.Going a) h = refl
-round_by (bent.Refused r) h = ne_eqb r 0 (λ e. never (ap is_reply (sym e) ∙ h))
+round_by : (p : Result Arc Fault) → is_reply (bent_paper p).number ≡ true → eqb (refusal (roundly p)) 0 ≡ false
+round_by (Ok a) h = refl
+round_by (Err r) h = ne_eqb (letter_of r) 0 (λ e. never (ap is_reply (sym e) ∙ h))
 
 circle-replies : (axes : ℕ) (c : Circling) (at : Counters) (l : List ℕ) → eqb (refusal (circle_of axes c at l)) 0 ≡ false
 unfolding circle_of

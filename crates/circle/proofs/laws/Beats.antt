@@ -1,5 +1,6 @@
 -- The pulses of an arc that 103 lets pass: it makes every pulse that is left, each moves one axis of its plane by one, and it passes again
 -- after it. Assumes nothing.
+use Rattle.std.specs.Prelude.{Option, Some, None}
 use mathlib.Core.Path.{◌≡◌, refl, sym, ap, ◌∙◌}
 use mathlib.Core.Bool.{Bool, true, false, ◌&&◌}
 use Prim.Native.Nat.{ℕ, ◌+◌, ◌≤◌, ◌<◌}
@@ -10,10 +11,7 @@ use Rattle.count.specs.Pick.{pick}
 use Rattle.count.proofs.laws.Truth.{both}
 use Rattle.motion.specs.declared.Signs.{Signs}
 use Rattle.motion.specs.declared.Counters.{Counters}
-use Rattle.motion.specs.declared.Moved.{Moved}
-use Rattle.motion.specs.declared.Moved.TheVariants as moved
 use Rattle.motion.specs.declared.Beat.{Beat}
-use Rattle.motion.specs.declared.Beaten.TheVariants as beat
 use Rattle.motion.specs.Phase.{moved_all}
 use Rattle.motion.specs.Sound.{speed_right, counted}
 use Rattle.motion.specs.Pulse.{have_steps, step_to}
@@ -74,7 +72,7 @@ module _ (a : Arc) (at : Counters) (u : arc_under_way a at ≡ true) where
       (small-start a.start facts.start)
 
   -- every pulse that is left is made: no guard is met
-  pub makes : a.made < a.length → arc_beat a at ≡ beat.Made (the_beat a at)
+  pub makes : a.made < a.length → arc_beat a at ≡ Some (the_beat a at)
   unfolding arc_beat
   makes h = rw (lt-ltb a.made a.length h, fits, step-made at (arc_signs a at) steps)
 
@@ -91,7 +89,7 @@ module _ (a : Arc) (at : Counters) (u : arc_under_way a at ≡ true) where
 
 -- ---- whether one is left
 
-pub none_left : (a : Arc) (at : Counters) → arc_left a ≡ 0 → arc_beat a at ≡ beat.Over
+pub none_left : (a : Arc) (at : Counters) → arc_left a ≡ 0 → arc_beat a at ≡ None
 unfolding arc_left arc_beat
 none_left a at h = rw (le-ltb a.made a.length (omega arith))
 
@@ -99,22 +97,22 @@ left-none : (a : Arc) → a.length ≤ a.made → arc_left a ≡ 0
 unfolding arc_left
 left-none a h = omega arith
 
-never : {A : Type 0} {b : Beat} → beat.Made b ≡ beat.Over → A
+never : {A : Type 0} {b : Beat} → Some b ≡ None → A
 never p = let z : ◌≡◌ {A = ℕ} 0 1 = cc in absurd (omega arith)
 
-never' : {A : Type 0} {b : Beat} → beat.Over ≡ beat.Made b → A
+never' : {A : Type 0} {b : Beat} → None ≡ Some b → A
 never' p = let z : ◌≡◌ {A = ℕ} 0 1 = cc in absurd (omega arith)
 
-same : {b c : Beat} → beat.Made b ≡ beat.Made c → b ≡ c
+same : {b c : Beat} → Some b ≡ Some c → b ≡ c
 same e = cc
 
-marked_by : (t : Bool) (a : Arc) (s : Signs) (v : Moved) {b : Beat} → pick t (beat_to a s v) beat.Over ≡ beat.Made b → b.mark ≡ next_mark a
-marked_by true a s (moved.To there) {b} e = ap (λ (c : Beat). c.mark) (sym (same e))
-marked_by true a s moved.Outside e = never' e
+marked_by : (t : Bool) (a : Arc) (s : Signs) (v : Option Counters) {b : Beat} → pick t (beat_to a s v) None ≡ Some b → b.mark ≡ next_mark a
+marked_by true a s (Some there) {b} e = ap (λ (c : Beat). c.mark) (sym (same e))
+marked_by true a s None e = never' e
 marked_by false a s v e = never' e
 
 -- any arc's pulse leaves it at the next mark, in its one phase
-pub beat-marked : (a : Arc) (at : Counters) {b : Beat} → arc_beat a at ≡ beat.Made b → b.mark ≡ next_mark a
+pub beat-marked : (a : Arc) (at : Counters) {b : Beat} → arc_beat a at ≡ Some b → b.mark ≡ next_mark a
 unfolding arc_beat
 beat-marked a at e =
     marked_by (ltb a.made a.length && (counted at && counted_pair a.centre && counted_pair a.start)) a (arc_signs a at)
@@ -131,7 +129,7 @@ pub record Taken (a : Arc) (at : Counters) (b : Beat) : Type 0 where
   pub left : arc_left a ≡ arc_left (with_made a b.mark.made) + 1
 
 module _ (a : Arc) (at : Counters) (u : arc_under_way a at ≡ true) where
-  taken-by : (b : Beat) → arc_beat a at ≡ beat.Made b → (a.made < a.length) → Taken a at b
+  taken-by : (b : Beat) → arc_beat a at ≡ Some b → (a.made < a.length) → Taken a at b
   unfolding arc_left
   taken-by b e h =
       let i : b ≡ the_beat a at = same (sym e ∙ makes a at u h) in
@@ -146,14 +144,14 @@ module _ (a : Arc) (at : Counters) (u : arc_under_way a at ≡ true) where
         left = omega arith;
       })
 
-  pub taken : {b : Beat} → arc_beat a at ≡ beat.Made b → Taken a at b
+  pub taken : {b : Beat} → arc_beat a at ≡ Some b → Taken a at b
   taken {b} e = by (ltb a.made a.length) refl
     where
       by : (t : Bool) → ltb a.made a.length ≡ t → Taken a at b
       by true f = taken-by b e (ltb-true a.made a.length f)
       by false f = never' (sym (none_left a at (left-none a (ltb-false a.made a.length f))) ∙ e)
 
-  pub over-left : arc_beat a at ≡ beat.Over → arc_left a ≡ 0
+  pub over-left : arc_beat a at ≡ None → arc_left a ≡ 0
   over-left e = by (ltb a.made a.length) refl
     where
       by : (t : Bool) → ltb a.made a.length ≡ t → arc_left a ≡ 0

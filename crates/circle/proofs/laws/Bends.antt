@@ -1,4 +1,7 @@
 -- A planned arc passes the test of 103 where it is planned, and has the length that was sent. Assumes nothing.
+use Rattle.std.specs.Prelude.{Ok, Err}
+use Rattle.count.specs.declared.Fault.{Fault}
+use Rattle.count.specs.declared.Fault.TheVariants as fault
 use mathlib.Core.Path.{◌≡◌, refl, ◌∙◌}
 use mathlib.Core.Bool.{Bool, true, false, not, ◌&&◌}
 use mathlib.Core.List.{List}
@@ -8,7 +11,6 @@ use lib.Dec.{ltb, leb, eqb}
 use lib.IntN.{ℤ, pos, negsuc, ◌+ℤ◌}
 use lib.ListN.{get_or}
 use borrow.Author.Tests.{le-leb, ltb-true, ltb-false, leb-true, leb-false, ne_eqb, eq-eqb}
-use Rattle.count.specs.Chars.{ch}
 use Rattle.count.specs.Pick.{pick}
 use Rattle.count.specs.Numbers.{within, in24, far, half, full, value, count}
 use Rattle.count.specs.Ranges.{in_start, in_zero, in_speed, in_arc, in_way, nth, right_arc}
@@ -20,7 +22,6 @@ use Rattle.motion.proofs.laws.Plans.{speed-word}
 use Rattle.circle.specs.declared.Circling.{Circling}
 use Rattle.circle.specs.declared.Pair.{Pair}
 use Rattle.circle.specs.declared.Arc.{Arc}
-use Rattle.circle.specs.declared.Bent.TheVariants.{Going, Refused}
 use Rattle.circle.specs.Rule.{on_plane, measure}
 use Rattle.circle.specs.Arc.{zero}
 use Rattle.circle.specs.Plan.{plane_set, start_of, ways_fit, less, centre_of, reaches, reach_of, has_room, arc_from, going_by, bend_of}
@@ -140,7 +141,7 @@ centre-value at start h = by (ltb start half) refl
 
 -- ---- the plan
 
-never : {A : Type 0} {b : ℕ} {a : Arc} → Refused b ≡ Going a → A
+never : {A : Type 0} {b : Fault} {a : Arc} → Err b ≡ Ok a → A
 never p = let z : ◌≡◌ {A = ℕ} 0 1 = cc in absurd (omega arith)
 
 -- what an accepted circle has
@@ -154,8 +155,8 @@ pub record Bends (axes : ℕ) (c : Circling) (at : Counters) (l : List ℕ) (a :
   pub is : a ≡ arc_from c (centre_of (on_plane c.plane at) (start_of l)) (start_of l) l
 
 bends-by : (t1 t2 t3 t4 t5 t6 : Bool) (d a : Arc)
-    → pick (not t1) (Refused (ch "3")) (pick (not t2) (Refused (ch "1")) (pick (not t3) (Refused (ch "1")) (pick (not t4) (Refused (ch "D"))
-    (pick (not t5) (Refused (ch "9")) (pick t6 (Going d) (Refused (ch "9"))))))) ≡ Going a
+    → pick (not t1) (Err fault.Axes) (pick (not t2) (Err fault.Range) (pick (not t3) (Err fault.Range) (pick (not t4) (Err fault.Speed)
+    (pick (not t5) (Err fault.Outside) (pick t6 (Ok d) (Err fault.Outside)))))) ≡ Ok a
     → (t1 ≡ true) × (t2 ≡ true) × (t3 ≡ true) × (t4 ≡ true) × (t5 ≡ true) × (t6 ≡ true) × (a ≡ d)
 bends-by false t2 t3 t4 t5 t6 d a e = never e
 bends-by true false t3 t4 t5 t6 d a e = never e
@@ -165,7 +166,7 @@ bends-by true true true true false t6 d a e = never e
 bends-by true true true true true false d a e = never e
 bends-by true true true true true true d a e = (refl, refl, refl, refl, refl, refl, cc)
 
-pub bends : (axes : ℕ) (c : Circling) (at : Counters) (l : List ℕ) {a : Arc} → bend_of axes c at l ≡ Going a → Bends axes c at l a
+pub bends : (axes : ℕ) (c : Circling) (at : Counters) (l : List ℕ) {a : Arc} → bend_of axes c at l ≡ Ok a → Bends axes c at l a
 unfolding bend_of going_by
 bends axes c at l {a} e =
     let centre = centre_of (on_plane c.plane at) (start_of l) in
@@ -174,7 +175,7 @@ bends axes c at l {a} e =
     record { plane = p.0; right = p.1; fits = p.2; speed = p.3; position = p.4; room = p.5; is = p.6 }
 
 -- A PLANNED ARC PASSES
-pub bend-sound : (axes : ℕ) (c : Circling) (at : Counters) (l : List ℕ) (a : Arc) → bend_of axes c at l ≡ Going a → arc_under_way a at ≡ true
+pub bend-sound : (axes : ℕ) (c : Circling) (at : Counters) (l : List ℕ) (a : Arc) → bend_of axes c at l ≡ Ok a → arc_under_way a at ≡ true
 bend-sound axes c at l a e =
     let b = bends axes c at l e in
     let s = start-sound l b.right in

@@ -1,4 +1,7 @@
 -- What the answers of circles say on paper: a plane and a direction are their numbers, and a circle's reply goes by its tests. Assumes nothing.
+use Rattle.std.specs.Prelude.{Result, Ok, Err}
+use Rattle.count.specs.declared.Fault.TheVariants as fault
+use Rattle.count.specs.declared.Fault.{Fault}
 use mathlib.Core.Path.{◌≡◌, refl, ap, ◌∙◌}
 use mathlib.Core.Bool.{Bool, true, false, not, ◌&&◌, ◌||◌}
 use mathlib.Core.List.{List, [], ◌∷◌}
@@ -17,8 +20,6 @@ use Rattle.circle.specs.declared.Direction.TheVariants.{Clockwise, Counter}
 use Rattle.circle.specs.declared.Circling.{Circling}
 use Rattle.circle.specs.declared.Pair.{Pair}
 use Rattle.circle.specs.declared.Arc.{Arc}
-use Rattle.circle.specs.declared.Bent.{Bent}
-use Rattle.circle.specs.declared.Bent.TheVariants.{Going, Refused}
 use Rattle.circle.specs.Rule.{on_plane, plane_paper, direction_number, direction_paper}
 use Rattle.circle.specs.Plan.{plane_of, direction_of, plane_set, start_of, ways_fit, centre_of, has_room, arc_from, going_by, bend_of, bent_paper}
 
@@ -44,7 +45,7 @@ unfolding going_by
 going-number c at start l =
     by (counted at) (has_room (centre_of (on_plane c.plane at) start) start) (arc_from c (centre_of (on_plane c.plane at) start) start l)
   where
-    by : (b d : Bool) (a : Arc) → (bent_paper (pick (not b) (Refused 57) (pick d (Going a) (Refused 57)))).number ≡ pick (b && d) 48 57
+    by : (b d : Bool) (a : Arc) → (bent_paper (pick (not b) (Err fault.Outside) (pick d (Ok a) (Err fault.Outside)))).number ≡ pick (b && d) 48 57
     by true true a = refl
     by true false a = refl
     by false d a = refl
@@ -54,8 +55,8 @@ abbrev pub replied : Bool → Bool → Bool → Bool → Bool → ℕ
 replied plane arc ways rate room =
     pick (not plane) (ch "3") (pick (not arc) (ch "1") (pick (not ways) (ch "1") (pick (not rate) (ch "D") (pick room (ch "0") (ch "9")))))
 
-bent-number : (p r w s : Bool) (b : Bent) (room : Bool) → (bent_paper b).number ≡ pick room 48 57
-    → (bent_paper (pick (not p) (Refused 51) (pick (not r) (Refused 49) (pick (not w) (Refused 49) (pick (not s) (Refused 68) b))))).number
+bent-number : (p r w s : Bool) (b : Result Arc Fault) (room : Bool) → (bent_paper b).number ≡ pick room 48 57
+    → (bent_paper (pick (not p) (Err fault.Axes) (pick (not r) (Err fault.Range) (pick (not w) (Err fault.Range) (pick (not s) (Err fault.Speed) b))))).number
     ≡ replied p r w s room
 bent-number false r w s b room e = refl
 bent-number true false w s b room e = refl

@@ -1,4 +1,7 @@
 -- What the code's own tests and sums rest on, over plain variables. Assumes nothing.
+use Rattle.std.specs.Prelude.{Option, Result, Some, None, Ok, Err}
+use Rattle.count.specs.declared.Fault.TheVariants as fault
+use Rattle.count.specs.declared.Fault.{Fault}
 use Prim.Native.Nat.{ℕ, ◌+◌, ◌-◌, ◌≤◌, ◌<◌}
 use mathlib.Core.Path.{◌≡◌, refl, sym, ◌∙◌}
 use mathlib.Core.Bool.{Bool, true, false, not, ◌&&◌}
@@ -17,11 +20,7 @@ use Rattle.count.proofs.laws.Laws.{signed_low, signed_high, within-up}
 use Rattle.count.proofs.laws.Truth.{and_left, and_right}
 use Rattle.motion.specs.declared.Counters.{Counters}
 use Rattle.motion.specs.declared.Signs.{Signs}
-use Rattle.motion.specs.declared.Moved.{Moved}
-use Rattle.motion.specs.declared.Moved.TheVariants as moved
 use Rattle.motion.specs.declared.Beat.{Beat}
-use Rattle.motion.specs.declared.Beaten.{Beaten}
-use Rattle.motion.specs.declared.Beaten.TheVariants as beat
 use Rattle.motion.specs.declared.Look.TheVariants as look
 use Rattle.motion.specs.Axes.{on}
 use Rattle.motion.specs.Phase.{sign_value}
@@ -33,8 +32,6 @@ use Rattle.circle.specs.declared.Circling.{Circling}
 use Rattle.circle.specs.declared.Pair.{Pair}
 use Rattle.circle.specs.declared.Ways.{Ways}
 use Rattle.circle.specs.declared.Arc.{Arc}
-use Rattle.circle.specs.declared.Bent.{Bent}
-use Rattle.circle.specs.declared.Bent.TheVariants.{Going, Refused}
 use Rattle.circle.specs.Rule.{first_axis, second_axis, on_plane, rests, first_only, second_only, shifted, off, move_of}
 use Rattle.circle.specs.Arc.{arc_signs, counted_pair, beat_to, arc_beat, with_made}
 use Rattle.circle.specs.Plan.{plane_set, start_of, first_ways, ways_fit, centre_of, has_room, arc_from, going_by, bend_of}
@@ -89,7 +86,7 @@ module _ (a : Arc) (k : ℕ) (at : Counters) where
   unfolding arc_signs
   same-signs = refl
 
-  pub beat-past : a.length ≤ k → beat.Over ≡ arc_beat (with_made a k) at
+  pub beat-past : a.length ≤ k → None ≡ arc_beat (with_made a k) at
   unfolding arc_beat
   beat-past h = rw (le-ltb k a.length h)
 
@@ -97,10 +94,10 @@ module _ (a : Arc) (k : ℕ) (at : Counters) where
     all : counted at && counted_pair a.centre && counted_pair a.start ≡ x && y && z
     all = rw (p, q, r)
 
-    pub beat-out : x && y && z ≡ false → beat.Over ≡ arc_beat (with_made a k) at
+    pub beat-out : x && y && z ≡ false → None ≡ arc_beat (with_made a k) at
     unfolding arc_beat
     beat-out h =
-        none (ltb k a.length) (beat_to (with_made a k) (arc_signs (with_made a k) at) (step_to at (arc_signs (with_made a k) at))) beat.Over (all ∙ h)
+        none (ltb k a.length) (beat_to (with_made a k) (arc_signs (with_made a k) at) (step_to at (arc_signs (with_made a k) at))) None (all ∙ h)
 
     module _ (t : x && y && z ≡ true) where
       pub beat-parts : Each (λ i. on i at < full) × (a.centre.first < full) × (a.centre.second < full)
@@ -111,13 +108,13 @@ module _ (a : Arc) (k : ℕ) (at : Counters) where
           let e = pair_parts a.start (sym r ∙ and_right (x && y) z t) in
           (c, d.0, d.1, e.0, e.1)
 
-      module _ {s : Signs} {m : Moved} (l : k < a.length) (u : s ≡ arc_signs a at) (v : m ≡ step_to at s) where
-        pub beat-none : m ≡ moved.Outside → beat.Over ≡ arc_beat (with_made a k) at
+      module _ {s : Signs} {m : Option Counters} (l : k < a.length) (u : s ≡ arc_signs a at) (v : m ≡ step_to at s) where
+        pub beat-none : m ≡ None → None ≡ arc_beat (with_made a k) at
         unfolding arc_beat
         beat-none w = rw (lt-ltb k a.length l, all, t, same-signs, ← u, ← v, w)
 
-        pub beat-to : {d : Counters} → m ≡ moved.To d
-            → beat.Made (record { signs = s; speed = a.speed; at = d; mark = record { phase = 0; made = k + 1 } }) ≡ arc_beat (with_made a k) at
+        pub beat-to : {d : Counters} → m ≡ Some d
+            → Some (record { signs = s; speed = a.speed; at = d; mark = record { phase = 0; made = k + 1 } }) ≡ arc_beat (with_made a k) at
         unfolding arc_beat
         beat-to w = rw (lt-ltb k a.length l, all, t, same-signs, ← u, ← v, w)
 
@@ -145,7 +142,7 @@ arc-starts l t =
 -- ---- the plan
 
 module _ (c : Circling) (at : Counters) (start : Pair) (l : List ℕ) where
-  pub going-out : counted at ≡ false → Refused 57 ≡ going_by c at start l
+  pub going-out : counted at ≡ false → Err fault.Outside ≡ going_by c at start l
   unfolding going_by
   going-out h = rw h
 
@@ -153,11 +150,11 @@ module _ (c : Circling) (at : Counters) (start : Pair) (l : List ℕ) where
     room : {b : Bool} → has_room q start ≡ b → has_room (centre_of (on_plane c.plane at) start) start ≡ b
     room t = rw (← e, ← f) t
 
-    pub going_on : {a : Arc} → has_room q start ≡ true → a ≡ arc_from c q start l → Going a ≡ going_by c at start l
+    pub going_on : {a : Arc} → has_room q start ≡ true → a ≡ arc_from c q start l → Ok a ≡ going_by c at start l
     unfolding going_by
     going_on t u = rw (h, room t, u, f, e)
 
-    pub going-none : has_room q start ≡ false → Refused 57 ≡ going_by c at start l
+    pub going-none : has_room q start ≡ false → Err fault.Outside ≡ going_by c at start l
     unfolding going_by
     going-none t = rw (h, room t)
 
@@ -168,12 +165,12 @@ speed-small l t =
     leb-true w 10000 (and_right (leb 30 w) (leb w 10000) (sym (within-up 30 10000 w (omega arith)) ∙ t))
 
 module _ (axes : ℕ) (c : Circling) (at : Counters) (l : List ℕ) where
-  pub bend-plane : plane_set axes c.plane ≡ false → Refused 51 ≡ bend_of axes c at l
+  pub bend-plane : plane_set axes c.plane ≡ false → Err fault.Axes ≡ bend_of axes c at l
   unfolding bend_of
   bend-plane h = rw h
 
   module _ (h : plane_set axes c.plane ≡ true) where
-    pub bend-wrong : right_arc l ≡ false → Refused 49 ≡ bend_of axes c at l
+    pub bend-wrong : right_arc l ≡ false → Err fault.Range ≡ bend_of axes c at l
     unfolding bend_of
     bend-wrong g = rw (h, g)
 
@@ -183,16 +180,16 @@ module _ (axes : ℕ) (c : Circling) (at : Counters) (l : List ℕ) where
       unfolding ways_fit
       fit = rw (d, b, a)
 
-      pub bend-unfit : f ≡ false → Refused 49 ≡ bend_of axes c at l
+      pub bend-unfit : f ≡ false → Err fault.Range ≡ bend_of axes c at l
       unfolding bend_of
       bend-unfit t = rw (h, g, fit, t)
 
       module _ (t : f ≡ true) where
-        pub bend-slow : in_speed (nth l 1) ≡ false → Refused 68 ≡ bend_of axes c at l
+        pub bend-slow : in_speed (nth l 1) ≡ false → Err fault.Speed ≡ bend_of axes c at l
         unfolding bend_of
         bend-slow v = rw (h, g, fit, t, v)
 
-        pub bend-on : {r : Bent} → in_speed (nth l 1) ≡ true → r ≡ going_by c at s l → r ≡ bend_of axes c at l
+        pub bend-on : {r : Result Arc Fault} → in_speed (nth l 1) ≡ true → r ≡ going_by c at s l → r ≡ bend_of axes c at l
         unfolding bend_of
         bend-on v e = rw (h, g, fit, t, v, ← a) e
 
@@ -220,10 +217,10 @@ module _ (a : Arc) (at : Counters) where
   unfolding arc_look
   look-wrong h = rw h
 
-  pub look-made : {n : Beaten} {b : Beat} → arc_under_way a at ≡ true → n ≡ arc_beat a at → n ≡ beat.Made b → look.Made b ≡ arc_look a at
+  pub look-made : {n : Option Beat} {b : Beat} → arc_under_way a at ≡ true → n ≡ arc_beat a at → n ≡ Some b → look.Made b ≡ arc_look a at
   unfolding arc_look
   look-made h e f = rw (h, ← e, f)
 
-  pub look-over : {n : Beaten} → arc_under_way a at ≡ true → n ≡ arc_beat a at → n ≡ beat.Over → look.Over ≡ arc_look a at
+  pub look-over : {n : Option Beat} → arc_under_way a at ≡ true → n ≡ arc_beat a at → n ≡ None → look.Over ≡ arc_look a at
   unfolding arc_look
   look-over h e f = rw (h, ← e, f)

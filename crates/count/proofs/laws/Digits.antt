@@ -1,15 +1,17 @@
 -- Laws of a number's digits, and of a text at the front of a part. Assumes nothing.
-use Prim.Native.Nat.{ℕ, zero, suc, ◌+◌, ◌*◌, ◌/◌, ◌%◌, ◌<◌, ◌≤◌, ◌^◌}
+use Prim.Native.Nat.{ℕ, zero, suc, ◌+◌, ◌-◌, ◌*◌, ◌/◌, ◌%◌, ◌<◌, ◌≤◌, ◌^◌}
 use mathlib.Core.Path.{◌≡◌, refl, ap, sym, ◌∙◌}
-use mathlib.Core.List.{List, [], ◌∷◌, ◌++◌}
+use mathlib.Core.List.{List, [], ◌∷◌, ◌++◌, append_assoc}
 use mathlib.Core.Bool.{Bool, true, false}
+use native.Mathlib.Numerals.{add-one}
 use native.Mathlib.Omega.{arith}
 use borrow.Author.Tests.{lt-ltb, le-ltb, ltb-false}
 use lib.Dec.{ltb}
 use lib.IntN.{ℤ, pos, negsuc}
-use lib.ListN.{length, get_or, drop, length-append}
+use lib.ListN.{length, get_or, drop, set, length-append}
+use Rattle.std.proofs.lemmas.List.{drop-set}
 use Rattle.count.specs.Pick.{pick}
-use Rattle.count.specs.Text.{written, wrote, hex_digit, hexes, decimal, decimals, digits, shown, four_digits}
+use Rattle.count.specs.Text.{written, wrote, hex_digit, hexes, last_digits, decimal, decimals, digits, shown, four_digits}
 
 -- ---- more room than is needed changes nothing
 
@@ -61,19 +63,36 @@ unfolding shown
 shown-most (pos n) = omega (arith, digits-most n)
 shown-most (negsuc n) = omega (arith, digits-most (suc n))
 
--- ---- hexadecimal digits by their powers of 16
+-- ---- the last digits in a base, written from the last one on
 
-tens : (n : ℕ) → (n / 16 / 16 ≡ n / 256) × (n / 16 / 16 / 16 ≡ n / 4096) × (n / 16 / 16 / 16 / 16 ≡ n / 65536) × (n / 16 / 16 / 16 / 16 / 16 ≡ n / 1048576)
-tens n = (omega arith, omega arith, omega arith, omega arith)
+pub length-last : (base k n : ℕ) → length (last_digits base k n) ≡ k
+unfolding last_digits
+length-last base zero n = refl
+length-last base (suc k) n = let h = length-last base k (n / base) in simp length-append (omega arith)
 
+pub last_step : (base k n : ℕ) (s : List ℕ) → 0 < k → k ≤ length s
+    → last_digits base (k - 1) (n / base) ++ drop (k - 1) (set s (k - 1) (hex_digit (n % base))) ≡ last_digits base k n ++ drop k s
+unfolding last_digits
+last_step base zero n s h l = absurd (omega arith)
+last_step base (suc k) n s h l =
+    let e : suc k - 1 ≡ k = omega arith in
+    let f : k < length s = omega arith in
+    rw (e, drop-set s k _ f, append_assoc, add-one)
+
+pub hexes-last : (k n : ℕ) → hexes k n ≡ last_digits 16 k n
+unfolding hexes last_digits
+hexes-last zero n = refl
+hexes-last (suc k) n = rw (hexes-last k (n / 16))
+
+-- a byte's two digits
 pub hexes-two : (n : ℕ) → hexes 2 n ≡ hex_digit (n / 16 % 16) ∷ hex_digit (n % 16) ∷ []
 unfolding hexes
 hexes-two n = refl
 
-pub hexes-six : (n : ℕ)
-    → hexes 6 n ≡ hex_digit (n / 1048576 % 16) ∷ hex_digit (n / 65536 % 16) ∷ hex_digit (n / 4096 % 16) ∷ hex_digit (n / 256 % 16) ∷ hex_digit (n / 16 % 16) ∷ hex_digit (n % 16) ∷ []
-unfolding hexes
-hexes-six n = rw ((tens n).3, (tens n).2, (tens n).1, (tens n).0)
+pub decimals-last : (k n : ℕ) → decimals k n ≡ last_digits 10 k n
+unfolding decimals last_digits hex_digit
+decimals-last zero n = refl
+decimals-last (suc k) n = rw (decimals-last k (n / 10), lt-ltb (n % 10) 10 (omega arith))
 
 -- ---- four decimal digits by their powers of 10
 

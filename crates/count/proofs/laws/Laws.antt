@@ -1,8 +1,8 @@
 -- The laws of counts and words that every crate cites. Assumes nothing.
 use Rattle.std.specs.Prelude.{Some, None}
 use mathlib.Core.Path.{◌≡◌, refl, sym, ap, ◌∙◌}
-use mathlib.Core.Bool.{Bool, true, false, ◌&&◌, ◌||◌}
-use Prim.Native.Nat.{ℕ, zero, suc, ◌+◌, ◌-◌, ◌≤◌, ◌<◌}
+use mathlib.Core.Bool.{Bool, true, false, ◌&&◌}
+use Prim.Native.Nat.{ℕ, suc, ◌+◌, ◌-◌, ◌≤◌, ◌<◌}
 use native.Mathlib.Nat.{mod-eq_of_lt}
 use native.Mathlib.Omega.{arith}
 use lib.Dec.{ltb, leb}
@@ -10,8 +10,8 @@ use lib.IntN.{ℤ, pos, negsuc, sub_ℕ, ◌+ℤ◌}
 use lib.Signed.{mag, le_z}
 use borrow.Author.Tests.{lt-ltb, le-ltb, le-leb, lt-leb, ltb-true, ltb-false, leb-true, leb-false}
 use Rattle.count.specs.Pick.{pick}
-use Rattle.count.specs.Numbers.{within, half, full, value, count, in24, signed, word, with_sign, placed, added}
-use Rattle.count.proofs.laws.Truth.{and-true, and-false}
+use Rattle.count.specs.Numbers.{within, half, full, value, count, in24, signed, word, placed, added}
+use Rattle.count.proofs.laws.Truth.{and-false}
 
 -- ---- tests
 
@@ -24,10 +24,6 @@ same_test a b c d to from = by (leb a b) (leb c d) refl refl
     by true false p q = absurd (omega (arith, to (leb-true a b p), leb-false c d q))
     by false true p q = absurd (omega (arith, from (leb-true c d q), leb-false a b p))
     by false false p q = refl
-
-or-false : (b : Bool) → b ≡ b || false
-or-false true = refl
-or-false false = refl
 
 -- ---- words
 
@@ -54,35 +50,6 @@ within-up lo hi w h = by (ltb w 2147483648) refl
 -- a range from 0
 pub within-zero : (hi w : ℕ) → hi < 2147483648 → within (pos 0) (pos hi) (signed w) ≡ leb w hi
 within-zero hi w h = within-up 0 hi w h ∙ rw (le-leb 0 w (omega arith))
-
--- a range from a number below 0 to one from 0 up
-pub within_both : (lo hi w : ℕ) → lo < 2147483648 → hi < 2147483648 → w ≤ 4294967295
-    → within (negsuc lo) (pos hi) (signed w) ≡ leb w hi || leb (4294967295 - lo) w
-unfolding within
-within_both lo hi w l h f = by (ltb w 2147483648) refl
-  where
-    by : (b : Bool) → ltb w 2147483648 ≡ b → le_z (negsuc lo) (signed w) && le_z (signed w) (pos hi) ≡ leb w hi || leb (4294967295 - lo) w
-    by true e =
-        let g = ltb-true w 2147483648 e in
-        rw (signed_low w g, lt-leb (4294967295 - lo) w (omega arith)) (or-false (leb w hi))
-    by false e =
-        let g = ltb-false w 2147483648 e in
-        rw (signed_high w g, lt-leb w hi (omega arith))
-        (and-true (leb (4294967295 - w) lo) ∙ same_test (4294967295 - w) lo (4294967295 - lo) w (λ p. omega arith) (λ p. omega arith))
-
--- a range below 0
-pub within-down : (lo w : ℕ) → lo < 2147483648 → w ≤ 4294967295 → within (negsuc lo) (negsuc 0) (signed w) ≡ leb (4294967295 - lo) w
-unfolding within
-within-down lo w l f = by (ltb w 2147483648) refl
-  where
-    by : (b : Bool) → ltb w 2147483648 ≡ b → le_z (negsuc lo) (signed w) && le_z (signed w) (negsuc 0) ≡ leb (4294967295 - lo) w
-    by true e =
-        let g = ltb-true w 2147483648 e in
-        rw (signed_low w g, lt-leb (4294967295 - lo) w (omega arith))
-    by false e =
-        let g = ltb-false w 2147483648 e in
-        rw (signed_high w g, le-leb 0 (4294967295 - w) (omega arith))
-        (and-true (leb (4294967295 - w) lo) ∙ same_test (4294967295 - w) lo (4294967295 - lo) w (λ p. omega arith) (λ p. omega arith))
 
 -- ---- differences of two naturals
 
@@ -210,10 +177,6 @@ word-plus n f = mod-eq_of_lt (omega arith)
 pub word-neg : (n : ℕ) → n ≤ 4294967295 → word (negsuc n) ≡ 4294967295 - n
 unfolding word
 word-neg n f = ap (λ (k : ℕ). 4294967295 - k) (mod-eq_of_lt (omega arith))
-
-pub word-minus : (n : ℕ) → (n ≡ 0 → ⊥) → n ≤ 4294967295 → word (with_sign true n) ≡ 4294967295 - (n - 1)
-word-minus zero h f = absurd (h refl)
-word-minus (suc n) h f = word-neg n (omega arith) ∙ omega arith
 
 pub word-value-low : (c : ℕ) → c < half → word (value c) ≡ c + 4286578688
 word-value-low c h = rw (sub-neg c half h) (word-neg (half - suc c) (omega arith) ∙ omega arith)

@@ -2,6 +2,7 @@
 -- after which nothing runs has sent 0, or 9, 3 or 1 of a movement or circle. Where it reaches the end place it sends 0 and is idle. (A
 -- record `1` may send the character G itself; the run then goes on.) Assumes nothing.
 use Prim.Native.Nat.{ℕ, zero, suc, ◌+◌, ◌<◌}
+use Rattle.count.specs.Refusals.{letter_of}
 use mathlib.Core.Path.{◌≡◌, refl, sym, ap, ◌∙◌, subst}
 use mathlib.Core.Bool.{Bool, true, false}
 use mathlib.Core.List.{List}
@@ -163,7 +164,7 @@ module _ (axes : ℕ) (l : List Record) (a : Accepted axes l) (rule : Rule) (e :
       record {
         pulse = λ p m s u v. going_on _ refl (moving-goes s.rest) (on p);
         still = λ p. going_on _ refl ready-goes (on p);
-        refused = λ b k p. ended _ b refl refl (refused-ends axes r (right-here r q) e b p k) tt;
+        refused = λ b k p. ended _ (letter_of b) refl refl (refused-ends axes r (right-here r q) e b p k) tt;
         origin = λ p u. going_on _ refl ready-goes (on p);
         three = λ p u. going_on _ refl ready-goes (on p);
         turned = λ p u c. going_on _ refl ready-goes (on p);

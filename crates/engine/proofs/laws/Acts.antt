@@ -1,4 +1,5 @@
 -- A clock call decided first and then done is the clock call of 01, and 103's word on it that of the state. Assumes nothing.
+use Rattle.std.specs.Prelude.{Option, Some, None}
 use Prim.Native.Nat.{ℕ, ◌+◌}
 use mathlib.Core.Path.{◌≡◌, refl, ap, sym, ◌∙◌}
 use mathlib.Core.Bool.{Bool, true, false, not, ◌&&◌}
@@ -6,8 +7,6 @@ use native.Mathlib.Omega.{arith}
 use Rattle.count.specs.Pick.{pick}
 use Rattle.motion.specs.declared.Counters.{Counters}
 use Rattle.motion.specs.declared.Beat.{Beat}
-use Rattle.motion.specs.declared.Beaten.{Beaten}
-use Rattle.motion.specs.declared.Beaten.TheVariants as beat
 use Rattle.motion.specs.declared.Look.{Look}
 use Rattle.motion.specs.declared.Look.TheVariants as look
 use Rattle.travel.specs.declared.Travel.{Travel}
@@ -24,8 +23,6 @@ use Rattle.engine.specs.declared.Engine.{Engine}
 use Rattle.engine.specs.declared.Told.{Told}
 use Rattle.engine.specs.declared.Act.{Act}
 use Rattle.engine.specs.declared.Act.TheVariants as act
-use Rattle.engine.specs.declared.Under.{Under}
-use Rattle.engine.specs.declared.Under.TheVariants as under
 use Rattle.engine.specs.State.{paper, with_at, with_run, running}
 use Rattle.engine.specs.Sound.{job_sound, sound_of}
 use Rattle.engine.specs.Tick.{Fetching, told, on_to, moving, directly, moving_on, ticked_by, ticked}
@@ -43,8 +40,8 @@ module _ (kind : Travel → Job) (place : ℕ) (l : Loops) (m : Travel) (e : Eng
       let r = next-rest m e.at s p in
       λ i. record { engine = with_run (with_at e (a i)) (running (kind (r i)) place l); answer = answer.Pulse s.signs s.speed }
 
-module _ (m : Travel) (e : Engine) {x : Beaten} (h : x ≡ beaten (next_of m e.at)) where
-  pub first_made : (b : Beat) → x ≡ beat.Made b
+module _ (m : Travel) (e : Engine) {x : Option Beat} (h : x ≡ beaten (next_of m e.at)) where
+  pub first_made : (b : Beat) → x ≡ Some b
       → pulsed (running (job.Moving (at_mark m b.mark)) (e.run.place + 1) e.run.loops) b e ≡ moving (next_of m e.at) e
   first_made b p =
       let g = hit (next_of m e.at) b h p in
@@ -52,27 +49,27 @@ module _ (m : Travel) (e : Engine) {x : Beaten} (h : x ≡ beaten (next_of m e.a
       ∙ pulsed-told job.Moving (e.run.place + 1) e.run.loops m e g.step g.is
       ∙ sym (ap (λ (n : Next). moving n e) g.is)
 
-  pub first-over : x ≡ beat.Over → told (on_to job.Ready e) answer.Done ≡ moving (next_of m e.at) e
+  pub first-over : x ≡ None → told (on_to job.Ready e) answer.Done ≡ moving (next_of m e.at) e
   first-over p = rw (missed (next_of m e.at) h p)
 
 -- ---- what is decided
 
 module _ (m : Travel) (j : Job) (at : Counters) where
-  pub act-made : (b : Beat) {u : Under} {x : Beaten} → u ≡ under_of j → u ≡ under.Going m → x ≡ beaten (next_of m at) → x ≡ beat.Made b → act.Pulse b ≡ act_by next_of j at
+  pub act-made : (b : Beat) {u : Option Travel} {x : Option Beat} → u ≡ under_of j → u ≡ Some m → x ≡ beaten (next_of m at) → x ≡ Some b → act.Pulse b ≡ act_by next_of j at
   unfolding act_by
   act-made b p q e f =
       let g = hit (next_of m at) b e f in
-      ap act.Pulse g.same ∙ sym (ap (λ (n : Next). pulse_act n j) g.is) ∙ sym (ap (λ (u : Under). act_under next_of u j at) (sym p ∙ q))
+      ap act.Pulse g.same ∙ sym (ap (λ (n : Next). pulse_act n j) g.is) ∙ sym (ap (λ (u : Option Travel). act_under next_of u j at) (sym p ∙ q))
 
-  pub act-over : {u : Under} {x : Beaten} → u ≡ under_of j → u ≡ under.Going m → x ≡ beaten (next_of m at) → x ≡ beat.Over → rest_of j ≡ act_by next_of j at
+  pub act-over : {u : Option Travel} {x : Option Beat} → u ≡ under_of j → u ≡ Some m → x ≡ beaten (next_of m at) → x ≡ None → rest_of j ≡ act_by next_of j at
   unfolding act_by
   act-over p q e f = rw (sym p ∙ q, missed (next_of m at) e f)
 
-  pub look-so : {u : Under} {x : Look} → u ≡ under_of j → u ≡ under.Going m → x ≡ look_of m at → look_act x j ≡ look_by j at
+  pub look-so : {u : Option Travel} {x : Look} → u ≡ under_of j → u ≡ Some m → x ≡ look_of m at → look_act x j ≡ look_by j at
   unfolding look_by
   look-so p q e = rw (sym p ∙ q, e)
 
-module _ (j : Job) (at : Counters) {u : Under} (p : u ≡ under_of j) (q : u ≡ under.Nothing) where
+module _ (j : Job) (at : Counters) {u : Option Travel} (p : u ≡ under_of j) (q : u ≡ None) where
   pub act-none : rest_of j ≡ act_by next_of j at
   unfolding act_by
   act-none = rw (sym p ∙ q)
@@ -121,9 +118,9 @@ pulse-right : (n : Next) (j : Job) → is_wrong (pulse_act n j) ≡ false
 pulse-right (Made s) j = refl
 pulse-right Over j = rest-right j
 
-under-right : (u : Under) (j : Job) (at : Counters) → is_wrong (act_under next_of u j at) ≡ false
-under-right (under.Going m) j at = pulse-right (next_of m at) j
-under-right under.Nothing j at = rest-right j
+under-right : (u : Option Travel) (j : Job) (at : Counters) → is_wrong (act_under next_of u j at) ≡ false
+under-right (Some m) j at = pulse-right (next_of m at) j
+under-right None j at = rest-right j
 
 wrong-by : (b : Bool) (x : Act) → is_wrong x ≡ false → is_wrong (pick b x act.Wrong) ≡ not b
 wrong-by true x e = e

@@ -1,4 +1,7 @@
 -- What a clock call comes to, case by case: whatever holds of each case's outcome holds of the call's. Assumes nothing.
+use Rattle.std.specs.Prelude.{Result, Ok, Err}
+use Rattle.count.specs.Refusals.{letter_of}
+use Rattle.count.specs.declared.Fault.{Fault}
 use Prim.Native.Nat.{ℕ, zero, suc}
 use mathlib.Core.Path.{◌≡◌, refl, sym, ap, ◌∙◌}
 use mathlib.Core.Bool.{Bool, true, false, ◌||◌}
@@ -12,8 +15,6 @@ use Rattle.motion.specs.Plan.{Asked, asked}
 use Rattle.circle.specs.declared.Circling.{Circling}
 use Rattle.circle.specs.Plan.{plane_of, direction_of, circling}
 use Rattle.travel.specs.declared.Travel.{Travel}
-use Rattle.travel.specs.declared.Planned.{Planned}
-use Rattle.travel.specs.declared.Planned.TheVariants as planned
 use Rattle.travel.specs.Next.{Stepped, Next}
 use Rattle.travel.specs.Next.Next.{Made, Over}
 use Rattle.travel.specs.Plan.{plan_of, circle_of}
@@ -39,16 +40,16 @@ abbrev pub asked_by : Record → Engine → Asked
 asked_by r e = asked e.held.axes e.three e.at e.origin (is_absolute r.code) r.words
 
 -- a circle as it is planned when its record is run
-abbrev pub round_by : Record → Engine → Planned
+abbrev pub round_by : Record → Engine → Result Travel Fault
 round_by r e = circle_of e.held.axes e.circling e.at r.words
 
 -- a stored movement's plan, and a circle's
-unfoldable pub planned_by : Record → Engine → Planned
+unfoldable pub planned_by : Record → Engine → Result Travel Fault
 planned_by r e = pick (is_movement r.code) (plan_of (asked_by r e)) (round_by r e)
 
 -- the plan of a movement, and of what is none
 module _ (r : Record) (e : Engine) where
-  abbrev plan_by : Bool → Planned
+  abbrev plan_by : Bool → Result Travel Fault
   plan_by t = pick t (plan_of (asked_by r e)) (round_by r e)
 
   pub straight-plan : is_movement r.code ≡ true → planned_by r e ≡ plan_of (asked_by r e)
@@ -73,10 +74,10 @@ pub record Plain (r : Record) : Type 0 where
   pub no-wait : r.code ≡ 50 → ⊥
 
 pub record RecordCases (rule : Rule) (r : Record) (e : Engine) (P : Told → Type 0) : Type 0 where
-  pub pulse : Plain r → (m : Travel) (s : Stepped) → planned_by r e ≡ planned.Going m → rule m e.at ≡ Made s
+  pub pulse : Plain r → (m : Travel) (s : Stepped) → planned_by r e ≡ Ok m → rule m e.at ≡ Made s
       → P (told (on_to (job.Moving s.rest) e) (answer.Pulse s.signs s.speed))
   pub still : Plain r → P (told (on_to job.Ready e) answer.Done)
-  pub refused : (b : ℕ) → Travels r.code → planned_by r e ≡ planned.Refused b → P (finished b e)
+  pub refused : (b : Fault) → Travels r.code → planned_by r e ≡ Err b → P (finished (letter_of b) e)
   pub origin : Plain r → r.code ≡ 110 → P (told (on_to job.Ready (origin_of (get_or r.words 0 0) e)) answer.Done)
   pub three : Plain r → (b : Bool) → P (told (on_to job.Ready (with_three e b)) answer.Done)
   pub turned : Plain r → (r.code ≡ 101) ⊎ (r.code ≡ 102) → (c : Circling) → P (told (on_to job.Ready (with_circling e c)) answer.Done)
@@ -102,13 +103,13 @@ module _ (rule : Rule) (r : Record) (e : Engine) (P : Told → Type 0) (c : Reco
   is : (k : ℕ) → eqb r.code k ≡ true → r.code ≡ k
   is k q = eqb-true r.code k q
 
-  moved_by : Plain r → (m : Travel) (n : Next) → planned_by r e ≡ planned.Going m → rule m e.at ≡ n → P (moving n e)
+  moved_by : Plain r → (m : Travel) (n : Next) → planned_by r e ≡ Ok m → rule m e.at ≡ n → P (moving n e)
   moved_by l m (Made s) p q = c.pulse l m s p q
   moved_by l m Over p q = c.still l
 
-  planned-by : Plain r → Travels r.code → (p : Planned) → planned_by r e ≡ p → P (moving_by rule p e)
-  planned-by l k (planned.Going m) q = moved_by l m (rule m e.at) q refl
-  planned-by l k (planned.Refused b) q = c.refused b k q
+  planned-by : Plain r → Travels r.code → (p : Result Travel Fault) → planned_by r e ≡ p → P (moving_by rule p e)
+  planned-by l k (Ok m) q = moved_by l m (rule m e.at) q refl
+  planned-by l k (Err b) q = c.refused b k q
 
   delayed-by : Plain r → (t : ℕ) → P (delaying t e)
   delayed-by l zero = c.still l

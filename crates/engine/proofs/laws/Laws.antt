@@ -1,6 +1,8 @@
 -- The laws of one clock call: both rules agree on a sound engine; idle, storing and waiting it answers nothing and changes nothing;
 -- the counters move by the answer alone; an origin changes only by a record `n`, plane and direction only by `e` and `f`; the store's part
 -- in use only by G. Assumes nothing.
+use Rattle.std.specs.Prelude.{Result, Ok, Err}
+use Rattle.count.specs.declared.Fault.{Fault}
 use mathlib.Core.Path.{◌≡◌, refl, sym, ap, ◌∙◌}
 use mathlib.Core.Bool.{Bool, true, false}
 use mathlib.Core.Logic.{◌⊎◌, inl, inr}
@@ -11,8 +13,6 @@ use Rattle.motion.specs.declared.Counters.{Counters}
 use Rattle.motion.specs.Phase.{moved_all}
 use Rattle.motion.specs.Sound.{counted}
 use Rattle.travel.specs.declared.Travel.{Travel}
-use Rattle.travel.specs.declared.Planned.{Planned}
-use Rattle.travel.specs.declared.Planned.TheVariants as planned
 use Rattle.travel.specs.Next.{Next, pulse_of}
 use Rattle.travel.specs.Next.Next.{Made, Over}
 use Rattle.travel.specs.Plan.{plan_of}
@@ -38,7 +38,7 @@ use Rattle.engine.proofs.laws.Facts.{facts}
 -- ---- a stored movement and a stored circle
 
 -- 103 lets pass what is planned, of either kind
-pub planned-sound : (r : Record) (e : Engine) (m : Travel) → counted e.at ≡ true → planned_by r e ≡ planned.Going m → under_way m e.at ≡ true
+pub planned-sound : (r : Record) (e : Engine) (m : Travel) → counted e.at ≡ true → planned_by r e ≡ Ok m → under_way m e.at ≡ true
 planned-sound r e m h q = by (is_movement r.code) refl
   where
     by : (t : Bool) → is_movement r.code ≡ t → under_way m e.at ≡ true
@@ -52,9 +52,9 @@ both true p q = p
 both false p q = q
 
 module _ (e : Engine) (h : counted e.at ≡ true) where
-  planned-same : (p : Planned) → ((m : Travel) → p ≡ planned.Going m → next_of m e.at ≡ pulse_of m e.at) → moving_by next_of p e ≡ moving_by pulse_of p e
-  planned-same (planned.Going m) f = ap (λ (n : Next). moving n e) (f m refl)
-  planned-same (planned.Refused b) f = refl
+  planned-same : (p : Result Travel Fault) → ((m : Travel) → p ≡ Ok m → next_of m e.at ≡ pulse_of m e.at) → moving_by next_of p e ≡ moving_by pulse_of p e
+  planned-same (Ok m) f = ap (λ (n : Next). moving n e) (f m refl)
+  planned-same (Err b) f = refl
 
   straight-same : (r : Record) → moving_by next_of (plan_of (asked_by r e)) e ≡ moving_by pulse_of (plan_of (asked_by r e)) e
   straight-same r = planned-same (plan_of (asked_by r e)) (λ m q. next-is-pulse m e.at (plan-sound (asked_by r e) m h q))

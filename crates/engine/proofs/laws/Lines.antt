@@ -1,4 +1,6 @@
 -- What lines and control codes do keeps what 103 asks of an engine. Assumes nothing.
+use Rattle.std.specs.Prelude.{Result, Ok, Err}
+use Rattle.count.specs.declared.Fault.{Fault}
 use Prim.Native.Nat.{ℕ, ◌≤◌}
 use mathlib.Core.Path.{◌≡◌, refl}
 use mathlib.Core.Bool.{Bool, true, false}
@@ -13,8 +15,6 @@ use Rattle.circle.specs.declared.Plane.{Plane}
 use Rattle.circle.specs.declared.Direction.{Direction}
 use Rattle.circle.specs.Plan.{circling}
 use Rattle.travel.specs.declared.Travel.{Travel}
-use Rattle.travel.specs.declared.Planned.{Planned}
-use Rattle.travel.specs.declared.Planned.TheVariants as planned
 use Rattle.travel.specs.Next.{left_of}
 use Rattle.travel.specs.Plan.{plan_of, circle_of}
 use Rattle.travel.specs.Sound.{under_way}
@@ -179,13 +179,13 @@ module _ (e : Engine) (h : sound_of e ≡ true) where
         job = q;
       }
 
-  begun-sane : (p : Planned) → ((m : Travel) → p ≡ planned.Going m → under_way m e.at ≡ true) → Sane (begun_by p e).engine
-  begun-sane (planned.Going m) f = by (eqb (left_of m) 0)
+  begun-sane : (p : Result Travel Fault) → ((m : Travel) → p ≡ Ok m → under_way m e.at ≡ true) → Sane (begun_by p e).engine
+  begun-sane (Ok m) f = by (eqb (left_of m) 0)
     where
       by : (q : Bool) → Sane (pick {A = Begun} q (record { engine = e; reply = 48 }) (record { engine = with_job e (job.Direct m); reply = 0 })).engine
       by true = facts e h
       by false = move-sane (job.Direct m) e.at (facts e h).at (f m refl)
-  begun-sane (planned.Refused b) f = facts e h
+  begun-sane (Err b) f = facts e h
 
   pub begin-keeps : (absolute : Bool) (words : List ℕ) → sound_of (begin_of absolute words e).engine ≡ true
   unfolding begin_of

@@ -1,6 +1,7 @@
 -- What the engine answers by what the crates below say on paper: a plan's reply, a pulse, where a record leads, what is found at a
 -- place. Assumes nothing.
-use Rattle.std.specs.Prelude.{Option, Some, None}
+use Rattle.std.specs.Prelude.{Option, Some, None, Result, Ok, Err}
+use Rattle.count.specs.declared.Fault.{Fault}
 use mathlib.Core.Path.{◌≡◌, refl, sym, ap, ◌∙◌}
 use mathlib.Core.Bool.{Bool, true, false, not}
 use mathlib.Core.List.{List, [], ◌∷◌}
@@ -13,8 +14,6 @@ use Rattle.count.specs.Paper.{Paper, says}
 use Rattle.motion.specs.Plan.{asked}
 use Rattle.travel.specs.declared.Travel.{Travel}
 use Rattle.travel.specs.declared.Travel.TheVariants as travel
-use Rattle.travel.specs.declared.Planned.{Planned}
-use Rattle.travel.specs.declared.Planned.TheVariants as planned
 use Rattle.travel.specs.Next.{Next, next_paper}
 use Rattle.travel.specs.Next.Next.{Made, Over}
 use Rattle.travel.specs.Plan.{plan_of, circle_of, travel_paper, planned_paper}
@@ -38,9 +37,9 @@ abbrev pub sent : Paper → Paper
 sent p = says 3 (pos p.number ∷ [])
 
 -- a plan with a pulse to make
-abbrev pub has_pulse : Planned → Bool
-has_pulse (planned.Going m) = not (no_pulse m)
-has_pulse (planned.Refused b) = false
+abbrev pub has_pulse : Result Travel Fault → Bool
+has_pulse (Ok m) = not (no_pulse m)
+has_pulse (Err b) = false
 
 -- what is planned is 0 on paper, of either kind
 going-number : (m : Travel) → (travel_paper m).number ≡ 48
@@ -52,9 +51,9 @@ module _ (e : Engine) where
   begun-by true m = refl
   begun-by false m = refl
 
-  begins : (g : Planned) → (begun_by g e).reply ≡ pick (has_pulse g) 0 (planned_paper g).number
-  begins (planned.Going m) = begun-by (no_pulse m) m ∙ ap (pick (not (no_pulse m)) 0) (sym (going-number m))
-  begins (planned.Refused b) = refl
+  begins : (g : Result Travel Fault) → (begun_by g e).reply ≡ pick (has_pulse g) 0 (planned_paper g).number
+  begins (Ok m) = begun-by (no_pulse m) m ∙ ap (pick (not (no_pulse m)) 0) (sym (going-number m))
+  begins (Err b) = refl
 
   -- A DIRECT MOVEMENT replies what its plan says on paper, but nothing yet if it has a pulse to make
   pub begin-paper : (absolute : Bool) (words : List ℕ)
@@ -70,9 +69,9 @@ module _ (e : Engine) where
   circle-paper words = begins (circle_of e.axes e.circling e.at words)
 
   -- A MOVEMENT OR A CIRCLE OF A PROGRAM that is not 0 on paper sends what it is
-  pub refused-paper : (rule : Rule) (g : Planned) → ((planned_paper g).number ≡ 48 → ⊥) → paper (moving_by rule g e).answer ≡ sent (planned_paper g)
-  refused-paper rule (planned.Going m) n = absurd (n (going-number m))
-  refused-paper rule (planned.Refused b) n = refl
+  pub refused-paper : (rule : Rule) (g : Result Travel Fault) → ((planned_paper g).number ≡ 48 → ⊥) → paper (moving_by rule g e).answer ≡ sent (planned_paper g)
+  refused-paper rule (Ok m) n = absurd (n (going-number m))
+  refused-paper rule (Err b) n = refl
 
   -- A PULSE is answered as the next pulse is on paper: of a direct movement, and of a program's at its record and after it
   pub direct-pulse : (n : Next) → (next_paper n).number ≡ 1 → paper (directly n e).answer ≡ next_paper n

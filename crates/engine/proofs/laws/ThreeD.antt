@@ -1,5 +1,8 @@
 -- z2 stays in 3D: a direct movement and a stored one do the same whatever their z2, if their numbers are right; with A set
 -- there is no z2. Assumes nothing.
+use Rattle.std.specs.Prelude.{Result}
+use Rattle.count.specs.declared.Fault.{Fault}
+use Rattle.travel.specs.declared.Travel.{Travel}
 use mathlib.Core.Path.{◌≡◌, sym, ap, ◌∙◌}
 use mathlib.Core.Bool.{Bool, true, false}
 use mathlib.Core.List.{List}
@@ -8,7 +11,6 @@ use Rattle.count.specs.declared.Axis.TheVariants.{A}
 use Rattle.count.specs.Axes.{has}
 use Rattle.motion.specs.Plan.{Asked, asked}
 use Rattle.motion.proofs.laws.ThreeD.{SameButZ2, with_words, right_asked}
-use Rattle.travel.specs.declared.Planned.{Planned}
 use Rattle.travel.specs.Plan.{plan_of}
 use Rattle.travel.proofs.laws.Plans.{three-plan}
 use Rattle.record.specs.declared.Record.{Record}
@@ -37,7 +39,7 @@ module _ (e : Engine) (three : e.three ≡ true) where
   pub three-begins : (absolute : Bool) (l m : List ℕ) → SameButZ2 l m → has e.axes A ≡ false → right_asked (direct_asked absolute l e) ≡ true → right_asked (direct_asked absolute m e) ≡ true
       → begin_of absolute l e ≡ begin_of absolute m e
   unfolding begin_of
-  three-begins absolute l m s n p q = ap (λ (g : Planned). begun_by g e) (three-plan (direct_asked absolute l e) m s n p q three)
+  three-begins absolute l m s n p q = ap (λ (g : Result Travel Fault). begun_by g e) (three-plan (direct_asked absolute l e) m s n p q three)
 
   -- A STORED MOVEMENT in 3D: two records of the same code that differ in z2 alone
   pub three-performs : (rule : Rule) (r u : Record) → r.code ≡ u.code → is_movement r.code ≡ true → SameButZ2 r.words u.words
@@ -46,5 +48,5 @@ module _ (e : Engine) (three : e.three ≡ true) where
       let v : Asked = stored_asked r e in
       let o : right_asked (with_words v u.words) ≡ true = ap (λ (x : ℕ). right_asked (coded x u e)) c ∙ q in
       movement rule r e k
-      ∙ ap (λ (g : Planned). moving_by rule g e) (three-plan v u.words s n p o three ∙ ap (λ (x : ℕ). plan_of (coded x u e)) c)
+      ∙ ap (λ (g : Result Travel Fault). moving_by rule g e) (three-plan v u.words s n p o three ∙ ap (λ (x : ℕ). plan_of (coded x u e)) c)
       ∙ sym (movement rule u e (ap is_movement (sym c) ∙ k))

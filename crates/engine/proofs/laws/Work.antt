@@ -16,9 +16,6 @@ use Rattle.count.proofs.laws.Laws.{within-up, within-zero}
 use Rattle.count.proofs.laws.Truth.{and_left, and_right}
 use Rattle.motion.specs.declared.Counters.{Counters}
 use Rattle.motion.specs.declared.Signs.{Signs}
-use Rattle.motion.specs.declared.Moved.TheVariants as moved
-use Rattle.motion.specs.declared.Beaten.TheVariants as beat
-use Rattle.motion.specs.declared.Next.TheVariants as straight
 use Rattle.motion.specs.declared.Move.{Move}
 use Rattle.motion.specs.Phase.{moved_all}
 use Rattle.motion.specs.Plan.{asked}
@@ -67,7 +64,7 @@ Adds at Over = Unit
 
 -- of a straight movement, by any rule
 module _ (rule : SignRule) (m : Move) (at : Counters) where
-  straight-by : (t : Bool) (g : Signs) → Adds at (straight_next (pick t (straight.Made (stepped (settled m) at g)) straight.Over))
+  straight-by : (t : Bool) (g : Signs) → Adds at (straight_next (pick t (Some (stepped (settled m) at g)) None))
   straight-by true g = refl
   straight-by false g = tt
 
@@ -79,7 +76,7 @@ module _ (rule : SignRule) (m : Move) (at : Counters) where
 
 -- of an arc
 module _ (a : Arc) (at : Counters) where
-  round_by : (t u : Bool) (g : Signs) → Adds at (arc_next a (pick t (beat_to a g (pick u (moved.To (moved_all at g)) moved.Outside)) beat.Over))
+  round_by : (t u : Bool) (g : Signs) → Adds at (arc_next a (pick t (beat_to a g (pick u (Some (moved_all at g)) None)) None))
   round_by true true g = refl
   round_by true false g = tt
   round_by false u g = tt

@@ -1,6 +1,7 @@
 -- What a clock call does, decided before it is done: `Engine::see`, `Engine::act` and `Engine::under_way` cite it. That doing what was
 -- decided is the clock call of Tick, and that 103's word on it is that of Sound, are the laws `acted-is-ticked` and `seen-wrong`.
-use Rattle.std.specs.Prelude.{Bool, true, false, ◌&&◌, [], leb}
+use Rattle.travel.specs.declared.Travel.{Travel}
+use Rattle.std.specs.Prelude.{Bool, true, false, ◌&&◌, [], leb, Option, Some, None}
 use Rattle.count.specs.Chars.{ch}
 use Rattle.count.specs.Sizes.{store_bytes, most_records}
 use Rattle.count.specs.Pick.{pick}
@@ -23,8 +24,6 @@ use Rattle.engine.specs.declared.Engine.{Engine}
 use Rattle.engine.specs.declared.Told.{Told}
 use Rattle.engine.specs.declared.Act.{Act}
 use Rattle.engine.specs.declared.Act.TheVariants as act
-use Rattle.engine.specs.declared.Under.{Under}
-use Rattle.engine.specs.declared.Under.TheVariants as under
 use Rattle.engine.specs.State.{paper, with_at, with_run, with_job}
 use Rattle.engine.specs.Sound.{axes_known, sound_of}
 use Rattle.engine.specs.Tick.{Rule, Fetching, told, finished, after_pause, fetched}
@@ -32,14 +31,14 @@ use Rattle.engine.specs.Tick.{Rule, Fetching, told, finished, after_pause, fetch
 -- ---- what is under way
 
 -- what moves, if something does
-abbrev pub under_of : Job → Under
-under_of job.Idle = under.Nothing
-under_of job.Storing = under.Nothing
-under_of (job.Direct m) = under.Going m
-under_of job.Ready = under.Nothing
-under_of (job.Moving m) = under.Going m
-under_of (job.Delay q) = under.Nothing
-under_of (job.Wait c t) = under.Nothing
+abbrev pub under_of : Job → Option Travel
+under_of job.Idle = None
+under_of job.Storing = None
+under_of (job.Direct m) = Some m
+under_of job.Ready = None
+under_of (job.Moving m) = Some m
+under_of (job.Delay q) = None
+under_of (job.Wait c t) = None
 
 -- the same movement at another mark
 abbrev pub marked_job : Mark → Job → Job
@@ -67,9 +66,9 @@ abbrev pub pulse_act : Next → Job → Act
 pulse_act (Made s) j = act.Pulse (beat_of s)
 pulse_act Over j = rest_of j
 
-abbrev pub act_under : Rule → Under → Job → Counters → Act
-act_under rule (under.Going m) j at = pulse_act (rule m at) j
-act_under rule under.Nothing j at = rest_of j
+abbrev pub act_under : Rule → Option Travel → Job → Counters → Act
+act_under rule (Some m) j at = pulse_act (rule m at) j
+act_under rule None j at = rest_of j
 
 -- whatever 103 says
 unfoldable pub act_by : Rule → Job → Counters → Act
@@ -81,9 +80,9 @@ look_act look.Wrong j = act.Wrong
 look_act (look.Made b) j = act.Pulse b
 look_act look.Over j = rest_of j
 
-abbrev pub look_under : Under → Job → Counters → Act
-look_under (under.Going m) j at = look_act (look_of m at) j
-look_under under.Nothing j at = rest_of j
+abbrev pub look_under : Option Travel → Job → Counters → Act
+look_under (Some m) j at = look_act (look_of m at) j
+look_under None j at = rest_of j
 
 unfoldable pub look_by : Job → Counters → Act
 look_by j at = look_under (under_of j) j at
@@ -132,6 +131,6 @@ act_paper fetch e (act.Pause q) = says 2 []
 act_paper fetch e act.Finish = paper (answer.Send (ch "0"))
 act_paper fetch e act.Record = paper (fetched next_of (fetch e.run.place) e).answer
 
-abbrev pub under_paper : Under → Paper
-under_paper (under.Going m) = travel_paper m
-under_paper under.Nothing = says 5 []
+abbrev pub under_paper : Option Travel → Paper
+under_paper (Some m) = travel_paper m
+under_paper None = says 5 []

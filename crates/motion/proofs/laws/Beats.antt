@@ -1,4 +1,5 @@
 -- The laws of a pulse without the movement: what is left of a movement is told by its mark. Assumes nothing.
+use Rattle.std.specs.Prelude.{Option, Some, None}
 use Prim.Native.Nat.{ℕ, ◌<◌, ◌+◌}
 use mathlib.Core.Path.{◌≡◌, refl, ap, sym, ◌∙◌}
 use mathlib.Core.Bool.{Bool, true, false}
@@ -14,12 +15,8 @@ use Rattle.motion.specs.declared.Signs.{Signs}
 use Rattle.motion.specs.declared.Move.{Move}
 use Rattle.motion.specs.declared.Mark.{Mark}
 use Rattle.motion.specs.declared.Beat.{Beat}
-use Rattle.motion.specs.declared.Beaten.{Beaten}
-use Rattle.motion.specs.declared.Beaten.TheVariants as beat
 use Rattle.motion.specs.declared.Look.TheVariants as look
 use Rattle.motion.specs.declared.Stepped.{Stepped}
-use Rattle.motion.specs.declared.Next.{Next}
-use Rattle.motion.specs.declared.Next.TheVariants.{Over, Made}
 use Rattle.motion.specs.Axes.{on}
 use Rattle.motion.specs.Next.{from_of, to_of, leg, at_phase, skipped, settled, signs_by, stepped}
 use Rattle.motion.specs.work.Here.{sign_here, next_of, within_of}
@@ -89,8 +86,8 @@ module _ (m : Move) {k : Mark} (e : k ≡ mark_of m) where
   settled_on p q r =
       rw (r, q, p, e) (rw (skip-marked m m refl) (rw (skip-marked m (skipped m) (skip-marked m m refl)) refl))
 
-within_by : (m n : Move) (at : Counters) (s : Signs) (b : Bool) → Marked m n → next_back m (beaten (pick b (Made (stepped n at s)) Over)) ≡ pick b (Made (stepped n at s)) Over
-within_by m n at s true e = ap (λ (x : Move). Made (record { signs = s; speed = (stepped n at s).speed; at = (stepped n at s).at; rest = at_phase x n.phase (n.made + 1) })) e
+within_by : (m n : Move) (at : Counters) (s : Signs) (b : Bool) → Marked m n → next_back m (beaten (pick b (Some (stepped n at s)) None)) ≡ pick b (Some (stepped n at s)) None
+within_by m n at s true e = ap (λ (x : Move). Some (record { signs = s; speed = (stepped n at s).speed; at = (stepped n at s).at; rest = at_phase x n.phase (n.made + 1) })) e
 within_by m n at s false e = refl
 
 -- A PULSE WITH THE MOVEMENT is the pulse without it, and the movement at its mark
@@ -102,46 +99,46 @@ pub next-back : (m : Move) (at : Counters) → next_back m (beaten (next_of m at
 next-back m at = rw (next-settled m at) (within-back m (settled m) at (settled-marked m))
 
 -- the next pulse is that after the settled mark
-pub beaten-settled : (m : Move) (at : Counters) {k : Mark} {b : Beaten} → k ≡ mark_of (settled m) → b ≡ beaten (within_of (at_mark m k) at) → b ≡ beaten (next_of m at)
+pub beaten-settled : (m : Move) (at : Counters) {k : Mark} {b : Option Beat} → k ≡ mark_of (settled m) → b ≡ beaten (within_of (at_mark m k) at) → b ≡ beaten (next_of m at)
 beaten-settled m at e p = rw (p, e, settled-marked m, next-settled m at)
 
 -- what is left of a movement after its next pulse
-abbrev rest_of : Move → Next → Move
-rest_of m (Made t) = t.rest
-rest_of m Over = m
+abbrev rest_of : Move → Option Stepped → Move
+rest_of m (Some t) = t.rest
+rest_of m None = m
 
-rest-by : (m : Move) (n : Next) (s : Stepped) → next_back m (beaten n) ≡ n → n ≡ Made s → Marked m s.rest
-rest-by m n s e p = ap (rest_of m) (sym (ap (λ (x : Next). next_back m (beaten x)) p) ∙ e ∙ p)
+rest-by : (m : Move) (n : Option Stepped) (s : Stepped) → next_back m (beaten n) ≡ n → n ≡ Some s → Marked m s.rest
+rest-by m n s e p = ap (rest_of m) (sym (ap (λ (x : Option Stepped). next_back m (beaten x)) p) ∙ e ∙ p)
 
-pub next-rest : (m : Move) (at : Counters) (s : Stepped) → next_of m at ≡ Made s → Marked m s.rest
+pub next-rest : (m : Move) (at : Counters) (s : Stepped) → next_of m at ≡ Some s → Marked m s.rest
 next-rest m at s p = rest-by m (next_of m at) s (next-back m at) p
 
 -- ---- a phase with a pulse left makes the movement's next
 
 pub next_here : (m : Move) (at : Counters) → m.made < leg m
-    → next_of m at ≡ Made (stepped m at (signs_by sign_here at (from_of m) (to_of m) m.made (leg m)))
+    → next_of m at ≡ Some (stepped m at (signs_by sign_here at (from_of m) (to_of m) m.made (leg m)))
 unfolding within_of
 next_here m at h = next-settled m at ∙ ap (λ (x : Move). within_of x at) (settled_here m h) ∙ rw (lt-ltb m.made (leg m) h)
 
 -- ---- a pulse without the movement is the movement's next, or there is none
 
-pub record Hit (n : Next) (b : Beat) : Type 0 where
+pub record Hit (n : Option Stepped) (b : Beat) : Type 0 where
   pub step : Stepped
-  pub is : n ≡ Made step
+  pub is : n ≡ Some step
   pub same : b ≡ beat_of step
 
-pub hit : (n : Next) (b : Beat) {x : Beaten} → x ≡ beaten n → x ≡ beat.Made b → Hit n b
-hit (Made s) b e p = record { step = s; is = refl; same = let q : beat.Made (beat_of s) ≡ beat.Made b = sym e ∙ p in cc }
-hit Over b e p = let z : ◌≡◌ {A = ℕ} 0 1 = cc in absurd (omega arith)
+pub hit : (n : Option Stepped) (b : Beat) {x : Option Beat} → x ≡ beaten n → x ≡ Some b → Hit n b
+hit (Some s) b e p = record { step = s; is = refl; same = let q : Some (beat_of s) ≡ Some b = sym e ∙ p in cc }
+hit None b e p = let z : ◌≡◌ {A = ℕ} 0 1 = cc in absurd (omega arith)
 
-pub missed : (n : Next) {x : Beaten} → x ≡ beaten n → x ≡ beat.Over → n ≡ Over
-missed (Made s) e p = let z : ◌≡◌ {A = ℕ} 0 1 = cc in absurd (omega arith)
-missed Over e p = refl
+pub missed : (n : Option Stepped) {x : Option Beat} → x ≡ beaten n → x ≡ None → n ≡ None
+missed (Some s) e p = let z : ◌≡◌ {A = ℕ} 0 1 = cc in absurd (omega arith)
+missed None e p = refl
 
 -- and so at a look
-module _ (n : Next) {x : Beaten} (e : x ≡ beaten n) where
-  pub looked-made : (b : Beat) → x ≡ beat.Made b → look.Made b ≡ looked_by n
+module _ (n : Option Stepped) {x : Option Beat} (e : x ≡ beaten n) where
+  pub looked-made : (b : Beat) → x ≡ Some b → look.Made b ≡ looked_by n
   looked-made b p = let g = hit n b e p in ap look.Made g.same ∙ sym (ap looked_by g.is)
 
-  pub looked-over : x ≡ beat.Over → look.Over ≡ looked_by n
+  pub looked-over : x ≡ None → look.Over ≡ looked_by n
   looked-over p = sym (ap looked_by (missed n e p))

@@ -1,5 +1,6 @@
 -- The laws of the next pulse: both rules agree on a movement that passes the test of 103, a pulse keeps that it passes, and lowers the
 -- number of pulses left by one. Assumes nothing.
+use Rattle.std.specs.Prelude.{Option, Some, None}
 use mathlib.Core.Path.{◌≡◌, refl, sym, ap, ◌∙◌}
 use mathlib.Core.Bool.{Bool, true, false}
 use Prim.Native.Nat.{ℕ, ◌+◌, ◌≤◌, ◌<◌}
@@ -15,8 +16,6 @@ use Rattle.motion.specs.declared.Sign.{Sign}
 use Rattle.motion.specs.declared.Signs.{Signs}
 use Rattle.motion.specs.declared.Move.{Move}
 use Rattle.motion.specs.declared.Stepped.{Stepped}
-use Rattle.motion.specs.declared.Next.{Next}
-use Rattle.motion.specs.declared.Next.TheVariants.{Made, Over}
 use Rattle.motion.specs.work.Here.{sign_here}
 use Rattle.motion.specs.Axes.{on, shows, pulse}
 use Rattle.motion.specs.Phase.{sign_at, count_after, moved, moved_all}
@@ -36,30 +35,30 @@ use Rattle.motion.proofs.laws.Skip.{Stood, stood_settled, settled-past, leg-past
 abbrev pub pulse_by : SignRule → Move → Counters → Stepped
 pulse_by rule m at = stepped m at (signs_by rule at (from_of m) (to_of m) m.made (leg m))
 
-never : {A : Type 0} {s : Stepped} → Over ≡ Made s → A
+never : {A : Type 0} {s : Stepped} → None ≡ Some s → A
 never p = let z : ◌≡◌ {A = ℕ} 0 1 = cc in absurd (omega arith)
 
-never' : {A : Type 0} {s : Stepped} → Made s ≡ Over → A
+never' : {A : Type 0} {s : Stepped} → Some s ≡ None → A
 never' p = let z : ◌≡◌ {A = ℕ} 0 1 = cc in absurd (omega arith)
 
-made_by : (t : Bool) (p s : Stepped) → pick t (Made p) Over ≡ Made s → (t ≡ true) × (s ≡ p)
+made_by : (t : Bool) (p s : Stepped) → pick t (Some p) None ≡ Some s → (t ≡ true) × (s ≡ p)
 made_by true p s e = (refl, cc)
 made_by false p s e = never e
 
-over_by : (t : Bool) (p : Stepped) → pick t (Made p) Over ≡ Over → t ≡ false
+over_by : (t : Bool) (p : Stepped) → pick t (Some p) None ≡ None → t ≡ false
 over_by true p e = never' e
 over_by false p e = refl
 
 module _ (rule : SignRule) (m : Move) (at : Counters) where
   -- a pulse made is the next of the phase that has one left
-  pub made-is : {s : Stepped} → next_by rule m at ≡ Made s → ((settled m).made < leg (settled m)) × (s ≡ pulse_by rule (settled m) at)
+  pub made-is : {s : Stepped} → next_by rule m at ≡ Some s → ((settled m).made < leg (settled m)) × (s ≡ pulse_by rule (settled m) at)
   unfolding next_by
   made-is {s} e =
       let b = made_by (ltb (settled m).made (leg (settled m))) (pulse_by rule (settled m) at) s e in
       (ltb-true (settled m).made (leg (settled m)) b.0, b.1)
 
   -- and none is left where no phase has one
-  pub over-is : next_by rule m at ≡ Over → leg (settled m) ≤ (settled m).made
+  pub over-is : next_by rule m at ≡ None → leg (settled m) ≤ (settled m).made
   unfolding next_by
   over-is e = ltb-false (settled m).made (leg (settled m)) (over_by (ltb (settled m).made (leg (settled m))) (pulse_by rule (settled m) at) e)
 
@@ -71,27 +70,27 @@ left_step m h = omega arith
 
 module _ (rule : SignRule) (m : Move) (at : Counters) where
   -- a pulse lowers their number by one
-  pub left-made : {s : Stepped} → next_by rule m at ≡ Made s → left_of m ≡ left_of s.rest + 1
+  pub left-made : {s : Stepped} → next_by rule m at ≡ Some s → left_of m ≡ left_of s.rest + 1
   left-made e =
       let b = made-is rule m at e in
       rw b.1 (sym (left-settled m) ∙ left_step (settled m) b.0)
 
   -- none is left where none is made
-  pub left_over : next_by rule m at ≡ Over → left_of m ≡ 0
+  pub left_over : next_by rule m at ≡ None → left_of m ≡ 0
   left_over e = sym (left-settled m) ∙ left-past (settled m) (settled-past m (over-is rule m at e))
 
 -- whether a pulse is made
-abbrev pub is_made : Next → Bool
-is_made (Made s) = true
-is_made Over = false
+abbrev pub is_made : Option Stepped → Bool
+is_made (Some s) = true
+is_made None = false
 
 -- exactly if one is left
 pub left-next : (rule : SignRule) (m : Move) (at : Counters) → is_made (next_by rule m at) ≡ ltb 0 (left_of m)
 left-next rule m at = by (next_by rule m at) refl
   where
-    by : (n : Next) → next_by rule m at ≡ n → is_made n ≡ ltb 0 (left_of m)
-    by (Made s) e = sym (lt-ltb 0 (left_of m) (omega (arith, left-made rule m at e)))
-    by Over e = sym (le-ltb 0 (left_of m) (omega (arith, left_over rule m at e)))
+    by : (n : Option Stepped) → next_by rule m at ≡ n → is_made n ≡ ltb 0 (left_of m)
+    by (Some s) e = sym (lt-ltb 0 (left_of m) (omega (arith, left-made rule m at e)))
+    by None e = sym (le-ltb 0 (left_of m) (omega (arith, left_over rule m at e)))
 
 -- ---- one axis that stands where the pulse number puts it
 
@@ -173,9 +172,9 @@ unfolding next_of pulse_of next_by
 next-is-pulse m at u = by (ltb (settled m).made (leg (settled m))) refl
   where
     by : (t : Bool) → ltb (settled m).made (leg (settled m)) ≡ t
-        → pick t (Made (pulse_by sign_here (settled m) at)) Over ≡ pick t (Made (pulse_by formula (settled m) at)) Over
+        → pick t (Some (pulse_by sign_here (settled m) at)) None ≡ pick t (Some (pulse_by formula (settled m) at)) None
     by true e =
-        ap (λ (g : Signs). Made (stepped (settled m) at g))
+        ap (λ (g : Signs). Some (stepped (settled m) at g))
         (agrees (settled m) at (stood_settled m at (stood m at u)) (ltb-true (settled m).made (leg (settled m)) e))
     by false e = refl
 
@@ -189,7 +188,7 @@ pub record Taken (m : Move) (at : Counters) (s : Stepped) : Type 0 where
   pub small : counted s.at ≡ true
   pub left : left_of m ≡ left_of s.rest + 1
 
-pub taken : (m : Move) (at : Counters) {s : Stepped} → under_way m at ≡ true → pulse_of m at ≡ Made s → Taken m at s
+pub taken : (m : Move) (at : Counters) {s : Stepped} → under_way m at ≡ true → pulse_of m at ≡ Some s → Taken m at s
 unfolding pulse_of
 taken m at u e =
     let b = made-is formula m at e in
@@ -208,6 +207,6 @@ taken m at u e =
     })
 
 -- next pulse keeps that a movement passes, and the counters of 24 bits
-pub next-keeps : (m : Move) (at : Counters) {s : Stepped} → under_way m at ≡ true → next_of m at ≡ Made s
+pub next-keeps : (m : Move) (at : Counters) {s : Stepped} → under_way m at ≡ true → next_of m at ≡ Some s
     → (under_way s.rest s.at ≡ true) × (counted s.at ≡ true)
 next-keeps m at u e = let t = taken m at u (sym (next-is-pulse m at u) ∙ e) in (t.sound, t.small)

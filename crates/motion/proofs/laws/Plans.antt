@@ -1,4 +1,5 @@
 -- The laws of a plan: its resting points lie in 24 bits, its speeds in range. Assumes nothing.
+use Rattle.std.specs.Prelude.{Option, Some, None}
 use mathlib.Core.Path.{◌≡◌, refl, sym, ◌∙◌}
 use mathlib.Core.Bool.{Bool, true, false, ◌&&◌, ◌||◌, not}
 use mathlib.Core.List.{List}
@@ -16,13 +17,9 @@ use Rattle.count.specs.declared.Axis.TheVariants.{X, Y, Z, A}
 use Rattle.count.specs.Axes.{has, on_all}
 use Rattle.count.specs.Ranges.{in_speed, nth, one_pair, two_pairs, four_pairs, right_distances, right_speeds}
 use Rattle.count.proofs.laws.Laws.{within-up}
-use Rattle.count.specs.declared.Placed.{Placed}
-use Rattle.count.specs.declared.Placed.TheVariants as placed
 use Rattle.count.proofs.laws.Truth.{never, and_left, and_right}
 use Rattle.motion.specs.declared.Counters.{Counters}
 use Rattle.motion.specs.declared.Move.{Move}
-use Rattle.motion.specs.declared.Planned.{Planned}
-use Rattle.motion.specs.declared.Planned.TheVariants.{Going, Outside}
 use Rattle.motion.specs.Axes.{on, point}
 use Rattle.motion.specs.Plan.{Asked, asked, goal, slot, goal_of, goal_z2, moves_z2, on_from, first_speed, later_speed, phase_of, resting_at, with_z, route, lies, count_of, going_to, plan_of}
 use Rattle.motion.specs.Next.{from_of, to_of}
@@ -35,15 +32,15 @@ use Rattle.motion.proofs.laws.Passed.{Passed, passes, in24-of}
 -- ---- resting points
 
 -- a place that is in 24 bits, or none
-abbrev pub Fits : Placed → Type 0
-Fits (placed.At c) = c < full
-Fits placed.Outside = 0 ≤ 0
+abbrev pub Fits : Option ℕ → Type 0
+Fits (Some c) = c < full
+Fits None = 0 ≤ 0
 
 count_fits : (z : ℤ) → le_z z (pos 8388607) ≡ true → count z < full
 count_fits (pos n) e = omega (arith, leb-true n 8388607 e)
 count_fits (negsuc n) e = omega arith
 
-place-by : (t : Bool) (z : ℤ) → in24 z ≡ t → Fits (pick t (placed.At (count z)) placed.Outside)
+place-by : (t : Bool) (z : ℤ) → in24 z ≡ t → Fits (pick t (Some (count z)) None)
 unfolding in24 within
 place-by true z e = count_fits z (and_right (le_z (negsuc 8388607) z) (le_z z (pos 8388607)) e)
 place-by false z e = omega arith
@@ -52,7 +49,7 @@ pub added-fits : (c w : ℕ) → Fits (added c w)
 unfolding added place_of
 added-fits c w = place-by (in24 (value c +ℤ signed w)) (value c +ℤ signed w) refl
 
-pick-fits : (t : Bool) (a b : Placed) → Fits a → Fits b → Fits (pick t a b)
+pick-fits : (t : Bool) (a b : Option ℕ) → Fits a → Fits b → Fits (pick t a b)
 pick-fits true a b p q = p
 pick-fits false a b p q = q
 
@@ -60,15 +57,15 @@ goal-fits : (t : Bool) (at o w : ℕ) → Fits (goal t at o w)
 unfolding goal
 goal-fits t at o w = pick-fits t (added o w) (added at w) (added-fits o w) (added-fits at w)
 
-on_fits : (p : Placed) (w : ℕ) → Fits p → Fits (on_from p w)
-on_fits (placed.At c) w h = added-fits c w
-on_fits placed.Outside w h = h
+on_fits : (p : Option ℕ) (w : ℕ) → Fits p → Fits (on_from p w)
+on_fits (Some c) w h = added-fits c w
+on_fits None w h = h
 
 module _ (q : Asked) (h : In24 q.at) where
   pub fits_on : (i : Axis) → Fits (goal_of q i)
   unfolding goal_of
   fits_on i =
-      pick-fits (has q.axes i) _ (placed.At (on i q.at))
+      pick-fits (has q.axes i) _ (Some (on i q.at))
       (goal-fits q.absolute (on i q.at) (on i q.origin) (get_or q.words (slot q.axes i) 0)) (h.each i)
 
   pub fits-z2 : Fits (goal_z2 q)
@@ -76,9 +73,9 @@ module _ (q : Asked) (h : In24 q.at) where
   fits-z2 = pick-fits (moves_z2 q) _ (goal_of q Z) (on_fits (goal_of q Z) (get_or q.words 6 0) (fits_on Z)) (fits_on Z)
 
 -- its count is of 24 bits
-fits_count : (p : Placed) → Fits p → count_of p < full
-fits_count (placed.At c) h = h
-fits_count placed.Outside h = omega arith
+fits_count : (p : Option ℕ) → Fits p → count_of p < full
+fits_count (Some c) h = h
+fits_count None h = omega arith
 
 -- ---- speeds
 
@@ -177,7 +174,7 @@ module _ (q : Asked) (h : right_speeds q.axes q.words ≡ true) where
 
 -- ---- a planned movement passes the test of 103 where it was planned
 
-not_going : {A : Type 0} {m : Move} → Outside ≡ Going m → A
+not_going : {A : Type 0} {m : Move} → None ≡ Some m → A
 not_going p = let z : ◌≡◌ {A = ℕ} 0 1 = cc in absurd (omega arith)
 
 -- the goals and the end of z2 as counts, and the plan by whether all of them lie in 24 bits
@@ -230,27 +227,27 @@ module _ (q : Asked) (h : In24 q.at) (v : right_speeds q.axes q.words ≡ true) 
     stands = λ i. sym (count-first _ _ _);
   }
 
-planned-by : (t : Bool) (p : Planned) {m : Move} → pick t p Outside ≡ Going m → (t ≡ true) × (p ≡ Going m)
+planned-by : (t : Bool) (p : Option Move) {m : Move} → pick t p None ≡ Some m → (t ≡ true) × (p ≡ Some m)
 planned-by true p e = (refl, e)
 planned-by false p e = not_going e
 
 -- a plan is the movement to its goals
-pub planned-route : (q : Asked) (m : Move) → plan_of q ≡ Going m → (right_speeds q.axes q.words ≡ true) × (route_of q ≡ m)
+pub planned-route : (q : Asked) (m : Move) → plan_of q ≡ Some m → (right_speeds q.axes q.words ≡ true) × (route_of q ≡ m)
 unfolding plan_of going_to
 planned-route q m e =
     let d = right_distances q.axes q.absolute q.words in
     let b = planned-by (d && right_speeds q.axes q.words) (going_to q) e in
-    let g = (planned-by (all_lie q) (Going (route_of q)) b.1).1 in
+    let g = (planned-by (all_lie q) (Some (route_of q)) b.1).1 in
     (and_right d (right_speeds q.axes q.words) b.0, cc)
 
 -- one planned from counters of 24 bits, whatever the origins
-pub plan-sound : (q : Asked) (m : Move) → counted q.at ≡ true → plan_of q ≡ Going m → under_way m q.at ≡ true
+pub plan-sound : (q : Asked) (m : Move) → counted q.at ≡ true → plan_of q ≡ Some m → under_way m q.at ≡ true
 plan-sound q m c e =
     let b = planned-route q m e in
     rw (← b.1) (passes (route_of q) q.at (route-passes q (in24-of q.at c) b.0))
 
 -- which starts at its first pulse, where the counters stand
-pub planned-first : (q : Asked) (m : Move) → plan_of q ≡ Going m → (m.phase ≡ 0) × (m.made ≡ 0) × (m.start ≡ q.at)
+pub planned-first : (q : Asked) (m : Move) → plan_of q ≡ Some m → (m.phase ≡ 0) × (m.made ≡ 0) × (m.start ≡ q.at)
 unfolding route
 planned-first q m e = rw (← (planned-route q m e).1) (refl, refl, refl)
 

@@ -1,4 +1,5 @@
 -- One pulse on the counters: where each has a step left, there is room for the sign, and the counters after it are of 24 bits. Assumes nothing.
+use Rattle.std.specs.Prelude.{Some, None}
 use mathlib.Core.Path.{◌≡◌, refl, sym}
 use mathlib.Core.Bool.{Bool, true, false, ◌&&◌}
 use Prim.Native.Nat.{ℕ, ◌+◌, ◌<◌}
@@ -12,7 +13,6 @@ use Rattle.motion.specs.declared.Counters.{Counters}
 use Rattle.motion.specs.declared.Signs.{Signs}
 use Rattle.motion.specs.declared.Sign.{Sign}
 use Rattle.motion.specs.declared.Sign.TheVariants.{Minus, Rest, Plus}
-use Rattle.motion.specs.declared.Moved.TheVariants.{To, Outside}
 use Rattle.motion.specs.Axes.{on, shows}
 use Rattle.motion.specs.Phase.{moved, moved_all}
 use Rattle.motion.specs.Pulse.{has_step, have_steps, step_to}
@@ -54,7 +54,7 @@ module _ (c : Counters) (s : Signs) (h : have_steps c s ≡ true) where
 
 -- ---- the step
 
-pub step-made : (c : Counters) (s : Signs) → have_steps c s ≡ true → step_to c s ≡ To (moved_all c s)
+pub step-made : (c : Counters) (s : Signs) → have_steps c s ≡ true → step_to c s ≡ Some (moved_all c s)
 unfolding step_to
 step-made c s h = rw h
 
@@ -63,10 +63,10 @@ module _ (c : Counters) (s : Signs) {x y z a : Bool} (p : x ≡ has_step c.x s.x
   pub tested : x && y && z && a ≡ have_steps c s
   tested = rw (p, q, r, t)
 
-  pub to_made : {d : Counters} → x && y && z && a ≡ true → d ≡ moved_all c s → To d ≡ step_to c s
+  pub to_made : {d : Counters} → x && y && z && a ≡ true → d ≡ moved_all c s → Some d ≡ step_to c s
   unfolding step_to
   to_made h e = rw (e, sym tested, h)
 
-  pub to_none : x && y && z && a ≡ false → Outside ≡ step_to c s
+  pub to_none : x && y && z && a ≡ false → None ≡ step_to c s
   unfolding step_to
   to_none h = rw (sym tested, h)

@@ -1,5 +1,6 @@
 -- z2 stays in 3D: two movements asked for whose numbers are right and differ in z2 alone have the same plan, so the same pulses with the
 -- same speeds and the same end. The same holds of absolute movement. With A set there is no z2. Assumes nothing.
+use Rattle.std.specs.Prelude.{Some, None}
 use mathlib.Core.Path.{◌≡◌, refl, sym, ap, ◌∙◌}
 use mathlib.Core.Bool.{Bool, true, false, ◌&&◌, not}
 use mathlib.Core.List.{List}
@@ -13,10 +14,8 @@ use Rattle.count.specs.declared.Axis.{Axis}
 use Rattle.count.specs.declared.Axis.TheVariants.{X, Y, Z, A}
 use Rattle.count.specs.Axes.{has, on_all}
 use Rattle.count.specs.Ranges.{right_distances, right_speeds}
-use Rattle.count.specs.declared.Placed.TheVariants as placed
 use Rattle.motion.specs.declared.Counters.{Counters}
 use Rattle.motion.specs.declared.Move.{Move}
-use Rattle.motion.specs.declared.Planned.TheVariants.{Going, Outside}
 use Rattle.motion.specs.Axes.{point}
 use Rattle.motion.specs.Plan.{Asked, asked, goal, goal_of, goal_z2, moves_z2, on_from, first_speed, later_speed, resting_at, with_z, route, lies, count_of, going_to, plan_of}
 use Rattle.motion.proofs.laws.Whole.{all_pulses}
@@ -35,7 +34,7 @@ right_asked q = right_distances q.axes q.absolute q.words && right_speeds q.axes
 
 plan-right : (q : Asked) → right_asked q ≡ true → plan_of q ≡ going_to q
 unfolding plan_of
-plan-right q e = ap (λ (b : Bool). pick b (going_to q) Outside) e
+plan-right q e = ap (λ (b : Bool). pick b (going_to q) None) e
 
 still-three : (a c : Bool) → a && not true && c ≡ false
 still-three true c = refl
@@ -82,9 +81,9 @@ module _ (q : Asked) (m : List ℕ) (s : SameButZ2 q.words m) (no : has q.axes A
 
   goal-same : (i : Axis) → goal_of q i ≡ goal_of (with_words q m) i
   unfolding goal_of
-  goal-same X = λ j. pick (has q.axes X) (goal q.absolute q.at.x q.origin.x (w0 j)) (placed.At q.at.x)
-  goal-same Y = λ j. pick (has q.axes Y) (goal q.absolute q.at.y q.origin.y (w2 j)) (placed.At q.at.y)
-  goal-same Z = λ j. pick (has q.axes Z) (goal q.absolute q.at.z q.origin.z (w4 j)) (placed.At q.at.z)
+  goal-same X = λ j. pick (has q.axes X) (goal q.absolute q.at.x q.origin.x (w0 j)) (Some q.at.x)
+  goal-same Y = λ j. pick (has q.axes Y) (goal q.absolute q.at.y q.origin.y (w2 j)) (Some q.at.y)
+  goal-same Z = λ j. pick (has q.axes Z) (goal q.absolute q.at.z q.origin.z (w4 j)) (Some q.at.z)
   goal-same A = rw no
 
   z2-same : moves_z2 q ≡ false → goal_z2 q ≡ goal_z2 (with_words q m)
@@ -115,7 +114,7 @@ module _ (q : Asked) (m : List ℕ) (s : SameButZ2 q.words m) (no : has q.axes A
   going-same : moves_z2 q ≡ false → going_to q ≡ going_to (with_words q m)
   unfolding going_to
   going-same n = λ j. pick (on_all (λ i. lies (goal-same i j)) && lies (z2-same n j))
-      (Going (route-same (point (λ i. count_of (goal-same i j))) (count_of (z2-same n j)) j)) Outside
+      (Some (route-same (point (λ i. count_of (goal-same i j))) (count_of (z2-same n j)) j)) None
 
   module _ (p : right_asked q ≡ true) (r : right_asked (with_words q m) ≡ true) where
     pub still-plan : moves_z2 q ≡ false → plan_of q ≡ plan_of (with_words q m)
@@ -130,7 +129,7 @@ module _ (q : Asked) (m : List ℕ) (s : SameButZ2 q.words m) (no : has q.axes A
     absolute-plan e = still-plan (absolute-still q e)
 
     -- so every pulse, its speed and where it leads are the same, and the last resting point
-    pub three-pulses : (f g : Move) → q.three ≡ true → plan_of q ≡ Going f → plan_of (with_words q m) ≡ Going g
+    pub three-pulses : (f g : Move) → q.three ≡ true → plan_of q ≡ Some f → plan_of (with_words q m) ≡ Some g
         → (all_pulses f q.at ≡ all_pulses g q.at) × (f.third ≡ g.third)
     three-pulses f g e a b =
         let c = three-plan e in

@@ -1,4 +1,5 @@
 -- The whole movement: its pulses one after another, their number and their sum. Assumes nothing.
+use Rattle.std.specs.Prelude.{Option, Some, None}
 use mathlib.Core.Path.{◌≡◌, refl, sym, ap, ◌∙◌}
 use mathlib.Core.Bool.{true}
 use mathlib.Core.List.{List, [], ◌∷◌}
@@ -15,9 +16,6 @@ use Rattle.motion.specs.declared.Sign.{Sign}
 use Rattle.motion.specs.declared.Sign.TheVariants.{Minus, Rest, Plus}
 use Rattle.motion.specs.declared.Move.{Move}
 use Rattle.motion.specs.declared.Stepped.{Stepped}
-use Rattle.motion.specs.declared.Next.{Next}
-use Rattle.motion.specs.declared.Next.TheVariants.{Made, Over}
-use Rattle.motion.specs.declared.Planned.TheVariants.{Going}
 use Rattle.motion.specs.Axes.{on, shows}
 use Rattle.motion.specs.Phase.{most, pulses, count_after, moved, sign_value}
 use Rattle.motion.specs.Plan.{Asked, plan_of}
@@ -50,7 +48,7 @@ at-resting-point m at u e =
 
 pub no-guard : (m : Move) (at : Counters) → under_way m at ≡ true
     → (pulses m.start m.first ≡ most m.start m.first) × (pulses m.first m.second ≡ most m.first m.second)
-    × (pulses m.second m.third ≡ most m.second m.third) × ((s : Stepped) → next_of m at ≡ Made s → HasRoom at s.signs)
+    × (pulses m.second m.third ≡ most m.second m.third) × ((s : Stepped) → next_of m at ≡ Some s → HasRoom at s.signs)
 no-guard m at u =
     let r = (passed m at u).ranges in (
       pulses-most m.start m.first r.start r.first,
@@ -61,9 +59,9 @@ no-guard m at u =
 
 -- ---- the pulses of a movement one after another, k at most
 
-abbrev pub pulse_then : (Move → Counters → List Stepped) → Next → List Stepped
-pulse_then f (Made s) = s ∷ f s.rest s.at
-pulse_then f Over = []
+abbrev pub pulse_then : (Move → Counters → List Stepped) → Option Stepped → List Stepped
+pulse_then f (Some s) = s ∷ f s.rest s.at
+pulse_then f None = []
 
 unfoldable pub pulses_of : ℕ → Move → Counters → List Stepped
 pulses_of zero m at = []
@@ -90,7 +88,7 @@ value-moved c Rest h = sym (+ℤ_idr (value c))
 value-moved c Plus h = sym (sub-plus c half 1)
 
 -- no pulse left: the counters are the last resting point
-pub at_rest : (m : Move) (at : Counters) → under_way m at ≡ true → pulse_of m at ≡ Over → at ≡ m.third
+pub at_rest : (m : Move) (at : Counters) → under_way m at ≡ true → pulse_of m at ≡ None → at ≡ m.third
 unfolding pulse_of
 at_rest m at u e =
     let t = settled m in
@@ -116,14 +114,14 @@ axis-sum at there third g rest h e p =
     sym (+ℤ_assoc (value at) (sign_value g) rest) ∙ ap (λ (v : ℤ). v +ℤ rest) (sym (value-moved at g h) ∙ ap (λ (c : ℕ). value c) (sym e)) ∙ p
 
 -- where none is made, none is left
-pub over-left : (m : Move) (at : Counters) → pulse_of m at ≡ Over → left_of m ≡ 0
+pub over-left : (m : Move) (at : Counters) → pulse_of m at ≡ None → left_of m ≡ 0
 unfolding pulse_of
 over-left m at e = left_over formula m at e
 
 module _ (k : ℕ) (rec : (m : Move) (at : Counters) → under_way m at ≡ true → left_of m ≡ k → Whole k m at) (m : Move) (at : Counters) (u : under_way m at ≡ true) (l : left_of m ≡ suc k) where
-  one_more : (n : Next) → pulse_of m at ≡ n → Whole (suc k) m at
+  one_more : (n : Option Stepped) → pulse_of m at ≡ n → Whole (suc k) m at
   unfolding pulses_of
-  one_more (Made s) e =
+  one_more (Some s) e =
       let t = taken m at u e in
       let w = rec s.rest s.at t.sound (omega (arith, t.left)) in
       let v = t.third in
@@ -134,16 +132,16 @@ module _ (k : ℕ) (rec : (m : Move) (at : Counters) → under_way m at ≡ true
             (axis-sum (on i at) (on i s.at) (on i m.third) (shows i s.signs) _ (each_at (λ (o : Axis). RoomFor (on o at) (shows o s.signs)) t.rooms i)
             (ap (λ (c : Counters). on i c) t.there ∙ on-moved at s.signs i) (w.sums i ∙ ap (λ (c : Counters). value (on i c)) v));
       }
-  one_more Over e = absurd (omega (arith, over-left m at e))
+  one_more None e = absurd (omega (arith, over-left m at e))
 
 -- where none is left, none is made
-pub none_left : (m : Move) (at : Counters) → left_of m ≡ 0 → pulse_of m at ≡ Over
+pub none_left : (m : Move) (at : Counters) → left_of m ≡ 0 → pulse_of m at ≡ None
 unfolding pulse_of
 none_left m at l = by (pulse_of m at) refl
   where
-    by : (n : Next) → pulse_of m at ≡ n → n ≡ Over
-    by (Made s) e = absurd (omega (arith, left-made formula m at e))
-    by Over e = refl
+    by : (n : Option Stepped) → pulse_of m at ≡ n → n ≡ None
+    by (Some s) e = absurd (omega (arith, left-made formula m at e))
+    by None e = refl
 
 whole_from : (k : ℕ) (m : Move) (at : Counters) → under_way m at ≡ true → left_of m ≡ k → Whole k m at
 unfolding pulses_of
@@ -161,10 +159,10 @@ whole m at u = whole_from (left_of m) m at u refl
 
 -- and there are no more: asked for any number beyond those left, a movement makes those left
 module _ (j k : ℕ) (rec : (m : Move) (at : Counters) → left_of m ≡ k → pulses_of (k + j) m at ≡ pulses_of k m at) (m : Move) (at : Counters) (l : left_of m ≡ suc k) where
-  same_after : (n : Next) → pulse_of m at ≡ n → pulse_then (pulses_of (k + j)) n ≡ pulse_then (pulses_of k) n
+  same_after : (n : Option Stepped) → pulse_of m at ≡ n → pulse_then (pulses_of (k + j)) n ≡ pulse_then (pulses_of k) n
   unfolding pulse_of
-  same_after (Made s) e = ap (λ (t : List Stepped). s ∷ t) (rec s.rest s.at (omega (arith, left-made formula m at e)))
-  same_after Over e = refl
+  same_after (Some s) e = ap (λ (t : List Stepped). s ∷ t) (rec s.rest s.at (omega (arith, left-made formula m at e)))
+  same_after None e = refl
 
 none_more : (j : ℕ) (m : Move) (at : Counters) → left_of m ≡ 0 → pulses_of j m at ≡ []
 unfolding pulses_of
@@ -196,7 +194,7 @@ sum-of-phases m at u p k =
 
 -- a planned movement: its pulses, as many as the phases' greatest distances in all, take the counters from where it was planned to its
 -- last resting point
-pub planned-whole : (q : Asked) (m : Move) → counted q.at ≡ true → plan_of q ≡ Going m
+pub planned-whole : (q : Asked) (m : Move) → counted q.at ≡ true → plan_of q ≡ Some m
     → Whole (most m.start m.first + (most m.first m.second + most m.second m.third)) m q.at
 planned-whole q m c e =
     let u = plan-sound q m c e in

@@ -1,12 +1,10 @@
 -- Forms that the code goes through.
-use Rattle.std.specs.Prelude.{ℕ, Bool, true, false}
+use Rattle.std.specs.Prelude.{ℕ, Bool, true, false, Option, Some, None}
 use Rattle.motion.specs.declared.Counters.{Counters}
 use Rattle.motion.specs.declared.Move.{Move}
 use Rattle.travel.specs.declared.Travel.{Travel}
 use Rattle.engine.specs.declared.Act.{Act}
 use Rattle.engine.specs.declared.Act.TheVariants as act
-use Rattle.engine.specs.declared.Under.{Under}
-use Rattle.engine.specs.declared.Under.TheVariants as under
 use Rattle.port.specs.declared.Round.{Round}
 use Rattle.port.specs.declared.State.{State}
 use Rattle.port.specs.Code.{straight_in, round_in, kind_in}
@@ -47,15 +45,15 @@ moved s at straight round =
     }
 
 -- what moves, if something does, written over what stood there
-abbrev pub of_under : {A : Type 0} → (Travel → A) → A → Under → A
-of_under f old (under.Going t) = f t
-of_under f old under.Nothing = old
+abbrev pub of_under : {A : Type 0} → (Travel → A) → A → Option Travel → A
+of_under f old (Some t) = f t
+of_under f old None = old
 
-unfoldable pub straight_under : Under → Move → Move
+unfoldable pub straight_under : Option Travel → Move → Move
 straight_under u old = of_under (λ t. straight_in t old) old u
 
-unfoldable pub round_under : Under → Round → Round
+unfoldable pub round_under : Option Travel → Round → Round
 round_under u old = of_under (λ t. round_in t old) old u
 
-unfoldable pub kind_under : Under → ℕ → ℕ
+unfoldable pub kind_under : Option Travel → ℕ → ℕ
 kind_under u old = of_under kind_in old u

@@ -1,5 +1,8 @@
 -- While ours stores, the store's axes are those that lines set: `i` needs axes, a stored record keeps the store's, and nothing else writes them before
 -- storing ends. Assumes nothing.
+use Rattle.std.specs.Prelude.{Result, Ok, Err}
+use Rattle.count.specs.declared.Fault.{Fault}
+use Rattle.travel.specs.declared.Travel.{Travel}
 use Prim.Native.Nat.{ℕ, zero, suc}
 use mathlib.Core.Path.{◌≡◌, refl, sym, ap, ◌∙◌}
 use mathlib.Core.Bool.{Bool, true, false, not, ◌&&◌, ◌||◌}
@@ -10,8 +13,6 @@ use lib.ListN.{length, get_or}
 use Rattle.count.specs.Pick.{pick}
 use Rattle.count.proofs.laws.Truth.{never, and-true}
 use Rattle.motion.specs.Plan.{asked}
-use Rattle.travel.specs.declared.Planned.{Planned}
-use Rattle.travel.specs.declared.Planned.TheVariants as planned
 use Rattle.travel.specs.Next.{pulse_of}
 use Rattle.travel.specs.Plan.{plan_of, circle_of}
 use Rattle.record.specs.declared.Record.{Record}
@@ -144,13 +145,13 @@ module _ (v : ℕ) (ports : List ℕ) (b : Board) (mem : Memory) (h : sound b �
 
   -- a line outside storing
 
-  begun-on : (p : Planned) → Written (begun_by p b.engine).engine
-  begun-on (planned.Going m) = by (no_pulse m)
+  begun-on : (p : Result Travel Fault) → Written (begun_by p b.engine).engine
+  begun-on (Ok m) = by (no_pulse m)
     where
       by : (t : Bool) → Written (pick t (begun 48 b.engine) (begun 0 (with_job b.engine (job.Direct m)))).engine
       by true = w
       by false = other _ refl
-  begun-on (planned.Refused c) = w
+  begun-on (Err c) = w
 
   start-on : (s : Bool) → On (accepted_said (effect_of letter.Start [] ports b.engine s) mem)
   start-on true = w

@@ -1,5 +1,8 @@
 -- Lines of circles on our machine: `y` begins its arc, `e` and `f` set plane and direction, setting axes and reset give the first ones, and
 -- nothing else changes them but a program's own `e` and `f`, after which they stay (02 §3). Assumes nothing.
+use Rattle.std.specs.Prelude.{Result, Ok, Err}
+use Rattle.count.specs.Refusals.{letter_of}
+use Rattle.count.specs.declared.Fault.{Fault}
 use Prim.Native.Nat.{ℕ}
 use mathlib.Core.Path.{◌≡◌, refl, sym, ap, ◌∙◌}
 use mathlib.Core.Bool.{Bool, true, false, not, ◌&&◌, ◌||◌}
@@ -11,8 +14,6 @@ use lib.ListN.{length, get_or, take}
 use Rattle.count.specs.Pick.{pick}
 use Rattle.count.proofs.laws.Truth.{never, and_left}
 use Rattle.circle.specs.declared.Arc.{Arc}
-use Rattle.circle.specs.declared.Bent.{Bent}
-use Rattle.circle.specs.declared.Bent.TheVariants as bent
 use Rattle.circle.specs.Arc.{arc_left}
 use Rattle.circle.specs.Plan.{plane_of, direction_of, circling, at_first, bend_of}
 use Rattle.circle.proofs.laws.Bends.{bends}
@@ -92,7 +93,7 @@ module _ (ports : List ℕ) (b : Board) (l : Lent) (f : (receiving 13 ports b l)
 
   -- ---- a circle's line that is not replied to
 
-  abbrev bending : Bent
+  abbrev bending : Result Arc Fault
   bending = bend_of b.engine.axes (circling_of b) b.engine.at (line_of b).words
 
   module _ (t : Typed 121 b) (n : got.result.len ≡ 0) where
@@ -108,11 +109,11 @@ module _ (ports : List ℕ) (b : Board) (l : Lent) (f : (receiving 13 ports b l)
     going-by true a q h = absurd (omega arith)
     going-by false a q h = ap (λ (x : Arc). job.Direct (travel.Round x)) q
 
-    runs : (x : Bent) → bending ≡ x → refusal (roundly x) ≡ 48 → length (started_with (begun_by (roundly x) b.engine) false).reply ≡ 0
+    runs : (x : Result Arc Fault) → bending ≡ x → refusal (roundly x) ≡ 48 → length (started_with (begun_by (roundly x) b.engine) false).reply ≡ 0
         → (started_with (begun_by (roundly x) b.engine) false).engine.run.job ≡ job.Direct (travel.Round (arc_of b))
-    runs (bent.Going a) q p h =
+    runs (Ok a) q p h =
         going-by (no_pulse (travel.Round a)) a (bends b.engine.axes (circling_of b) b.engine.at (line_of b).words q).is h
-    runs (bent.Refused c) q p h = let z : c ≡ 48 = p in absurd (omega (arith, rw z at h))
+    runs (Err c) q p h = let z : letter_of c ≡ 48 = p in absurd (omega (arith, rw z at h))
 
     pub circle-begins : Turns line (arc_of b) got.result.board × (arc_left (arc_of b) ≡ get_or (line_of b).words 0 0)
     unfolding circle_begun circle_of arc_left

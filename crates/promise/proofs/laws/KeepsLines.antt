@@ -1,4 +1,8 @@
 -- What a return comes to: a refused line, the end line that fails, an accepted line, or no reply. Assumes nothing.
+use Rattle.std.specs.Prelude.{Result, Ok, Err}
+use Rattle.count.specs.Refusals.{letter_of}
+use Rattle.count.specs.declared.Fault.{Fault}
+use Rattle.travel.specs.declared.Travel.{Travel}
 use Prim.Native.Nat.{ℕ}
 use mathlib.Core.Path.{◌≡◌, refl, sym, ap, ◌∙◌}
 use mathlib.Core.Bool.{Bool, true, false, not, ◌&&◌, ◌||◌}
@@ -11,8 +15,6 @@ use Rattle.count.specs.Pick.{pick}
 use Rattle.count.specs.Text.{report, two_hex, hexes}
 use Rattle.count.proofs.laws.Truth.{never, and-not}
 use Rattle.motion.specs.Plan.{asked}
-use Rattle.travel.specs.declared.Planned.{Planned}
-use Rattle.travel.specs.declared.Planned.TheVariants as planned
 use Rattle.travel.specs.Next.{left_of}
 use Rattle.travel.specs.Plan.{plan_of, circle_of, refusal}
 use Rattle.record.specs.declared.Held.{Held}
@@ -102,16 +104,16 @@ and-not-false false e = refl
 -- ---- an accepted line
 
 module _ (b : Board) (mem : Memory) (ports words : List ℕ) (idle : b.standing ≡ false → idles b ≡ true) where
-  moving-by : (p : Planned) → refusal p ≡ 48 → b.standing ≡ false
+  moving-by : (p : Result Travel Fault) → refusal p ≡ 48 → b.standing ≡ false
       → Came b mem (accepted_said (started_with (begun_by p b.engine) b.standing) mem)
   unfolding runs_now runs_of
-  moving-by (planned.Going m) h s = by (eqb (left_of m) 0)
+  moving-by (Ok m) h s = by (eqb (left_of m) 0)
     where
       by : (z : Bool)
           → Came b mem (accepted_said (started_with (pick z (begun_with 48 b.engine) (begun_with 0 (with_job b.engine (job.Direct m)))) b.standing) mem)
       by true = zeroed [] refl refl
       by false = still refl (begun (idle s) (rw s))
-  moving-by (planned.Refused c) h s = let q : c ≡ 48 = h in zeroed [] (rw q) (rw q)
+  moving-by (Err c) h s = let q : letter_of c ≡ 48 = h in zeroed [] (rw q) (rw q)
 
   started-by : (s : Bool) → b.standing ≡ s → Came b mem (accepted_said (effect_of letter.Start words ports b.engine s) mem)
   unfolding runs_now runs_of

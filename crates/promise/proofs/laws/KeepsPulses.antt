@@ -1,4 +1,7 @@
 -- What a clock call does to a position: it adds the pulse that the answer shows, and nothing else. Assumes nothing.
+use Rattle.std.specs.Prelude.{Result, Ok, Err}
+use Rattle.count.specs.Refusals.{letter_of}
+use Rattle.count.specs.declared.Fault.{Fault}
 use Prim.Native.Nat.{ℕ, zero, suc}
 use mathlib.Core.Path.{◌≡◌, refl, sym, ap, ◌∙◌}
 use mathlib.Core.Bool.{Bool, true, false, ◌&&◌}
@@ -20,8 +23,6 @@ use Rattle.circle.specs.Plan.{plane_of, direction_of}
 use Rattle.travel.specs.declared.Travel.{Travel}
 use Rattle.travel.specs.Next.{Next}
 use Rattle.travel.specs.Next.Next.{Made, Over}
-use Rattle.travel.specs.declared.Planned.{Planned}
-use Rattle.travel.specs.declared.Planned.TheVariants as planned
 use Rattle.travel.specs.Plan.{plan_of, circle_of}
 use Rattle.travel.specs.Next.{pulse_of}
 use Rattle.travel.specs.Sound.{under_way}
@@ -89,14 +90,14 @@ sum_told a e answer.Done r = sym (+ℤ_idr (value (on a e.at)))
 sum_told a e answer.Nothing r = sym (+ℤ_idr (value (on a e.at)))
 
 module _ (a : Axis) (e : Engine) where
-  sum-planned : (p : Planned) → counted e.at ≡ true
-      → ((m : Travel) → p ≡ planned.Going m → under_way m e.at ≡ true) → Sums a e.at (moving_by pulse_of p e)
-  sum-planned (planned.Going m) c f = by (pulse_of m e.at) refl
+  sum-planned : (p : Result Travel Fault) → counted e.at ≡ true
+      → ((m : Travel) → p ≡ Ok m → under_way m e.at ≡ true) → Sums a e.at (moving_by pulse_of p e)
+  sum-planned (Ok m) c f = by (pulse_of m e.at) refl
     where
       by : (n : Next) → pulse_of m e.at ≡ n → Sums a e.at (moving n e)
       by (Made s) p = sum_told a (on_to (job.Moving s.rest) e) (answer.Pulse s.signs s.speed) (taken m e.at (f m refl) p).rooms
       by Over p = sum_told a (on_to job.Ready e) answer.Done tt
-  sum-planned (planned.Refused b) c f = sum_told a (ceased e) (answer.Send b) tt
+  sum-planned (Err b) c f = sum_told a (ceased e) (answer.Send (letter_of b)) tt
 
   sum-delaying : (t : ℕ) → Sums a e.at (delaying t e)
   sum-delaying zero = sum_told a (on_to job.Ready e) answer.Done tt

@@ -1,5 +1,8 @@
 -- What a byte leaves of a memory whose part in use is readable and whose table is true: the same, an emptied part, or one with a right
 -- record more and its entry, so that both hold again (02 §6). Assumes nothing.
+use Rattle.std.specs.Prelude.{Result, Ok, Err}
+use Rattle.count.specs.declared.Fault.{Fault}
+use Rattle.travel.specs.declared.Travel.{Travel}
 use Prim.Native.Nat.{ℕ, ◌<◌}
 use mathlib.Core.Path.{◌≡◌, refl, sym, ap, subst, ◌∙◌}
 use mathlib.Core.Bool.{Bool, true, false, not, ◌&&◌, ◌||◌}
@@ -13,8 +16,6 @@ use Rattle.count.specs.Pick.{pick}
 use Rattle.count.specs.Numbers.{word}
 use Rattle.count.specs.Words.{pad}
 use Rattle.motion.specs.Plan.{asked}
-use Rattle.travel.specs.declared.Planned.{Planned}
-use Rattle.travel.specs.declared.Planned.TheVariants as planned
 use Rattle.travel.specs.Plan.{plan_of, circle_of}
 use Rattle.record.specs.declared.Held.{Held}
 use Rattle.record.specs.declared.Record.{Record}
@@ -175,13 +176,13 @@ module _ (v : ℕ) (ports : List ℕ) (b : Board) (mem : Memory) (k : Kept (part
 
   -- a line outside storing
 
-  begun-on : (p : Planned) → Stays (begun_by p b.engine).engine
-  begun-on (planned.Going m) = by (no_pulse m)
+  begun-on : (p : Result Travel Fault) → Stays (begun_by p b.engine).engine
+  begun-on (Ok m) = by (no_pulse m)
     where
       by : (t : Bool) → Stays (pick t (begun 48 b.engine) (begun 0 (with_job b.engine (job.Direct m)))).engine
       by true = k
       by false = k
-  begun-on (planned.Refused c) = k
+  begun-on (Err c) = k
 
   start-on : (s : Bool) → On (accepted_said (effect_of letter.Start [] ports b.engine s) mem)
   start-on true = k

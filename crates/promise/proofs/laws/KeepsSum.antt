@@ -1,4 +1,7 @@
 -- What a line does to a position: it is set to zero where `zeroes` says so, and else stays. Assumes nothing.
+use Rattle.std.specs.Prelude.{Result, Ok, Err}
+use Rattle.count.specs.declared.Fault.{Fault}
+use Rattle.travel.specs.declared.Travel.{Travel}
 use Prim.Native.Nat.{ℕ}
 use mathlib.Core.Path.{◌≡◌, refl, sym, ap, ◌∙◌}
 use mathlib.Core.Bool.{Bool, true, false, not, ◌&&◌, ◌||◌}
@@ -12,8 +15,6 @@ use Rattle.count.specs.Numbers.{value, half}
 use Rattle.count.proofs.laws.Truth.{never, and-false}
 use Rattle.motion.specs.declared.Counters.{Counters}
 use Rattle.motion.specs.Plan.{asked}
-use Rattle.travel.specs.declared.Planned.{Planned}
-use Rattle.travel.specs.declared.Planned.TheVariants as planned
 use Rattle.travel.specs.Next.{left_of}
 use Rattle.travel.specs.Plan.{plan_of, circle_of}
 use Rattle.line.specs.declared.Letter.{Letter}
@@ -74,13 +75,13 @@ module _ (a : Axis) (b : Board) where
     abbrev RightBy : Letter → Type 0
     RightBy k = position a (after k).board ≡ pick (eqb (get_or (after k).reply 0 0) 48 && zero_by k) (pos 0) (position a b)
 
-    moving-at : (p : Planned) → (started_with (begun_by p b.engine) b.standing).engine.at ≡ b.engine.at
-    moving-at (planned.Going m) = by (eqb (left_of m) 0)
+    moving-at : (p : Result Travel Fault) → (started_with (begun_by p b.engine) b.standing).engine.at ≡ b.engine.at
+    moving-at (Ok m) = by (eqb (left_of m) 0)
       where
         by : (z : Bool) → (pick z (begun 48 b.engine) (begun 0 (with_job b.engine (job.Direct m)))).engine.at ≡ b.engine.at
         by true = refl
         by false = refl
-    moving-at (planned.Refused c) = refl
+    moving-at (Err c) = refl
 
     start-at : (s : Bool) → (effect_of letter.Start words ports b.engine s).engine.at ≡ b.engine.at
     start-at true = refl

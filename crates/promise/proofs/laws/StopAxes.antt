@@ -1,5 +1,8 @@
 -- Where a line begins something, axes are set: a movement and S need them, and nothing else that a line does leaves a job under way. Nor
 -- does a clock call change the axes, or begin anything. Assumes nothing.
+use Rattle.std.specs.Prelude.{Result, Ok, Err}
+use Rattle.count.specs.declared.Fault.{Fault}
+use Rattle.travel.specs.declared.Travel.{Travel}
 use Prim.Native.Nat.{ℕ}
 use mathlib.Core.Bool.{Bool, true, false, ◌&&◌, true≢false}
 use mathlib.Core.List.{List, [], ◌∷◌}
@@ -8,8 +11,6 @@ use borrow.Author.Tests.{eqb-true}
 use lib.Dec.{eqb}
 use Rattle.count.specs.Pick.{pick}
 use Rattle.motion.specs.Plan.{asked}
-use Rattle.travel.specs.declared.Planned.{Planned}
-use Rattle.travel.specs.declared.Planned.TheVariants as planned
 use Rattle.travel.specs.Plan.{plan_of, circle_of}
 use Rattle.line.specs.declared.Letter.{Letter}
 use Rattle.line.specs.declared.Letter.TheVariants as letter
@@ -62,13 +63,13 @@ module _ (ports : List ℕ) (e : Engine) (l : Line) (mem : Memory) (r : rests_by
   still : {A : Type 0} → rests_by e.run.job ≡ false → A
   still q = absurd (true≢false (sym r ∙ q))
 
-  begun-axed : (p : Planned) → eqb e.axes 0 ≡ false → Axed (begun_by p e).engine
-  begun-axed (planned.Going m) a = by (no_pulse m)
+  begun-axed : (p : Result Travel Fault) → eqb e.axes 0 ≡ false → Axed (begun_by p e).engine
+  begun-axed (Ok m) a = by (no_pulse m)
     where
       by : (z : Bool) → Axed (pick z (begun 48 e) (begun 0 (with_job e (job.Direct m)))).engine
       by true = λ q. a
       by false = λ q. a
-  begun-axed (planned.Refused c) a = λ q. a
+  begun-axed (Err c) a = λ q. a
 
   effect-axed : (k : Letter) (w : List ℕ) → needs_axes k && eqb e.axes 0 ≡ false → Axed (effect_of k w ports e false).engine
   unfolding begin_of circle_begun

@@ -1,5 +1,7 @@
 -- Arcs as a reader wants them (02, §3): every pulse moves one axis of the plane by one while the third rests, the arc length counts the
 -- pulses, and the example from (2,0). Assumes nothing.
+use Rattle.std.specs.Prelude.{Option, Result, Some, None, Ok, Err}
+use Rattle.count.specs.declared.Fault.{Fault}
 use mathlib.Core.Path.{◌≡◌, refl, sym, ap, ◌∙◌}
 use mathlib.Core.Bool.{true, not}
 use mathlib.Core.List.{List, [], ◌∷◌, map}
@@ -16,8 +18,6 @@ use Rattle.motion.specs.Axes.{point, shows}
 use Rattle.motion.specs.declared.Sign.TheVariants.{Rest}
 use Rattle.motion.specs.declared.Counters.{Counters}
 use Rattle.motion.specs.declared.Beat.{Beat}
-use Rattle.motion.specs.declared.Beaten.{Beaten}
-use Rattle.motion.specs.declared.Beaten.TheVariants as beat
 use Rattle.motion.specs.Sound.{counted}
 use Rattle.motion.specs.Pulse.{step_to}
 use Rattle.circle.specs.declared.Plane.{Plane}
@@ -33,8 +33,6 @@ use Rattle.circle.specs.Sound.{arc_under_way}
 use Rattle.circle.proofs.laws.Beats.{taken as arc-taken, moves, move_at, signs-are}
 use Rattle.travel.specs.declared.Travel.{Travel}
 use Rattle.travel.specs.declared.Travel.TheVariants as travel
-use Rattle.travel.specs.declared.Planned.{Planned}
-use Rattle.travel.specs.declared.Planned.TheVariants.{Going, Refused}
 use Rattle.travel.specs.Next.{Stepped, Next, arc_next, pulse_of, left_of, next_paper}
 use Rattle.travel.specs.Next.Next.{Made, Over}
 use Rattle.travel.specs.Plan.{circle_of, planned_paper}
@@ -80,8 +78,8 @@ on-a XY w = refl
 on-a XZ w = refl
 on-a YZ w = refl
 
-moves-by : (a : Arc) (at : Counters) {s : Stepped} → arc_under_way a at ≡ true → (n : Beaten) → arc_beat a at ≡ n → arc_next a n ≡ Made s → Moves a s
-moves-by a at u (beat.Made b) e p =
+moves-by : (a : Arc) (at : Counters) {s : Stepped} → arc_under_way a at ≡ true → (n : Option Beat) → arc_beat a at ≡ n → arc_next a n ≡ Made s → Moves a s
+moves-by a at u (Some b) e p =
     let q = a.circling.plane in
     let w = move_at a at in
     let t = arc-taken a at u e in
@@ -94,7 +92,7 @@ moves-by a at u (beat.Made b) e p =
       speed = ap (λ (c : Beat). c.speed) t.is;
       rest = ap (λ (c : Beat). travel.Round (with_made a c.mark.made)) t.is;
     })
-moves-by a at u beat.Over e p = never p
+moves-by a at u None e p = never p
 
 -- A PULSE OF AN ARC that 103 lets pass; what its sign does to the axis's position is the law `sum_one`
 pub arc-moves : (a : Arc) (at : Counters) {s : Stepped} → under_way (travel.Round a) at ≡ true → pulse_of (travel.Round a) at ≡ Made s → Moves a s
@@ -148,7 +146,7 @@ made-grows zero a at u h = let e : a.made ≡ a.made + 0 = omega arith in ap (λ
 made-grows (suc n) a at u h = grows-by n a at u (made-grows n) h (pulse_of (travel.Round a) at) refl
 
 -- THE ARC LENGTH COUNTS THE PULSES of a planned circle: so many are made, and no more
-pub arc-length : (axes : ℕ) (c : Circling) (at : Counters) (l : List ℕ) (m : Travel) → circle_of axes c at l ≡ Going m
+pub arc-length : (axes : ℕ) (c : Circling) (at : Counters) (l : List ℕ) (m : Travel) → circle_of axes c at l ≡ Ok m
     → (length (pulses_of (get_or l 0 0) m at) ≡ get_or l 0 0) × ((j : ℕ) → pulses_of (get_or l 0 0 + j) m at ≡ pulses_of (get_or l 0 0) m at)
 arc-length axes c at l m e =
     let u = circle-sound axes c at l m e in
@@ -163,13 +161,13 @@ abbrev zero_point : Counters
 zero_point = point (λ i. count (pos 0))
 
 -- planned in plane 0 under axes 3 at the zero point, with arc length 4, speed 600, D 0, start 2,0 and directions -1,1
-abbrev planned : Planned
+abbrev planned : Result Travel Fault
 planned = circle_of 3 (circling XY Counter) zero_point (4 ∷ 600 ∷ 0 ∷ word (pos 2) ∷ word (pos 0) ∷ word (negsuc 0) ∷ word (pos 1) ∷ 0 ∷ [])
 
 -- its pulses as the paper has them: the signs of x, y, z, a and the speed
-abbrev shown : Planned → List Paper
-shown (Going m) = map (λ (s : Stepped). next_paper (Made s)) (pulses_of (left_of m) m zero_point)
-shown (Refused b) = []
+abbrev shown : Result Travel Fault → List Paper
+shown (Ok m) = map (λ (s : Stepped). next_paper (Made s)) (pulses_of (left_of m) m zero_point)
+shown (Err b) = []
 
 abbrev pulse : ℤ → ℤ → Paper
 pulse x y = says 1 (x ∷ y ∷ pos 0 ∷ pos 0 ∷ pos 600 ∷ [])

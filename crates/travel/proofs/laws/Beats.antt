@@ -1,4 +1,6 @@
 -- The laws of a pulse without what moves: what is left is told by its mark. Assumes nothing.
+use Rattle.motion.specs.declared.Stepped.{Stepped as StraightStepped}
+use Rattle.std.specs.Prelude.{Option, Some, None}
 use Prim.Native.Nat.{ℕ}
 use mathlib.Core.Path.{◌≡◌, refl, ap, sym, ◌∙◌}
 use native.Mathlib.Omega.{arith}
@@ -6,11 +8,7 @@ use Rattle.motion.specs.declared.Counters.{Counters}
 use Rattle.motion.specs.declared.Move.{Move}
 use Rattle.motion.specs.declared.Mark.{Mark}
 use Rattle.motion.specs.declared.Beat.{Beat}
-use Rattle.motion.specs.declared.Beaten.{Beaten}
-use Rattle.motion.specs.declared.Beaten.TheVariants as beat
 use Rattle.motion.specs.declared.Look.TheVariants as look
-use Rattle.motion.specs.declared.Next.{Next as StraightNext}
-use Rattle.motion.specs.declared.Next.TheVariants as straight
 use Rattle.motion.specs.work.Here.{next_of as straight_of, within_of as straight_in}
 use Rattle.motion.specs.work.Beat.{beaten as straight_beaten, next_back as straight_back}
 use Rattle.motion.proofs.laws.Beats.{next-back as straight-next-back}
@@ -36,9 +34,9 @@ never' p = let z : ◌≡◌ {A = ℕ} 0 1 = cc in absurd (omega arith)
 
 -- ---- a pulse without what moves is the same for both kinds
 
-beaten-by : (n : StraightNext) → straight_beaten n ≡ beaten (straight_next n)
-beaten-by (straight.Made s) = refl
-beaten-by straight.Over = refl
+beaten-by : (n : Option StraightStepped) → straight_beaten n ≡ beaten (straight_next n)
+beaten-by (Some s) = refl
+beaten-by None = refl
 
 -- a straight movement's pulse, and one of its phase
 pub straight-beaten : (m : Move) (at : Counters) → straight_beaten (straight_of m at) ≡ beaten (straight_next (straight_of m at))
@@ -51,11 +49,11 @@ straight-within m at = beaten-by (straight_in m at)
 pub arc-beaten : (a : Arc) (at : Counters) → arc_beat a at ≡ beaten (arc_next a (arc_beat a at))
 arc-beaten a at = by (arc_beat a at) refl
   where
-    by : (n : Beaten) → arc_beat a at ≡ n → n ≡ beaten (arc_next a n)
-    by (beat.Made b) e =
+    by : (n : Option Beat) → arc_beat a at ≡ n → n ≡ beaten (arc_next a n)
+    by (Some b) e =
         let p : b.mark.phase ≡ 0 = ap (λ (k : Mark). k.phase) (beat-marked a at e) in
-        λ i. beat.Made (record { signs = b.signs; speed = b.speed; at = b.at; mark = record { phase = p i; made = b.mark.made } })
-    by beat.Over e = refl
+        λ i. Some (record { signs = b.signs; speed = b.speed; at = b.at; mark = record { phase = p i; made = b.mark.made } })
+    by None e = refl
 
 -- ---- only the mark changes
 
@@ -63,13 +61,13 @@ arc-beaten a at = by (arc_beat a at) refl
 abbrev pub Marked : Travel → Travel → Type 0
 Marked m n = at_mark m (mark_of n) ≡ n
 
-straight-back : (m : Move) (n : StraightNext) → straight_back m (straight_beaten n) ≡ n → next_back (travel.Straight m) (beaten (straight_next n)) ≡ straight_next n
-straight-back m (straight.Made s) e = ap straight_next e
-straight-back m straight.Over e = refl
+straight-back : (m : Move) (n : Option StraightStepped) → straight_back m (straight_beaten n) ≡ n → next_back (travel.Straight m) (beaten (straight_next n)) ≡ straight_next n
+straight-back m (Some s) e = ap straight_next e
+straight-back m None e = refl
 
-arc-back : (a : Arc) (n : Beaten) → next_back (travel.Round a) (beaten (arc_next a n)) ≡ arc_next a n
-arc-back a (beat.Made b) = refl
-arc-back a beat.Over = refl
+arc-back : (a : Arc) (n : Option Beat) → next_back (travel.Round a) (beaten (arc_next a n)) ≡ arc_next a n
+arc-back a (Some b) = refl
+arc-back a None = refl
 
 -- A PULSE WITH WHAT MOVES is the pulse without it, and what moves at its mark
 pub next-back : (m : Travel) (at : Counters) → next_back m (beaten (next_of m at)) ≡ next_of m at
@@ -95,18 +93,18 @@ pub record Hit (n : Next) (b : Beat) : Type 0 where
   pub is : n ≡ Made step
   pub same : b ≡ beat_of step
 
-pub hit : (n : Next) (b : Beat) {x : Beaten} → x ≡ beaten n → x ≡ beat.Made b → Hit n b
-hit (Made s) b e p = record { step = s; is = refl; same = let q : beat.Made (beat_of s) ≡ beat.Made b = sym e ∙ p in cc }
+pub hit : (n : Next) (b : Beat) {x : Option Beat} → x ≡ beaten n → x ≡ Some b → Hit n b
+hit (Made s) b e p = record { step = s; is = refl; same = let q : Some (beat_of s) ≡ Some b = sym e ∙ p in cc }
 hit Over b e p = let z : ◌≡◌ {A = ℕ} 0 1 = cc in absurd (omega arith)
 
-pub missed : (n : Next) {x : Beaten} → x ≡ beaten n → x ≡ beat.Over → n ≡ Over
+pub missed : (n : Next) {x : Option Beat} → x ≡ beaten n → x ≡ None → n ≡ Over
 missed (Made s) e p = let z : ◌≡◌ {A = ℕ} 0 1 = cc in absurd (omega arith)
 missed Over e p = refl
 
 -- and so at a look
-module _ (n : Next) {x : Beaten} (e : x ≡ beaten n) where
-  pub looked-made : (b : Beat) → x ≡ beat.Made b → look.Made b ≡ looked_by n
+module _ (n : Next) {x : Option Beat} (e : x ≡ beaten n) where
+  pub looked-made : (b : Beat) → x ≡ Some b → look.Made b ≡ looked_by n
   looked-made b p = let g = hit n b e p in ap look.Made g.same ∙ sym (ap looked_by g.is)
 
-  pub looked-over : x ≡ beat.Over → look.Over ≡ looked_by n
+  pub looked-over : x ≡ None → look.Over ≡ looked_by n
   looked-over p = sym (ap looked_by (missed n e p))

@@ -1,14 +1,13 @@
 -- The laws of the next pulse of what 103 lets pass: the code's is the rule's, it keeps that it passes, and it lowers the number of pulses
 -- left by one. Assumes nothing.
+use Rattle.motion.specs.declared.Stepped.{Stepped as StraightStepped}
+use Rattle.std.specs.Prelude.{Option, Some, None}
+use Rattle.motion.specs.declared.Beat.{Beat}
 use mathlib.Core.Path.{◌≡◌, refl, sym, ap, ◌∙◌}
 use mathlib.Core.Bool.{true}
 use Prim.Native.Nat.{◌+◌}
 use Rattle.motion.specs.declared.Counters.{Counters}
 use Rattle.motion.specs.declared.Move.{Move}
-use Rattle.motion.specs.declared.Beaten.{Beaten}
-use Rattle.motion.specs.declared.Beaten.TheVariants as beat
-use Rattle.motion.specs.declared.Next.{Next as StraightNext}
-use Rattle.motion.specs.declared.Next.TheVariants as straight
 use Rattle.motion.specs.Phase.{moved_all}
 use Rattle.motion.specs.Next.{pulse_of as straight_pulse}
 use Rattle.motion.specs.Sound.{speed_right, counted, under_way as straight_under_way}
@@ -43,21 +42,21 @@ pub record Taken (m : Travel) (at : Counters) (s : Stepped) : Type 0 where
   pub small : counted s.at ≡ true
   pub left : left_of m ≡ left_of s.rest + 1
 
-straight-by : (m : Move) (at : Counters) {s : Stepped} → straight_under_way m at ≡ true → (n : StraightNext) → straight_pulse m at ≡ n
+straight-by : (m : Move) (at : Counters) {s : Stepped} → straight_under_way m at ≡ true → (n : Option StraightStepped) → straight_pulse m at ≡ n
     → straight_next n ≡ Made s → Taken (travel.Straight m) at s
 unfolding under_way left_of
-straight-by m at u (straight.Made t) e p =
+straight-by m at u (Some t) e p =
     let k = straight-taken m at u e in
     rw (same p) (record { there = k.there; rooms = k.rooms; speed = k.speed; sound = k.sound; small = k.small; left = k.left })
-straight-by m at u straight.Over e p = never p
+straight-by m at u None e p = never p
 
-arc-by : (a : Arc) (at : Counters) {s : Stepped} → arc_under_way a at ≡ true → (n : Beaten) → arc_beat a at ≡ n → arc_next a n ≡ Made s
+arc-by : (a : Arc) (at : Counters) {s : Stepped} → arc_under_way a at ≡ true → (n : Option Beat) → arc_beat a at ≡ n → arc_next a n ≡ Made s
     → Taken (travel.Round a) at s
 unfolding under_way left_of
-arc-by a at u (beat.Made b) e p =
+arc-by a at u (Some b) e p =
     let k = arc-taken a at u e in
     rw (same p) (record { there = k.there; rooms = k.rooms; speed = k.speed; sound = k.sound; small = k.small; left = k.left })
-arc-by a at u beat.Over e p = never p
+arc-by a at u None e p = never p
 
 pub taken : (m : Travel) (at : Counters) {s : Stepped} → under_way m at ≡ true → pulse_of m at ≡ Made s → Taken m at s
 unfolding under_way pulse_of

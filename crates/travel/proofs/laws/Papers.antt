@@ -1,4 +1,8 @@
 -- What pulses and plans say on paper: what those of straight movements and of circles say. Assumes nothing.
+use Rattle.std.specs.Prelude.{Option, Result, Some, None, Ok, Err}
+use Rattle.circle.specs.declared.Arc.{Arc}
+use Rattle.count.specs.declared.Fault.{Fault}
+use Rattle.motion.specs.declared.Stepped.{Stepped as StraightStepped}
 use mathlib.Core.Path.{◌≡◌, refl, ap, ◌∙◌}
 use mathlib.Core.Bool.{Bool, true, false}
 use mathlib.Core.List.{List, []}
@@ -8,20 +12,12 @@ use Rattle.count.specs.Paper.{says}
 use Rattle.motion.specs.declared.Counters.{Counters}
 use Rattle.motion.specs.declared.Move.{Move}
 use Rattle.motion.specs.declared.Look.TheVariants as look
-use Rattle.motion.specs.declared.Next.{Next as StraightNext}
-use Rattle.motion.specs.declared.Next.TheVariants as straight
-use Rattle.motion.specs.declared.Planned.{Planned as StraightPlan}
-use Rattle.motion.specs.declared.Planned.TheVariants as planned
 use Rattle.motion.specs.Next.{pulse_of as straight_pulse, next_paper as straight_next_paper}
 use Rattle.motion.specs.Plan.{Asked, plan_of as straight_plan, planned_paper as straight_paper}
 use Rattle.circle.specs.declared.Circling.{Circling}
-use Rattle.circle.specs.declared.Bent.{Bent}
-use Rattle.circle.specs.declared.Bent.TheVariants as bent
 use Rattle.circle.specs.Plan.{bend_of, bent_paper}
 use Rattle.travel.specs.declared.Travel.{Travel}
 use Rattle.travel.specs.declared.Travel.TheVariants as travel
-use Rattle.travel.specs.declared.Planned.{Planned}
-use Rattle.travel.specs.declared.Planned.TheVariants.{Going, Refused}
 use Rattle.travel.specs.Next.{Next, straight_next, pulse_of, next_paper}
 use Rattle.travel.specs.Next.Next.{Made, Over}
 use Rattle.travel.specs.Plan.{straightly, roundly, plan_of, circle_of, refusal, travel_paper, planned_paper}
@@ -34,9 +30,9 @@ pub straight-paper : (m : Move) (at : Counters) → next_paper (pulse_of (travel
 unfolding pulse_of
 straight-paper m at = by (straight_pulse m at)
   where
-    by : (n : StraightNext) → next_paper (straight_next n) ≡ straight_next_paper n
-    by (straight.Made s) = refl
-    by straight.Over = refl
+    by : (n : Option StraightStepped) → next_paper (straight_next n) ≡ straight_next_paper n
+    by (Some s) = refl
+    by None = refl
 
 -- A PULSE WITHOUT WHAT MOVES says what the pulse says, and so does a look at what 103 lets pass; what it refuses is 103
 pub beaten-paper : (m : Travel) (at : Counters) → beaten_paper m (beaten (next_of m at)) ≡ next_paper (next_of m at)
@@ -59,22 +55,22 @@ pub plan-paper : (q : Asked) → planned_paper (plan_of q) ≡ straight_paper (s
 unfolding plan_of
 plan-paper q = by (straight_plan q)
   where
-    by : (p : StraightPlan) → planned_paper (straightly p) ≡ straight_paper p
-    by (planned.Going m) = refl
-    by planned.Outside = refl
+    by : (p : Option Move) → planned_paper (straightly p) ≡ straight_paper p
+    by (Some m) = refl
+    by None = refl
 
 pub circle-paper : (axes : ℕ) (c : Circling) (at : Counters) (l : List ℕ) → planned_paper (circle_of axes c at l) ≡ bent_paper (bend_of axes c at l)
 unfolding circle_of
 circle-paper axes c at l = by (bend_of axes c at l)
   where
-    by : (b : Bent) → planned_paper (roundly b) ≡ bent_paper b
-    by (bent.Going a) = refl
-    by (bent.Refused b) = refl
+    by : (b : Result Arc Fault) → planned_paper (roundly b) ≡ bent_paper b
+    by (Ok a) = refl
+    by (Err b) = refl
 
-going-number : (t : Travel) → (travel_paper t).number ≡ refusal (Going t)
+going-number : (t : Travel) → (travel_paper t).number ≡ refusal (Ok t)
 going-number (travel.Straight m) = refl
 going-number (travel.Round a) = refl
 
-pub refusal-paper : (p : Planned) → (planned_paper p).number ≡ refusal p
-refusal-paper (Going t) = going-number t
-refusal-paper (Refused b) = refl
+pub refusal-paper : (p : Result Travel Fault) → (planned_paper p).number ≡ refusal p
+refusal-paper (Ok t) = going-number t
+refusal-paper (Err b) = refl

@@ -1,4 +1,6 @@
 -- The pulses of what moves, one after another: whether one is left, their number and their sum. Assumes nothing.
+use Rattle.std.specs.Prelude.{Option, Some, None}
+use Rattle.motion.specs.declared.Beat.{Beat}
 use mathlib.Core.Path.{◌≡◌, refl, sym, ap, ◌∙◌}
 use mathlib.Core.Bool.{true}
 use mathlib.Core.List.{List, [], ◌∷◌, map}
@@ -12,11 +14,7 @@ use Rattle.count.proofs.laws.Axes.{each_at}
 use Rattle.motion.specs.declared.Signs.{Signs}
 use Rattle.motion.specs.declared.Counters.{Counters}
 use Rattle.motion.specs.declared.Move.{Move}
-use Rattle.motion.specs.declared.Beaten.{Beaten}
-use Rattle.motion.specs.declared.Beaten.TheVariants as beat
 use Rattle.motion.specs.declared.Stepped.{Stepped as StraightStepped}
-use Rattle.motion.specs.declared.Next.{Next as StraightNext}
-use Rattle.motion.specs.declared.Next.TheVariants as straight
 use Rattle.motion.specs.Phase.{moved_all, sign_value}
 use Rattle.motion.specs.Next.{pulse_of as straight_pulse}
 use Rattle.motion.specs.Axes.{on, shows}
@@ -36,13 +34,13 @@ use Rattle.travel.proofs.laws.Onward.{taken}
 
 -- ---- whether one is left
 
-straight-by : (n : StraightNext) → straight_next n ≡ Over → n ≡ straight.Over
-straight-by (straight.Made s) p = never' p
-straight-by straight.Over p = refl
+straight-by : (n : Option StraightStepped) → straight_next n ≡ Over → n ≡ None
+straight-by (Some s) p = never' p
+straight-by None p = refl
 
-arc-by : (a : Arc) (n : Beaten) → arc_next a n ≡ Over → n ≡ beat.Over
-arc-by a (beat.Made b) p = never' p
-arc-by a beat.Over p = refl
+arc-by : (a : Arc) (n : Option Beat) → arc_next a n ≡ Over → n ≡ None
+arc-by a (Some b) p = never' p
+arc-by a None p = refl
 
 -- where none is made, none is left; an arc that 103 refuses may have none that it can make
 pub over-left : (m : Travel) (at : Counters) → under_way m at ≡ true → pulse_of m at ≡ Over → left_of m ≡ 0
@@ -54,7 +52,7 @@ over-left (travel.Round a) at u p = arc-over a at u (arc-by a (arc_beat a at) p)
 pub none_left : (m : Travel) (at : Counters) → left_of m ≡ 0 → pulse_of m at ≡ Over
 unfolding pulse_of left_of
 none_left (travel.Straight m) at l = ap straight_next (straight_none m at l)
-none_left (travel.Round a) at l = ap (λ (n : Beaten). arc_next a n) (arc-none a at l)
+none_left (travel.Round a) at l = ap (λ (n : Option Beat). arc_next a n) (arc-none a at l)
 
 -- ---- the pulses one after another, k at most
 
@@ -180,10 +178,10 @@ no_more j m at u = more-from j (left_of m) m at u refl
 abbrev pub straight_step : StraightStepped → Stepped
 straight_step s = record { signs = s.signs; speed = s.speed; at = s.at; rest = travel.Straight s.rest }
 
-straight_then-is : (k : ℕ) → ((m : Move) (at : Counters) → pulses_of k (travel.Straight m) at ≡ map straight_step (straight_pulses k m at)) → (n : StraightNext)
+straight_then-is : (k : ℕ) → ((m : Move) (at : Counters) → pulses_of k (travel.Straight m) at ≡ map straight_step (straight_pulses k m at)) → (n : Option StraightStepped)
     → pulse_then (pulses_of k) (straight_next n) ≡ map straight_step (straight_then (straight_pulses k) n)
-straight_then-is k rec (straight.Made s) = ap (λ (l : List Stepped). straight_step s ∷ l) (rec s.rest s.at)
-straight_then-is k rec straight.Over = refl
+straight_then-is k rec (Some s) = ap (λ (l : List Stepped). straight_step s ∷ l) (rec s.rest s.at)
+straight_then-is k rec None = refl
 
 pub straight-pulses : (k : ℕ) (m : Move) (at : Counters) → pulses_of k (travel.Straight m) at ≡ map straight_step (straight_pulses k m at)
 unfolding pulses_of straight_pulses pulse_of

@@ -1,14 +1,12 @@
 -- A pulse without what moves, and the next pulse as the code makes it: `Travel::beat`, `Travel::beat_in`, `Travel::look`, `Travel::at_mark`,
 -- `Travel::made` and `Travel::with_made` cite it. On what 103 lets pass the pulse is that of Next (the law `next-is-pulse`), and what is
 -- left is told by its mark alone (the law `next-rest`).
-use Rattle.std.specs.Prelude.{Bool, true, false, [], ℕ}
+use Rattle.std.specs.Prelude.{Bool, true, false, [], ℕ, Option, Some, None}
 use Rattle.count.specs.Pick.{pick}
 use Rattle.count.specs.Paper.{Paper, says}
 use Rattle.motion.specs.declared.Counters.{Counters}
 use Rattle.motion.specs.declared.Mark.{Mark}
 use Rattle.motion.specs.declared.Beat.{Beat}
-use Rattle.motion.specs.declared.Beaten.{Beaten}
-use Rattle.motion.specs.declared.Beaten.TheVariants as beat
 use Rattle.motion.specs.declared.Look.{Look}
 use Rattle.motion.specs.declared.Look.TheVariants as look
 use Rattle.motion.specs.Next.{at_phase}
@@ -55,16 +53,16 @@ at_mark (travel.Round a) k = travel.Round (arc_made a k.made)
 abbrev pub beat_of : Stepped → Beat
 beat_of s = record { signs = s.signs; speed = s.speed; at = s.at; mark = mark_of s.rest }
 
-abbrev pub beaten : Next → Beaten
-beaten (Made s) = beat.Made (beat_of s)
-beaten Over = beat.Over
+abbrev pub beaten : Next → Option Beat
+beaten (Made s) = Some (beat_of s)
+beaten Over = None
 
 abbrev pub stepped_back : Travel → Beat → Stepped
 stepped_back m b = record { signs = b.signs; speed = b.speed; at = b.at; rest = at_mark m b.mark }
 
-abbrev pub next_back : Travel → Beaten → Next
-next_back m (beat.Made b) = Made (stepped_back m b)
-next_back m beat.Over = Over
+abbrev pub next_back : Travel → Option Beat → Next
+next_back m (Some b) = Made (stepped_back m b)
+next_back m None = Over
 
 -- the next pulse of what 103 lets pass
 abbrev pub looked_by : Next → Look
@@ -75,7 +73,7 @@ unfoldable pub look_of : Travel → Counters → Look
 look_of m at = pick (under_way m at) (looked_by (next_of m at)) look.Wrong
 
 -- on paper a pulse is a pulse, whatever it hands on of what moves; what 103 refuses is 103
-abbrev pub beaten_paper : Travel → Beaten → Paper
+abbrev pub beaten_paper : Travel → Option Beat → Paper
 beaten_paper m b = next_paper (next_back m b)
 
 abbrev pub look_paper : Travel → Look → Paper

@@ -11,8 +11,8 @@ returns-then-not-counted_at-is_counted_pair c = let a = c.args in beat-out a.sel
 pub signs-signs-requires : goal.signs-signs-requires
 signs-signs-requires c = let a = c.args in beat-parts a.self a.made a.at c.counted_at.ensures c.is_counted_pair.ensures c.is_counted_pair-2.ensures c.if-not-counted_at-is_counted_pair.false
 
-pub returns-in_default : goal.returns-in_default
-returns-in_default c = let a = c.args in beat-none a.self a.made a.at c.counted_at.ensures c.is_counted_pair.ensures c.is_counted_pair-2.ensures c.if-not-counted_at-is_counted_pair.false c.if-self-made.false c.signs-signs.ensures c.step_to-step.ensures c.in_default.is
+pub returns-in_err-there : goal.returns-in_err-there
+returns-in_err-there c = let a = c.args in rw c.from_residual.ensures (beat-none a.self a.made a.at c.counted_at.ensures c.is_counted_pair.ensures c.is_counted_pair-2.ensures c.if-not-counted_at-is_counted_pair.false c.if-self-made.false c.signs-signs.ensures c.step_to.ensures c.in_err-there.was)
 
 pub returns : goal.returns
-returns c = let a = c.args in beat-to a.self a.made a.at c.counted_at.ensures c.is_counted_pair.ensures c.is_counted_pair-2.ensures c.if-not-counted_at-is_counted_pair.false c.if-self-made.false c.signs-signs.ensures c.step_to-step.ensures c.in-To.is
+returns c = let a = c.args in beat-to a.self a.made a.at c.counted_at.ensures c.is_counted_pair.ensures c.is_counted_pair-2.ensures c.if-not-counted_at-is_counted_pair.false c.if-self-made.false c.signs-signs.ensures c.step_to.ensures c.in_ok-there.was

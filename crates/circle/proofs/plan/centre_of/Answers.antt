@@ -4,4 +4,4 @@ use Rattle.circle.proofs.plan.centre_of.Goals as goal
 
 pub returns : goal.returns
 unfolding centre_of
-returns c = rw (c.less_by-second.ensures, c.less_by-first.ensures)
+returns c = rw (c.less_by-2.ensures, c.less_by.ensures)

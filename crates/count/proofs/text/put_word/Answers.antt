@@ -11,12 +11,12 @@ use Rattle.count.proofs.text.put_word.Goals as goal
 pub returns-then-text-lt11 : goal.returns-then-text-lt11
 returns-then-text-lt11 c = sym (wrote-short 11 _ _ c.if-text-lt11.true)
 
-pub returns-then-w-lt2147483648 : goal.returns-then-w-lt2147483648
+pub returns-then-w-le-MOST : goal.returns-then-w-le-MOST
 unfolding shown
-returns-then-w-lt2147483648 c =
+returns-then-w-le-MOST c =
     let p = c.put_digits in
     let l : 11 ≤ length c.args.text.now = omega arith in
-    rw (wrote-long 11 _ c.args.text.now l, signed_low c.args.w c.if-w-lt2147483648.true)
+    rw (wrote-long 11 _ c.args.text.now l, signed_low c.args.w (omega arith))
     (λ i. written (p.ensures.0 i) (p.ensures.1 i))
 
 pub returns : goal.returns
@@ -24,5 +24,5 @@ unfolding shown
 returns c =
     let p = c.put_minus in
     let l : 11 ≤ length c.args.text.now = omega arith in
-    rw (wrote-long 11 _ c.args.text.now l, signed_high c.args.w c.if-w-lt2147483648.false)
+    rw (wrote-long 11 _ c.args.text.now l, signed_high c.args.w (omega arith))
     (λ i. written (p.ensures.0 i) (p.ensures.1 i))

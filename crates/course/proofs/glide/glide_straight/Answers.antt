@@ -33,14 +33,14 @@ pub overflow_add-k : goal.overflow_add-k
 overflow_add-k c =
     let l = c.loop-n in
     let a = c.args in
-    let s = c.in-Made.b in
+    let s = c.in-Some.b in
     omega (arith, c.put_pulse-j.ensures.0.long, pulse-short a.turns s.signs s.speed (omega arith), room a.turns a.limit (travel.Straight a.start) a.from a.out.now l.n (with_made (travel.Straight a.start) l.made) l.at l.out l.k l.invariant.0 c.loop-n-test.true l.invariant.1, l.invariant.0.room)
 
 pub loop-n-preserved : goal.loop-n-preserved
 loop-n-preserved c =
     let l = c.loop-n in
     let a = c.args in
-    (turn a.turns a.limit (travel.Straight a.start) a.from a.out.now l.n (with_made (travel.Straight a.start) l.made) l.at l.out l.k l.invariant.0 c.in-Made.b _ c.put_pulse-j.result (straight-beat _ _ c.beat_in-next.ensures) c.in-Made.is c.loop-n-test.true l.invariant.1 (omega arith) c.put_pulse-j.ensures.0, l.invariant.1)
+    (turn a.turns a.limit (travel.Straight a.start) a.from a.out.now l.n (with_made (travel.Straight a.start) l.made) l.at l.out l.k l.invariant.0 c.in-Some.b _ c.put_pulse-j.result (straight-beat _ _ c.beat_in-next.ensures) c.in-Some.is c.loop-n-test.true l.invariant.1 (omega arith) c.put_pulse-j.ensures.0, l.invariant.1)
 
 pub shape_of-out : goal.shape_of-out
 shape_of-out c = c.loop-n.invariant.0.long

@@ -2,8 +2,8 @@
 use Rattle.engine.proofs.laws.Acts.{first_made, first-over}
 use Rattle.engine.proofs.Engine.first_pulse.Goals as goal
 
-pub returns-in-Made : goal.returns-in-Made
-returns-in-Made c = rw (c.pulse.ensures, c.at_place.ensures, c.at_mark.ensures) (first_made _ c.args.self c.beat-next.ensures _ c.in-Made.is)
+pub returns-in-Some : goal.returns-in-Some
+returns-in-Some c = rw (c.pulse.ensures, c.at_place.ensures, c.at_mark.ensures) (first_made _ c.args.self c.beat.ensures _ c.in-Some.is)
 
-pub returns-in-Over : goal.returns-in-Over
-returns-in-Over c = rw (c.tell.ensures, c.on_to.ensures) (first-over _ _ c.beat-next.ensures c.in-Over.is)
+pub returns-in-None : goal.returns-in-None
+returns-in-None c = rw (c.tell.ensures, c.on_to.ensures) (first-over _ _ c.beat.ensures c.in-None.is)

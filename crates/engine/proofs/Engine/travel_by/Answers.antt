@@ -1,8 +1,8 @@
 -- `engine::Engine::travel_by` meets its contract. Assumes nothing.
 use Rattle.engine.proofs.Engine.travel_by.Goals as goal
 
-pub returns-in-Going : goal.returns-in-Going
-returns-in-Going c = simp (c.in-Going.is, c.first_pulse.ensures)
+pub returns-in-Ok : goal.returns-in-Ok
+returns-in-Ok c = simp (c.in-Ok.is, c.first_pulse.ensures)
 
-pub returns-in-Refused : goal.returns-in-Refused
-returns-in-Refused c = rw (c.in-Refused.is, c.finish.ensures)
+pub returns-in-Err : goal.returns-in-Err
+returns-in-Err c = rw (c.in-Err.is, c.finish.ensures, c.letter.ensures)

@@ -6,13 +6,9 @@ use Rattle.motion.proofs.laws.Pulses.{pulses-small}
 use Rattle.motion.proofs.laws.Beats.{leg-marked}
 use Rattle.motion.proofs.Move.left.Goals as goal
 
-pub returns-then-n-k : goal.returns-then-n-k
-unfolding left_of
-returns-then-n-k c = omega (arith, leg-marked c.args.self c.mark.ensures c.leg_at-n.ensures)
-
 pub overflow_add-result : goal.overflow_add-result
-overflow_add-result c = let a = c.args.self in omega (arith, c.after-later.ensures, leg-marked a c.mark.ensures c.leg_at-n.ensures, after_small a, pulses-small (from_of a) (to_of a))
+overflow_add-result c = let a = c.args.self in omega (arith, c.after.ensures, leg-marked a c.mark.ensures c.leg_at.ensures, after_small a, pulses-small (from_of a) (to_of a))
 
 pub returns : goal.returns
 unfolding left_of
-returns c = omega (arith, leg-marked c.args.self c.mark.ensures c.leg_at-n.ensures)
+returns c = omega (arith, c.after.ensures, leg-marked c.args.self c.mark.ensures c.leg_at.ensures)

@@ -3,8 +3,8 @@ use Rattle.motion.specs.work.Here.{next_of}
 use Rattle.motion.proofs.laws.Beats.{looked-made, looked-over}
 use Rattle.motion.proofs.Move.look_on.Goals as goal
 
-pub returns-in-Made : goal.returns-in-Made
-returns-in-Made c = looked-made (next_of c.args.self c.args.at) c.beat-next.ensures _ c.in-Made.is
+pub returns-in-Some : goal.returns-in-Some
+returns-in-Some c = looked-made (next_of c.args.self c.args.at) c.beat.ensures _ c.in-Some.is
 
-pub returns-in-Over : goal.returns-in-Over
-returns-in-Over c = looked-over (next_of c.args.self c.args.at) c.beat-next.ensures c.in-Over.is
+pub returns-in-None : goal.returns-in-None
+returns-in-None c = looked-over (next_of c.args.self c.args.at) c.beat.ensures c.in-None.is

@@ -2,4 +2,4 @@
 use Rattle.motion.proofs.pulse.signs_at.Goals as goal
 
 pub returns : goal.returns
-returns c = (cc, (c.sign_here-x.ensures.1, c.sign_here-y.ensures.1, c.sign_here-z.ensures.1, c.sign_here-a.ensures.1))
+returns c = (cc, (c.sign_here.ensures.1, c.sign_here-2.ensures.1, c.sign_here-3.ensures.1, c.sign_here-4.ensures.1))

@@ -2,10 +2,10 @@
 use Rattle.port.specs.work.Work.{round_under}
 use Rattle.port.proofs.code.round_over.Goals as goal
 
-pub returns-in-Going : goal.returns-in-Going
+pub returns-in-Some : goal.returns-in-Some
 unfolding round_under
-returns-in-Going c = simp (c.round_in.ensures, c.in-Going.is)
+returns-in-Some c = simp (c.round_in.ensures, c.in-Some.is)
 
-pub returns-in-Nothing : goal.returns-in-Nothing
+pub returns-in-None : goal.returns-in-None
 unfolding round_under
-returns-in-Nothing c = simp c.in-Nothing.is
+returns-in-None c = simp c.in-None.is

@@ -18,9 +18,10 @@ use Rattle.travel.specs.Next.{Next, next_paper}
 use Rattle.travel.specs.Next.Next.{Made, Over}
 use Rattle.travel.specs.Plan.{plan_of, circle_of, travel_paper, planned_paper}
 use Rattle.record.specs.declared.Held.{Held}
+use Rattle.record.specs.declared.Record.{Record}
 use Rattle.record.specs.declared.Found.{Found}
 use Rattle.record.specs.declared.Found.TheVariants.{Got, End, Wrong}
-use Rattle.record.specs.Places.{record_at, answered, found_paper, spot_paper}
+use Rattle.record.specs.Places.{record_at, found_paper, spot_paper}
 use Rattle.record.specs.Table.{record_from}
 use Rattle.program.specs.Going.{Going}
 use Rattle.program.specs.Going as going
@@ -98,13 +99,13 @@ module _ (e : Engine) where
   lead-paper o going.Wrong c = refl
 
   -- WHAT IS FOUND at a place is sent, 0 at the end place and G where nothing right is; a record, 4, is performed
-  pub found-paper : (rule : Rule) (f : Found) → ((found_paper (answered f).found).number ≡ 4 → ⊥) → paper (fetched rule f e).answer ≡ sent (found_paper (answered f).found)
+  pub found-paper : (rule : Rule) (f : Found) → ((found_paper f).number ≡ 4 → ⊥) → paper (fetched rule f e).answer ≡ sent (found_paper f)
   found-paper rule (Got r) n = absurd (n refl)
   found-paper rule End n = refl
   found-paper rule Wrong n = refl
 
-  pub found-record : (rule : Rule) (f : Found) → (found_paper (answered f).found).number ≡ 4 → fetched rule f e ≡ performed rule (answered f).item e
-  found-record rule (Got r) n = refl
+  pub found-record : (rule : Rule) (f : Found) → (found_paper f).number ≡ 4 → (r : Record) × (f ≡ Got r) × (fetched rule f e ≡ performed rule r e)
+  found-record rule (Got r) n = (r, refl, refl)
   found-record rule End n = absurd (omega arith)
   found-record rule Wrong n = absurd (omega arith)
 

@@ -33,14 +33,12 @@ use Rattle.travel.specs.Plan.{plan_of}
 use Rattle.travel.specs.work.Beat.{next_of}
 use Rattle.record.specs.declared.Held.{Held}
 use Rattle.record.specs.declared.Record.{Record}
-use Rattle.record.specs.declared.Found.TheVariants as found
-use Rattle.record.specs.declared.Fetched.{Fetched}
 use Rattle.record.specs.Fault.{ranges_right, is_movement, is_absolute}
 use Rattle.record.specs.Bytes.{is_right}
 use Rattle.record.specs.declared.Found.{Found}
 use Rattle.record.specs.declared.Found.TheVariants.{Got, End, Wrong}
 use Rattle.record.specs.Memory.{Memory}
-use Rattle.record.specs.Places.{answered, record_at}
+use Rattle.record.specs.Places.{record_at}
 use Rattle.record.specs.Table.{spot_of, record_from, fetch_of}
 use Rattle.record.proofs.laws.Walk.{front-stands}
 use lib.IntN.{ℤ}
@@ -106,25 +104,6 @@ delay-on (suc t) e h = rw sub-one
 
 -- ---- what is fetched
 
-module _ (x : Found) {f : Fetched} (e : f ≡ answered x) where
-  found_as : f.found ≡ (answered x).found
-  found_as = ap (λ (g : Fetched). g.found) e
-
-pub got : (x : Found) {f : Fetched} → f ≡ answered x → f.found ≡ found.Right → x ≡ Got f.item
-got (Got r) e p = ap Got (sym (ap (λ (g : Fetched). g.item) e))
-got End e p = let q = found_as End e in let z : ◌≡◌ {A = ℕ} 0 1 = cc in absurd (omega arith)
-got Wrong e p = let q = found_as Wrong e in let z : ◌≡◌ {A = ℕ} 0 1 = cc in absurd (omega arith)
-
-pub got-end : (x : Found) {f : Fetched} → f ≡ answered x → f.found ≡ found.End → x ≡ End
-got-end (Got r) e p = let q = found_as (Got r) e in let z : ◌≡◌ {A = ℕ} 0 1 = cc in absurd (omega arith)
-got-end End e p = refl
-got-end Wrong e p = let q = found_as Wrong e in let z : ◌≡◌ {A = ℕ} 0 1 = cc in absurd (omega arith)
-
-pub got-wrong : (x : Found) {f : Fetched} → f ≡ answered x → f.found ≡ found.Wrong → x ≡ Wrong
-got-wrong (Got r) e p = let q = found_as (Got r) e in let z : ◌≡◌ {A = ℕ} 0 1 = cc in absurd (omega arith)
-got-wrong End e p = let q = found_as End e in let z : ◌≡◌ {A = ℕ} 0 1 = cc in absurd (omega arith)
-got-wrong Wrong e p = refl
-
 -- a record found is right, and its place below the end place
 pub record Stood (h : Held) (place : ℕ) (r : Record) : Type 0 where
   pub below : place < h.records
@@ -169,11 +148,10 @@ module _ (axes : ℕ) (r : Record) (h : is_right axes r ≡ true) where
     pauses = λ e. delay-small (get_or r.words 0 0) (right-at 53 e);
   }
 
-pub ready-fits : (h : Held) (m : Memory) (place : ℕ) {f : Fetched} → f ≡ answered (fetch_of h m place) → f.found ≡ found.Right → h.records ≤ 65535
-    → (place < 65535) × Fits f.item
-ready-fits h m place {f} e p l =
-    let g = stood h m place (got (fetch_of h m place) e p) in
-    (omega (arith, g.below), fits h.axes f.item g.right)
+pub ready-fits : (h : Held) (m : Memory) (place : ℕ) {r : Record} → Got r ≡ fetch_of h m place → h.records ≤ 65535 → (place < 65535) × Fits r
+ready-fits h m place {r} e l =
+    let g = stood h m place (sym e) in
+    (omega (arith, g.below), fits h.axes r g.right)
 
 -- ---- a movement is told by two codes
 

@@ -1,117 +1,74 @@
-// The fields of a question, one behind the other. `at` is where the last one ended: at the space before the next, or at the line's end.
-ghost use Rattle.std.specs.Prelude.{◌≤◌, length};
-ghost use Rattle.ask.specs.work.Onward.{Onward};
+// The fields of a question, one behind the other, with a space in front of each.
+ghost use Rattle.std.specs.Prelude.{◌≤◌, length, IfOk};
+ghost use Rattle.std.specs.Iterator.{at_most};
 
-// The bits of a float, or that there are none, and where they end.
-#[derive(Clone, Copy)]
-pub(crate) struct BitsRead {
-    pub right: bool,
-    pub word: u64,
-    pub at: usize,
+use super::Fault;
+
+// What is left of a line: nothing, or a space and the fields behind it.
+#[derive(Drop)]
+pub(crate) struct Fields<'a> {
+    rest: &'a [u8],
 }
 
-// A whole number, or that there is none, and where it ends.
-#[derive(Clone, Copy)]
-pub(crate) struct WholeRead {
-    pub right: bool,
-    pub value: i64,
-    pub at: usize,
-}
-
-// A number of 16 bits, or that there is none, and where it ends.
-#[derive(Clone, Copy)]
-pub(crate) struct NumberRead {
-    pub right: bool,
-    pub value: u16,
-    pub at: usize,
-}
-
-// Whether the bytes could be read, and where they end.
-#[derive(Clone, Copy)]
-pub(crate) struct BytesRead {
-    pub right: bool,
-    pub at: usize,
-}
-
-// Where the field that starts at a place ends.
-pub(crate) fn end_of(line: &[u8], from: usize) -> usize
-    requires { from ≤ length line.now }
-    ensures { (from ≤ result) × (result ≤ length line.now) }
+// A text up to its first space, and from there on.
+pub(crate) fn cut(text: &[u8]) -> (&[u8], &[u8])
+    ensures { length result.1.now ≤ length text.now }
 {
-    reader::field_end(line, from)
+    text.split_at(reader::field_end(text, 0))
 }
 
-// The next field as the bits of a float.
-pub(crate) fn bits_behind(line: &[u8], at: usize) -> BitsRead
-    ensures { Onward at result.at (length line.now) }
-{
-    if line.len() <= at {
-        return BitsRead {
-            right: false,
-            word: 0,
-            at,
-        };
-    }
-    let from = at + 1;
-    let end = end_of(line, from);
-    let read = reader::read_bits(&line[from..end]);
-    BitsRead {
-        right: read.right,
-        word: read.word,
-        at: end,
+impl<'a> Iterator for Fields<'a> {
+    type Item = &'a [u8];
+
+    ghost remaining = { λ s. at_most (length s.rest.now) };
+
+    fn next(&mut self) -> Option<&'a [u8]> {
+        let (_, behind) = self.rest.split_first()?;
+        let (field, rest) = cut(behind);
+        self.rest = rest;
+        Some(field)
     }
 }
 
-// The next field as a whole number.
-pub(crate) fn whole_behind(line: &[u8], at: usize) -> WholeRead
-    ensures { Onward at result.at (length line.now) }
-{
-    if line.len() <= at {
-        return WholeRead {
-            right: false,
-            value: 0,
-            at,
-        };
+impl<'a> Fields<'a> {
+    // Those of a line behind its first word.
+    pub(crate) fn new(rest: &'a [u8]) -> Fields<'a> {
+        Fields { rest }
     }
-    let from = at + 1;
-    let end = end_of(line, from);
-    let read = reader::read_whole(&line[from..end]);
-    let value = read.value;
-    WholeRead {
-        right: read.right,
-        value,
-        at: end,
-    }
-}
 
-// The next field as a number from 0 to `most`.
-pub(crate) fn number_behind(line: &[u8], at: usize, most: u16) -> NumberRead
-    ensures { result.value ≤ most }
-{
-    let read = whole_behind(line, at);
-    let value = read.value;
-    if (value < 0) | ((most as i64) < value) {
-        return NumberRead {
-            right: false,
-            value: 0,
-            at: read.at,
-        };
+    // The next field as the bits of a float.
+    pub(crate) fn bits(&mut self) -> Result<u64, Fault> {
+        let field = self.next().ok_or(Fault::Unread)?;
+        reader::read_bits(field).ok_or(Fault::Unread)
     }
-    let small = value as u16;
-    NumberRead {
-        right: read.right,
-        value: small,
-        at: read.at,
-    }
-}
 
-// The next field as bytes, which then stand at the front of those lent.
-pub(crate) fn bytes_behind(line: &[u8], at: usize, bytes: &mut [u8]) -> BytesRead {
-    if line.len() <= at {
-        return BytesRead { right: false, at };
+    // The next field as a whole number.
+    pub(crate) fn whole(&mut self) -> Result<i64, Fault> {
+        let field = self.next().ok_or(Fault::Unread)?;
+        reader::read_whole(field).ok_or(Fault::Unread)
     }
-    let from = at + 1;
-    let end = end_of(line, from);
-    let right = reader::read_bytes(&line[from..end], bytes);
-    BytesRead { right, at: end }
+
+    // The next field as a number of a smaller type.
+    pub(crate) fn number<T: TryFrom<i64>>(&mut self) -> Result<T, Fault>
+    where
+        T::Error: Drop,
+    {
+        T::try_from(self.whole()?).map_err(|_| Fault::Unread)
+    }
+
+    // The next field as a number from 0 to `most`.
+    pub(crate) fn up_to(&mut self, most: usize) -> Result<usize, Fault>
+        ensures { IfOk result (λ n. n ≤ most) }
+    {
+        let n = self.number()?;
+        if n <= most { Ok(n) } else { Err(Fault::Unread) }
+    }
+
+    // The next field as bytes, which then stand at the front of those lent.
+    pub(crate) fn bytes(&mut self, bytes: &mut [u8]) -> Result<(), Fault> {
+        match self.next() {
+            Some(field) if reader::read_bytes(field, bytes) => Ok(()),
+            _ => Err(Fault::Unread),
+        }
+    }
 }

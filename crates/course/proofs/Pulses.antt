@@ -25,6 +25,7 @@ use Rattle.travel.specs.Next.Next.{Made}
 use Rattle.travel.specs.work.Beat.{within_of, made_of, with_made, mark_of, beaten}
 use Rattle.travel.proofs.laws.Within.{within-rest}
 use Rattle.travel.proofs.laws.Beats.{straight-within, arc-beaten, hit, missed}
+use Rattle.course.specs.declared.Glided.{Glided}
 use Rattle.course.specs.Text.{pulse_text}
 use Rattle.course.specs.work.Work.{Wrote}
 use Rattle.course.specs.work.Machine.{stays, way, Left}
@@ -78,7 +79,21 @@ module _ (m : Travel) (at : Counters) where
       → Part glides glide_on (glide_said turns) k (here m at) (record { state = here s.rest s.at; calls = 1; text = pulse_text turns s.signs s.speed })
   part turns k s e h = rw e at (one-part glides glide_on (glide_said turns) k (here m at) h (made e))
 
-same_kept : (turns : Bool) {limit n k : ℕ} {m₀ r t : Travel} {at₀ at : Counters} {out₀ out : List ℕ} → r ≡ t → GKept turns limit m₀ at₀ out₀ n r at out k → GKept turns limit m₀ at₀ out₀ n t at out k
+-- the pulses made are put anew
+pub made-anew : (t : Travel) (j k : ℕ) → with_made (with_made t j) k ≡ with_made t k
+made-anew (travel.Straight m) j k = refl
+made-anew (travel.Round a) j k = refl
+
+pub made-same : (t : Travel) {k : ℕ} → k ≡ made_of t → with_made t k ≡ t
+made-same (travel.Straight m) e = rw e
+made-same (travel.Round a) e = rw e
+
+-- what a run over a kind answers, told of what moves
+pub told-of : (made : ℕ) {g : Glided} {t u : Travel} {m n k : ℕ} {at : Counters} → g ≡ record { rest = with_made t made; at = at; calls = m; len = k } → t ≡ u → m ≡ n
+    → g ≡ record { rest = with_made u made; at = at; calls = n; len = k }
+told-of made e p q = rw (e, p, q)
+
+pub same_kept : (turns : Bool) {limit n k : ℕ} {m₀ r t : Travel} {at₀ at : Counters} {out₀ out : List ℕ} → r ≡ t → GKept turns limit m₀ at₀ out₀ n r at out k → GKept turns limit m₀ at₀ out₀ n t at out k
 same_kept turns e g = rw e at g
 
 module _ (turns : Bool) (limit : ℕ) (m₀ : Travel) (at₀ : Counters) (out₀ : List ℕ) (n : ℕ) (m : Travel) (at : Counters) (out : List ℕ) (k : ℕ) (i : GKept turns limit m₀ at₀ out₀ n m at out k) where

@@ -3,11 +3,9 @@
 // that it holds, so that its end line can follow once more; any other is received, and clock calls follow it until one answers nothing.
 #![tactic(auto)]
 
-ghost use Rattle.std.specs.Io.{ReadsAtMost};
-
 use board::Board;
 use engine::Answer;
-use sheet::{Axis, Converted, Rate};
+use sheet::{Axis, Rate, Refusal};
 use std::io;
 use std::io::Read;
 
@@ -22,82 +20,66 @@ struct Pace {
 // What an answer adds to the sum; nothing adds 0 and no other does.
 fn weight(answer: Answer) -> u64 {
     match answer {
-        Answer::Pulse(_, speed) => 3 + speed as u64,
+        Answer::Pulse(_, speed) => 3 + u64::from(speed),
         Answer::Pause => 1,
-        Answer::Send(b) => 1 + b as u64,
+        Answer::Send(b) => 1 + u64::from(b),
         Answer::Done => 2,
         Answer::Nothing => 0,
     }
 }
 
-fn plus(a: u64, b: u64) -> u64 {
-    a.wrapping_add(b)
-}
-
 // Clock calls until one answers nothing, at most 100,000.
 fn run(start: Pace, store: &[u8], table: &[u16]) -> Pace {
-    let mut board = start.board;
-    let mut calls = start.calls;
-    let mut sum = start.sum;
-    let mut turns: u32 = 100000;
-    while 0 < turns {
+    let Pace {
+        mut board,
+        mut calls,
+        mut sum,
+    } = start;
+    for _ in 0..100000 {
         let ticked = board.clock(store, table);
-        let next = ticked.board;
-        let answer = ticked.answer;
-        board = next;
-        let w = weight(answer);
-        calls = plus(calls, 1);
-        sum = plus(sum, w);
+        board = ticked.board;
+        let w = weight(ticked.answer);
+        calls = calls.wrapping_add(1);
+        sum = sum.wrapping_add(w);
         if w == 0 {
             return Pace { board, calls, sum };
         }
-        turns = turns - 1;
     }
     Pace { board, calls, sum }
 }
 
 fn receive(pace: Pace, byte: u8, store: &mut [u8], table: &mut [u16]) -> Pace {
     let mut reply = [0u8; 32];
-    let board = pace.board;
-    let heard = board.receive(byte, [0u8; 4], &mut reply, store, table);
-    let next = heard.board;
+    let heard = pace.board.receive(byte, [0u8; 4], &mut reply, store, table);
     Pace {
-        board: next,
-        calls: plus(pace.calls, 1),
-        sum: plus(pace.sum, heard.len as u64),
+        board: heard.board,
+        calls: pace.calls.wrapping_add(1),
+        sum: pace.sum.wrapping_add(heard.len as u64),
     }
 }
 
 // The board as it was before the end line of its program.
 fn storing(pace: Pace) -> Pace {
     let mut board = pace.board;
-    let e = board.engine;
-    let begun = e.store();
-    let engine = begun.set_held(e.held);
-    board.engine = engine;
-    Pace {
-        board,
-        calls: pace.calls,
-        sum: pace.sum,
-    }
+    board.engine = board.engine.store().set_held(board.engine.held);
+    Pace { board, ..pace }
 }
 
 fn list(pace: Pace, store: &[u8], text: &mut [u8]) -> Pace {
-    let board = pace.board;
-    let listed = board.list(store, text);
+    let listed = pace.board.list(store, text);
     Pace {
-        board,
-        calls: plus(pace.calls, 1),
-        sum: plus(pace.sum, listed.len as u64),
+        calls: pace.calls.wrapping_add(1),
+        sum: pace.sum.wrapping_add(listed.len as u64),
+        ..pace
     }
 }
 
 // What a conversion adds to the sum.
-fn value(c: Converted) -> u64 {
-    if 1000 < c.value {
-        return 1;
+fn value(converted: Result<i32, Refusal>) -> u64 {
+    match converted {
+        Ok(value) => u64::from(1000 < value),
+        Err(refusal) => u64::from(refusal.number()),
     }
-    c.refusal as u64
 }
 
 // A distance and a speed that no two turns share.
@@ -107,94 +89,61 @@ fn convert(mm: f64) -> u64 {
         steps: 400.0,
         gear: 1.5,
     };
-    let d = sheet::distance(axis, mm);
-    let s = sheet::speed(axis, Rate::PerMinute(mm));
-    plus(value(d), value(s))
+    let distance = value(sheet::distance(axis, mm));
+    let speed = value(sheet::speed(axis, Rate::PerMinute(mm)));
+    distance.wrapping_add(speed)
 }
 
 fn convert_all(pace: Pace) -> Pace {
     let mut sum = pace.sum;
     let mut mm = 0.37;
-    let mut turns: u32 = 500;
-    while 0 < turns {
-        let one = convert(mm);
-        let more = plus(sum, one);
-        sum = more;
-        mm = mm + 11.3;
-        turns = turns - 1;
+    for _ in 0..500 {
+        sum = sum.wrapping_add(convert(mm));
+        mm += 11.3;
     }
-    let board = pace.board;
     Pace {
-        board,
-        calls: plus(pace.calls, 1000),
+        calls: pace.calls.wrapping_add(1000),
         sum,
+        ..pace
     }
 }
 
 fn take_byte(pace: Pace, byte: u8, store: &mut [u8], table: &mut [u16], text: &mut [u8]) -> Pace {
-    if byte == 0 {
-        return list(pace, store, text);
+    match byte {
+        0 => list(pace, store, text),
+        1 => convert_all(pace),
+        2 => storing(pace),
+        _ => {
+            let heard = receive(pace, byte, store, table);
+            run(heard, store, table)
+        }
     }
-    if byte == 1 {
-        return convert_all(pace);
-    }
-    if byte == 2 {
-        return storing(pace);
-    }
-    let heard = receive(pace, byte, &mut *store, &mut *table);
-    run(heard, store, table)
 }
 
 fn take_all(
-    start: Pace,
+    mut pace: Pace,
     input: &[u8],
     store: &mut [u8],
     table: &mut [u16],
     text: &mut [u8],
 ) -> Pace {
-    let mut pace = start;
-    let mut i = 0;
-    while i < input.len() {
-        let next = take_byte(pace, input[i], &mut *store, &mut *table, &mut *text);
-        pace = next;
-        i = i + 1;
+    for byte in input {
+        pace = take_byte(pace, *byte, store, table, text);
     }
     pace
-}
-
-fn show(rt: &impl Print, n: u64, last: &[u8]) -> io::Result<()> {
-    print!(rt; "{n}")?;
-    rt.write_all(last)
-}
-
-// Reads until the buffer is full or the input ends, and answers how many bytes of it then stand at the buffer's front.
-fn read_full(from: &mut impl Read, buf: &mut [u8]) -> io::Result<usize>
-    ensures { ReadsAtMost result buf.new }
-{
-    let mut done = 0;
-    while done < buf.len() {
-        let n = from.read(&mut buf[done..])?;
-        if n == 0 {
-            return Ok(done);
-        }
-        done = done + n;
-    }
-    Ok(done)
 }
 
 fn main(rt: HostRuntime) -> io::Result<()> {
     let mut store = [0u8; 16384];
     let mut table = [0u16; 1000];
     let mut text = [0u8; 65536];
-    let board = Board::fresh();
-    let start = Pace {
-        board,
+    let mut input = Vec::new(rt.alloc());
+    rt.stdin().take(65536).read_to_end(&mut input)?;
+    let mut pace = Pace {
+        board: Board::fresh(),
         calls: 0,
         sum: 0,
     };
-    let mut input = [0u8; 65536];
-    let n = read_full(&mut rt.stdin(), &mut input)?;
-    let end = take_all(start, &input[..n], &mut store, &mut table, &mut text);
-    show(&rt, end.calls, b" ")?;
-    show(&rt, end.sum, b"\n")
+    pace = take_all(pace, &input, &mut store, &mut table, &mut text);
+    println!(rt; "{} {}", pace.calls, pace.sum)
 }

@@ -65,5 +65,8 @@ pub fn board_chain(
     ensures { chained result distances.new ≡ chain_of (record { lead = lead; steps = steps; gear = gear }) thousandths.now distances.old }
 {
     let axis = Axis { lead, steps, gear };
-    sheet::chain(axis, thousandths, distances)
+    match sheet::chain(axis, thousandths, distances) {
+        Ok(()) => 0,
+        Err(refusal) => refusal.number(),
+    }
 }

@@ -1,13 +1,10 @@
 -- From what two arrays say of a store: the verdict of its check, and its acceptance with the edges. Assumes nothing.
-use Prim.Native.Nat.{ℕ, zero, suc, ◌+◌, ◌-◌, ◌≤◌, ◌<◌}
+use Prim.Native.Nat.{ℕ, zero, suc, ◌+◌, ◌≤◌, ◌<◌}
 use mathlib.Core.Bool.{Bool, true, false, not, ◌&&◌, ◌||◌}
 use mathlib.Core.List.{List}
 use mathlib.Core.Path.{◌≡◌, refl, sym, ◌∙◌, ap}
 use native.Mathlib.Omega.{arith}
-use native.Mathlib.Numerals.{sub-one}
 use borrow.Author.Tests.{lt-ltb, le-ltb}
-use lib.Dec.{eqb}
-use lib.ListN.{get_or}
 use Rattle.std.specs.List.{range_with_len, list_any}
 use Rattle.std.proofs.Common.{◌==◌}
 use Rattle.std.proofs.Math.Bool.{or_assoc, or_comm}
@@ -16,15 +13,12 @@ use native.Mathlib.Nat.{add-zero, zero-add}
 use Rattle.count.proofs.laws.Truth.{never, and-false}
 use Rattle.record.specs.declared.Held.{Held}
 use Rattle.record.specs.Places.{none-are, records_of}
-use Rattle.std.specs.Prelude.{Err}
-use Rattle.program.specs.declared.Flaw.{Flaw}
-use Rattle.program.specs.declared.Flaw.TheVariants as flaw
-use Rattle.program.specs.Verdict.{Verdict, Sound, Fault, Unreadable, verdict}
+use Rattle.program.specs.Verdict.{Verdict, Sound, Fault, Unreadable}
 use Rattle.count.specs.Axes.{axes_set}
 use Rattle.program.specs.Program.{check_of, verdict_on, verdict_of, is_sound, sized, passing, accepted}
 use Rattle.program.specs.Edges.{leads_out, starts_first, of_these, acceptance, acceptance_of}
 use Rattle.program.specs.work.Aims.{loop_at, turn_at, far_at, marked_of}
-use Rattle.program.specs.work.Edges.{kind_is, leads, told_of}
+use Rattle.program.specs.work.Edges.{leads, told_of}
 use Rattle.program.specs.work.Marks.{mark, checked}
 use Rattle.program.specs.work.Work.{loop_in, turn_in, far_in}
 use Rattle.program.proofs.Gather.{Read}
@@ -85,10 +79,6 @@ unfolding leads
 leads-any test far m n = any-some (λ i. test i && (far i == m)) n
 
 -- ---- the acceptance
-
-pub told-err : (f : Flaw) (out first : Bool) → acceptance false false false ≡ told_of (verdict (Err f)) out first
-told-err flaw.Unreadable out first = refl
-told-err (flaw.Fault r p) out first = refl
 
 told-so : (v : Verdict) (out first : Bool) → told_of v out first ≡ acceptance (is_sound v) (is_sound v && out) (is_sound v && first)
 told-so Sound out first = refl

@@ -8,7 +8,8 @@ ghost use Rattle.program.specs.Verdict.{verdict};
 ghost use Rattle.program.specs.work.Decode.{kind_of, clip, kept, noted, unread, arrays_on};
 
 use crate::Flaw;
-use crate::pass::check_arrays;
+use crate::arrays::Places;
+use crate::pass::check_places;
 use record::{Found, Held, Record, record_at};
 
 // A word's offset, counted from -32,768.
@@ -75,7 +76,11 @@ pub fn check(store: &[u8], held: Held) -> Result<(), Flaw>
     let mut kinds = [0u8; 1000];
     let mut offsets = [0u16; 1000];
     if decode(store, held, &mut kinds, &mut offsets) {
-        return check_arrays(&kinds, &offsets, n);
+        return check_places(&Places {
+            kinds: &kinds,
+            offsets: &offsets,
+            n,
+        });
     }
     Err(Flaw::Unreadable)
 }

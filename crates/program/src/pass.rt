@@ -1,92 +1,75 @@
 // The check as one pass over the places: the ranges that hold a place are counted on the way.
-ghost use Rattle.std.specs.Prelude.{◌≡◌, false, ◌≤◌, ◌<◌, length};
-ghost use Rattle.program.specs.Verdict.{letter_in, verdict};
-ghost use Rattle.program.specs.work.Marks.{outside, strays, checked};
+ghost use Rattle.std.specs.Prelude.{◌≡◌, length};
+ghost use Rattle.program.specs.Verdict.{verdict};
+ghost use Rattle.program.specs.work.Marks.{checked};
 ghost use Rattle.program.specs.work.Work.{loop_in, turn_in, far_in};
-ghost use Rattle.program.specs.work.Ranges.{opening, fuller, letter_by, Backs, Starts, Counts};
+ghost use Rattle.program.specs.work.Ranges.{fuller, Counts};
 
-use crate::arrays::{early, far, is_turn, outside};
-use crate::ranges::{first_back, is_range, overlaps, parted, place_of, start_of, starts_at};
+use crate::arrays::Places;
+use crate::ranges::{Noted, place_of};
 use crate::{Flaw, Rule};
 
-// e: whether place `p` is a jump or wait that doesn't lie in the same ranges as its target.
-fn strays(notes: &[u16], kinds: &[u8], offsets: &[u16], n: u16, p: u16) -> bool
-    requires { Backs (loop_in kinds.now) (far_in offsets.now) notes.now n 0 × (p < n) × (n ≤ 1000) × (outside (turn_in kinds.now) (far_in offsets.now) n p ≡ false) }
-    ensures { result ≡ strays (loop_in kinds.now) (turn_in kinds.now) (far_in offsets.now) n p }
-{
-    if is_turn(kinds, p) {
-        let t = place_of(far(offsets, p)) as u16;
-        if t < p {
-            return parted(notes, kinds, offsets, n, t, p);
+impl<'a> Noted<'a> {
+    ghost use Rattle.std.specs.Prelude.{false, ◌<◌};
+    ghost use Rattle.program.specs.Verdict.{letter_in, verdict};
+    ghost use Rattle.program.specs.work.Marks.{outside, strays, checked};
+    ghost use Rattle.program.specs.work.Work.{loop_in, turn_in, far_in};
+    ghost use Rattle.program.specs.work.Ranges.{letter_by, Starts};
+
+    // e: whether place `p` is a jump or wait that doesn't lie in the same ranges as its target.
+    fn strays(&self, p: u16) -> bool
+        requires { (p < self.now.places.n) × (outside (turn_in self.now.places.kinds.now) (far_in self.now.places.offsets.now) self.now.places.n p ≡ false) }
+        ensures { result ≡ strays (loop_in self.now.places.kinds.now) (turn_in self.now.places.kinds.now) (far_in self.now.places.offsets.now) self.now.places.n p }
+    {
+        if self.places.is_turn(p) {
+            let t = place_of(self.places.far(p)) as u16;
+            if t < p {
+                return self.parted(t, p);
+            }
+            return self.parted(p, t);
         }
-        return parted(notes, kinds, offsets, n, p, t);
+        false
     }
-    false
-}
 
-// What place `p`, which `held` ranges hold, is at fault for.
-#[tactic(auto, unfolding(crate::specs::work::Ranges::letter_by))]
-fn fault_at(notes: &[u16], kinds: &[u8], offsets: &[u16], n: u16, held: u16, p: u16) -> Option<Rule>
-    requires { Backs (loop_in kinds.now) (far_in offsets.now) notes.now n 0 × (p < n) × (n ≤ 1000) }
-    ensures { letter_in result ≡ letter_by (loop_in kinds.now) (turn_in kinds.now) (far_in offsets.now) n held p }
-{
-    if outside(kinds, offsets, n, p) {
-        return Some(Rule::Outside);
-    }
-    if early(kinds, offsets, p) {
-        return Some(Rule::Early);
-    }
-    if overlaps(notes, kinds, offsets, n, p) {
-        return Some(Rule::Overlaps);
-    }
-    if 7 < held {
-        return Some(Rule::Crowded);
-    }
-    if strays(notes, kinds, offsets, n, p) {
-        return Some(Rule::Strays);
-    }
-    None
-}
-
-// The first fault of a program of `n` places: at each the ranges that start there are added, and behind it the one that ends there is
-// taken off.
-fn first_fault(notes: &[u16], kinds: &[u8], offsets: &[u16], n: u16) -> Result<(), Flaw>
-    requires { Starts (loop_in kinds.now) (far_in offsets.now) notes.now n × Backs (loop_in kinds.now) (far_in offsets.now) notes.now n 0 × (n ≤ 1000) }
-    ensures { verdict result ≡ checked (loop_in kinds.now) (turn_in kinds.now) (far_in offsets.now) n }
-{
-    let mut on = 0;
-    for p in 0..n {
-        let held = on + starts_at(notes, p);
-        if let Some(rule) = fault_at(notes, kinds, offsets, n, held, p) {
-            return Err(Flaw::Fault(rule, p));
+    // What place `p`, which `held` ranges hold, is at fault for.
+    #[tactic(auto, unfolding(crate::specs::work::Ranges::letter_by))]
+    fn fault_at(&self, held: u16, p: u16) -> Option<Rule>
+        requires { p < self.now.places.n }
+        ensures { letter_in result ≡ letter_by (loop_in self.now.places.kinds.now) (turn_in self.now.places.kinds.now) (far_in self.now.places.offsets.now) self.now.places.n held p }
+    {
+        if self.places.outside(p) {
+            return Some(Rule::Outside);
         }
-        on = held - u16::from(is_range(kinds, offsets, p));
+        if self.places.early(p) {
+            return Some(Rule::Early);
+        }
+        if self.overlaps(p) {
+            return Some(Rule::Overlaps);
+        }
+        if 7 < held {
+            return Some(Rule::Crowded);
+        }
+        if self.strays(p) {
+            return Some(Rule::Strays);
+        }
+        None
     }
-    Ok(())
-}
 
-// The same, once it is noted for each place, from the last one on, which loop behind it is the first whose range starts before its own.
-fn check_starts(notes: &mut [u16], kinds: &[u8], offsets: &[u16], n: u16) -> Result<(), Flaw>
-    requires { Counts (loop_in kinds.now) (far_in offsets.now) notes.old n × (length notes.old ≡ 1000) × (n ≤ 1000) }
-    ensures { verdict result ≡ checked (loop_in kinds.now) (turn_in kinds.now) (far_in offsets.now) n }
-{
-    for i in (0..n).rev() {
-        let s = start_of(kinds, offsets, i);
-        let b = first_back(&notes[..], kinds, offsets, n, i + 1, s);
-        notes[usize::from(i)] += b;
+    // The first fault: at each place the ranges that start there are added, and behind it the one that ends there is taken off.
+    fn first_fault(&self) -> Result<(), Flaw>
+        requires { Starts (loop_in self.now.places.kinds.now) (far_in self.now.places.offsets.now) self.now.notes.now self.now.places.n }
+        ensures { verdict result ≡ checked (loop_in self.now.places.kinds.now) (turn_in self.now.places.kinds.now) (far_in self.now.places.offsets.now) self.now.places.n }
+    {
+        let mut on = 0;
+        for p in 0..self.places.n {
+            let held = on + self.starts_at(p);
+            if let Some(rule) = self.fault_at(held, p) {
+                return Err(Flaw::Fault(rule, p));
+            }
+            on = held - u16::from(self.places.is_range(p));
+        }
+        Ok(())
     }
-    first_fault(&notes[..], kinds, offsets, n)
-}
-
-// Where the range of place `i` starts; of a place without one, that place.
-#[tactic(auto, unfolding(crate::specs::work::Ranges::opening))]
-fn opening(kinds: &[u8], offsets: &[u16], i: u16) -> u16
-    ensures { (result ≡ opening (loop_in kinds.now) (far_in offsets.now) i) × (result ≤ i) }
-{
-    if is_range(kinds, offsets, i) {
-        return place_of(far(offsets, i)) as u16;
-    }
-    i
 }
 
 // One range more that starts at a place, up to eight: more than seven are too many.
@@ -100,15 +83,32 @@ fn fuller(note: u16, more: bool) -> u16
     note
 }
 
-// The check of a program of `n` places, in as many steps as there are places: first it is noted how many ranges start at each.
-pub(crate) fn check_arrays(kinds: &[u8], offsets: &[u16], n: u16) -> Result<(), Flaw>
-    requires { n ≤ 1000 }
-    ensures { verdict result ≡ checked (loop_in kinds.now) (turn_in kinds.now) (far_in offsets.now) n }
+// The check, once it is noted how many ranges start at each place: it is noted too, from the last place on, which loop behind it is the
+// first whose range starts before its own.
+fn check_starts(notes: &mut [u16], places: &Places<'_>) -> Result<(), Flaw>
+    requires { Counts (loop_in places.now.kinds.now) (far_in places.now.offsets.now) notes.old places.now.n × (length notes.old ≡ 1000) }
+    ensures { verdict result ≡ checked (loop_in places.now.kinds.now) (turn_in places.now.kinds.now) (far_in places.now.offsets.now) places.now.n }
+{
+    for i in (0..places.n).rev() {
+        let s = places.start_of(i);
+        let b = places.first_back(&notes[..], i + 1, s);
+        notes[usize::from(i)] += b;
+    }
+    let noted = Noted {
+        places: *places,
+        notes: &notes[..],
+    };
+    noted.first_fault()
+}
+
+// The check of a program, in as many steps as there are places: first it is noted how many ranges start at each.
+pub(crate) fn check_places(places: &Places<'_>) -> Result<(), Flaw>
+    ensures { verdict result ≡ checked (loop_in places.now.kinds.now) (turn_in places.now.kinds.now) (far_in places.now.offsets.now) places.now.n }
 {
     let mut notes = [0u16; 1000];
-    for i in 0..n {
-        let at = usize::from(opening(kinds, offsets, i));
-        notes[at] = fuller(notes[at], is_range(kinds, offsets, i));
+    for i in 0..places.n {
+        let at = usize::from(places.opening(i));
+        notes[at] = fuller(notes[at], places.is_range(i));
     }
-    check_starts(&mut notes, kinds, offsets, n)
+    check_starts(&mut notes, places)
 }

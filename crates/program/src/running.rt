@@ -31,14 +31,12 @@ fn entry(loops: Loops, top: u8) -> Loop
 fn stays(going: Going, loops: Loops) -> Lead
     ensures { lead_in result ≡ leap_by loops (way_by going loops) }
 {
-    let depth = loops.depth;
-    let top = top_of(depth);
-    let last = entry(loops, top);
+    let top = top_of(loops.depth);
     Lead {
         going,
-        depth,
+        depth: loops.depth,
         top,
-        last,
+        last: entry(loops, top),
     }
 }
 
@@ -81,19 +79,16 @@ fn again(place: u16, target: u16, loops: Loops) -> Lead
     requires { (0 < loops.depth) × (loops.depth ≤ 7) × (place < 65535) }
     ensures { lead_in result ≡ leap_by loops (again place target loops) }
 {
-    let depth = loops.depth;
-    let top = depth - 1;
-    let last = entry(loops, top);
-    let left = last.left;
+    let top = loops.depth - 1;
+    let left = entry(loops, top).left;
     if left == 0 {
-        let none = Loop { place: 0, left: 0 };
-        return sets(place + 1, top, none, top);
+        return sets(place + 1, top, Loop { place: 0, left: 0 }, top);
     }
     let less = Loop {
         place,
         left: left - 1,
     };
-    sets(target, top, less, depth)
+    sets(target, top, less, loops.depth)
 }
 
 // A new counter opens, and makes the first of its goes back.
@@ -134,8 +129,7 @@ fn aimed(item: Record, place: u16, end: u16, loops: Loops) -> Lead
     requires { place < end }
     ensures { lead_in result ≡ leap_by loops (aimed place end (nth item.words 1) item loops) }
 {
-    let words = item.words;
-    let Some(target) = target_of(place, words[1], end) else {
+    let Some(target) = target_of(place, item.words[1], end) else {
         return stays(Going::Wrong, loops);
     };
     if item.code == b'2' {
@@ -147,7 +141,7 @@ fn aimed(item: Record, place: u16, end: u16, loops: Loops) -> Lead
             loops,
         );
     }
-    let number = words[0];
+    let number = item.words[0];
     if number == 0 {
         return stays(Going::To(target), loops);
     }
@@ -177,9 +171,7 @@ impl Lead {
     {
         let mut at = before.at;
         if self.top < 7 {
-            let i = self.top as usize;
-            let last = self.last;
-            at[i] = last;
+            at[usize::from(self.top)] = self.last;
         }
         Loops {
             at,

@@ -5,7 +5,7 @@ use Rattle.count.specs.Sizes.{reply_bytes}
 use Rattle.count.specs.Chars.{ch}
 use Rattle.count.specs.Pick.{pick}
 use Rattle.count.specs.Paper.{Paper, says}
-use Rattle.sheet.specs.declared.Converted.{Converted}
+use Rattle.sheet.specs.Sheet.{Converted}
 use Rattle.sheet.specs.Chain.{results, chained, chain_of}
 use Rattle.motion.specs.declared.Counters.{Counters}
 use Rattle.travel.specs.declared.Travel.{Travel}

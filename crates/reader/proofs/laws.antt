@@ -1,3 +1,4 @@
+pub mod Chains
 pub mod Fields
 pub mod Size
 pub mod Pairs

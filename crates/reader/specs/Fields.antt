@@ -1,11 +1,9 @@
 -- The fields of a line of questions: words parted by one space each, of which some are whole numbers, some the bits of a float and some the bytes of a store. The paper
 -- knows no such line; this is ours alone (D165).
-use Rattle.std.specs.Prelude.{ℕ, ◌+◌, ◌-◌, ◌*◌, ◌/◌, ◌%◌, Bool, true, false, ◌&&◌, ◌||◌, List, [], ◌∷◌, ◌++◌, leb, eqb, ℤ, pos, negsuc, length, drop}
+use Rattle.std.specs.Prelude.{ℕ, ◌+◌, ◌-◌, ◌*◌, ◌/◌, ◌%◌, Bool, true, false, ◌&&◌, ◌||◌, List, [], ◌∷◌, ◌++◌, leb, eqb, ℤ, pos, negsuc, length, drop, Option, Some, None}
 use Rattle.count.specs.Chars.{ch}
 use Rattle.count.specs.Pick.{pick, every}
 use Rattle.count.specs.Numbers.{within, with_sign}
-use Rattle.reader.specs.declared.fields.Whole.{Whole}
-use Rattle.reader.specs.declared.fields.Bits.{Bits}
 use Rattle.reader.specs.Reader.{is_digit, hex_value, with_hex}
 
 -- the bytes before the next space, or all of them if there is none
@@ -24,23 +22,16 @@ unfoldable pub with_digits : List ℕ → ℕ → ℕ
 with_digits [] n = n
 with_digits (b ∷ s) n = with_digits s (n * 10 + (b - ch "0"))
 
-abbrev pub whole : ℤ → Whole
-whole z = record { right = true; value = z }
-
--- with the value 0 where it is none
-abbrev pub no_whole : Whole
-no_whole = record { right = false; value = pos 0 }
-
 abbrev pub in64 : ℤ → Bool
 in64 z = within (negsuc 9223372036854775807) (pos 9223372036854775807) z
 
-unfoldable pub signed_whole : Bool → List ℕ → Whole
+unfoldable pub signed_whole : Bool → List ℕ → Option ℤ
 signed_whole minus s =
     let z = with_sign minus (with_digits s 0) in
-    pick (leb 1 (length s) && leb (length s) 19 && every is_digit s && in64 z) (whole z) no_whole
+    pick (leb 1 (length s) && leb (length s) 19 && every is_digit s && in64 z) (Some z) None
 
-unfoldable pub whole_of : List ℕ → Whole
-whole_of [] = no_whole
+unfoldable pub whole_of : List ℕ → Option ℤ
+whole_of [] = None
 whole_of (b ∷ s) = pick (eqb b (ch "-")) (signed_whole true s) (signed_whole false (b ∷ s))
 
 -- ---- the bits of a float: sixteen hexadecimal digits, with small letters
@@ -48,12 +39,8 @@ whole_of (b ∷ s) = pick (eqb b (ch "-")) (signed_whole true s) (signed_whole f
 abbrev pub is_hex : ℕ → Bool
 is_hex b = is_digit b || (leb (ch "a") b && leb b (ch "f"))
 
--- 0 where it is none
-abbrev pub no_bits : Bits
-no_bits = record { right = false; word = 0 }
-
-unfoldable pub bits_of : List ℕ → Bits
-bits_of s = pick (eqb (length s) 16 && every is_hex s) (record { right = true; word = with_hex s 0 }) no_bits
+unfoldable pub bits_of : List ℕ → Option ℕ
+bits_of s = pick (eqb (length s) 16 && every is_hex s) (Some (with_hex s 0)) None
 
 -- ---- bytes: two hexadecimal digits each, with small letters, or `-` for none
 

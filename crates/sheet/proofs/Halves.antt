@@ -18,8 +18,8 @@ unfolding half_up
 up_by q u h k r e d g l = div-eq_of_lt-le (2 * u) (omega arith) (omega arith)
 
 -- the unit as the code makes it
-pub unit-is : (p : ℕ) → p ≤ 53 → (1 * 2 ^ p) % 2 ^ 64 ≡ 2 ^ p
-unit-is p h = shl_exact 1 p 64 (omega arith) (omega arith) ∙ once (2 ^ p)
+pub unit_is : (p : ℕ) → p ≤ 53 → (1 * 2 ^ p) % 2 ^ 64 ≡ 2 ^ p
+unit_is p h = shl_exact 1 p 64 (omega arith) (omega arith) ∙ once (2 ^ p)
   where
     once : (k : ℕ) → 1 * k ≡ k
     once k = omega arith

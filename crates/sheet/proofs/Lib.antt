@@ -3,6 +3,7 @@ pub mod Halves
 pub mod Pattern
 pub mod Sign
 pub mod Range
+pub mod Refusals
 pub mod Sums
 pub mod Turns
 pub mod Only

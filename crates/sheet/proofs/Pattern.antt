@@ -159,14 +159,14 @@ module _ (b : ℕ) where
   digits_lt = mod-lt b (pow_pos 52)
 
   -- the digits with the one before them
-  pub digits-short : b % 2 ^ 52 + 2 ^ 52 < 2 ^ 53
-  digits-short = omega (arith, digits_lt)
+  pub digits_short : b % 2 ^ 52 + 2 ^ 52 < 2 ^ 53
+  digits_short = omega (arith, digits_lt)
 
-  pub near-small : x < 1022 → 0 ≡ capped (of_bits binary64 b)
-  near-small h = small (leb (2 ^ 63) b) (b % 2 ^ 52) digits_lt x h ∙ sym (ap capped (of_bits_is b))
+  pub near_small : x < 1022 → 0 ≡ capped (of_bits binary64 b)
+  near_small h = small (leb (2 ^ 63) b) (b % 2 ^ 52) digits_lt x h ∙ sym (ap capped (of_bits_is b))
 
-  pub near-middle : 1022 ≤ x → x < 1047 → half_up (b % 2 ^ 52 + 2 ^ 52) (2 ^ (1075 - x)) ≡ capped (of_bits binary64 b)
-  near-middle g h = middle (leb (2 ^ 63) b) (b % 2 ^ 52) digits_lt x g h ∙ sym (ap capped (of_bits_is b))
+  pub near_middle : 1022 ≤ x → x < 1047 → half_up (b % 2 ^ 52 + 2 ^ 52) (2 ^ (1075 - x)) ≡ capped (of_bits binary64 b)
+  near_middle g h = middle (leb (2 ^ 63) b) (b % 2 ^ 52) digits_lt x g h ∙ sym (ap capped (of_bits_is b))
 
-  pub near-large : 1047 ≤ x → 16777216 ≡ capped (of_bits binary64 b)
-  near-large h = large (leb (2 ^ 63) b) (b % 2 ^ 52) digits_lt x h ∙ sym (ap capped (of_bits_is b))
+  pub near_large : 1047 ≤ x → 16777216 ≡ capped (of_bits binary64 b)
+  near_large h = large (leb (2 ^ 63) b) (b % 2 ^ 52) digits_lt x h ∙ sym (ap capped (of_bits_is b))

@@ -11,9 +11,8 @@ use mir.Syntax.{w32, w64}
 use mir.Val.{SFits, to_z, of_z}
 use mir.ValLaws.{to_z_pos, to_z-of_z}
 use borrow.Author.Tests.{leb-true, leb-false, le-leb, lt-leb}
-use Rattle.count.proofs.laws.Truth.{and_left}
-use Rattle.sheet.specs.declared.Converted.{Converted}
-use Rattle.sheet.specs.Sheet.{near, signed, refused, whole_steps, whole_speed, rounded}
+use Rattle.count.proofs.laws.Truth.{and_left, and_right}
+use Rattle.sheet.specs.Sheet.{Converted, near, signed, refused, whole_steps, whole_speed, rounded}
 use Rattle.sheet.specs.work.Work.{capped_whole}
 
 -- what refuses every size from 2 ^ 24 up answers the same of a size and of the size cut there
@@ -52,11 +51,11 @@ speed-refuses false k h = rw (le-leb 30 k (omega arith), lt-leb k 10000 (omega a
 speed-refuses true zero h = absurd (omega arith)
 speed-refuses true (suc k) h = refl
 
-pub steps-by : (x : Float) → whole_steps (capped_whole x) ≡ rounded whole_steps x
-steps-by x = by-cut whole_steps steps-refuses x
+pub steps_by : (x : Float) → whole_steps (capped_whole x) ≡ rounded whole_steps x
+steps_by x = by-cut whole_steps steps-refuses x
 
-pub speed-by : (x : Float) → whole_speed (capped_whole x) ≡ rounded whole_speed x
-speed-by x = by-cut whole_speed speed-refuses x
+pub speed_by : (x : Float) → whole_speed (capped_whole x) ≡ rounded whole_speed x
+speed_by x = by-cut whole_speed speed-refuses x
 
 -- ---- a size as an i64 of either sign
 
@@ -84,23 +83,19 @@ signed-fits false n h = plus-fits n h
 signed-fits true n h = neg-fits n h
 
 -- what the machine reads back from a cut whole number is that number
-pub capped-back : (x : Float) → to_z w64 (of_z w64 (capped_whole x)) ≡ capped_whole x
+pub capped_back : (x : Float) → to_z w64 (of_z w64 (capped_whole x)) ≡ capped_whole x
 unfolding capped_whole
-capped-back nan = to_z-of_z w64 (pos 16777216) (plus-fits 16777216 (omega arith))
-capped-back (inf s) = to_z-of_z w64 (signed s 16777216) (signed-fits s 16777216 (omega arith))
-capped-back (fin s m e) = to_z-of_z w64 (signed s (min (near m e) 16777216)) (signed-fits s (min (near m e) 16777216) (omega arith))
+capped_back nan = to_z-of_z w64 (pos 16777216) (plus-fits 16777216 (omega arith))
+capped_back (inf s) = to_z-of_z w64 (signed s 16777216) (signed-fits s 16777216 (omega arith))
+capped_back (fin s m e) = to_z-of_z w64 (signed s (min (near m e) 16777216)) (signed-fits s (min (near m e) 16777216) (omega arith))
 
 -- ---- a whole number in range as an i32
 
-pub steps-fit : (z : ℤ) → (le_z (negsuc 8388607) z && le_z z (pos 8388607)) ≡ true → SFits w32 z
-steps-fit (pos k) h = let l : k ≤ 8388607 = leb-true k 8388607 h in record { sfits = omega arith }
-steps-fit (negsuc k) h = let l : k ≤ 8388607 = leb-true k 8388607 (and_left (leb k 8388607) true h) in record { sfits = omega arith }
+pub between-fits : (low z high : ℤ) → SFits w32 low → SFits w32 high → (le_z low z && le_z z high) ≡ true → SFits w32 z
+between-fits low (pos k) (pos h) a b e = let l : k ≤ h = leb-true k h (and_right (le_z low (pos k)) (leb k h) e) in record { sfits = omega (arith, b.sfits) }
+between-fits low (pos k) (negsuc h) a b e = let f : false ≡ true = and_right (le_z low (pos k)) false e in cc
+between-fits (negsuc n) (negsuc k) high a b e = let l : k ≤ n = leb-true k n (and_left (leb k n) (le_z (negsuc k) high) e) in record { sfits = omega (arith, a.sfits) }
+between-fits (pos n) (negsuc k) high a b e = let f : false ≡ true = and_left false (le_z (negsuc k) high) e in cc
 
-pub speed-fit : (z : ℤ) → (le_z (pos 30) z && le_z z (pos 10000)) ≡ true → SFits w32 z
-speed-fit (pos k) h = let l : k ≤ 10000 = leb-true k 10000 (second (leb 30 k) (leb k 10000) h) in record { sfits = omega arith }
-  where
-    second : (a b : Bool) → (a && b) ≡ true → b ≡ true
-    second true b e = e
-    second false true e = refl
-    second false false e = e
-speed-fit (negsuc k) h = let z : ◌≡◌ {A = ℕ} 0 1 = cc in absurd (omega arith)
+pub steps-fit : (z : ℤ) → (le_z (negsuc 8388607) z && le_z z (pos 8388607)) ≡ true → SFits w32 z
+steps-fit z h = between-fits (negsuc 8388607) z (pos 8388607) (record { sfits = omega arith }) (record { sfits = omega arith }) h

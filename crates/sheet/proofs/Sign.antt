@@ -4,22 +4,18 @@ use mathlib.Core.Bool.{Bool, true, false, not, cond}
 use Prim.Native.Nat.{ℕ, zero, suc, ◌+◌, ◌*◌, ◌/◌, ◌%◌, ◌^◌, ◌≤◌}
 use native.Mathlib.Omega.{arith}
 use lib.Dec.{T, leb, eqb}
-use lib.Ieee.{Float, nan, inf, fin, binary64, odd, of_fields, of_bits, to_bits, fits, is_nan, ne, eq}
+use lib.Ieee.{Float, nan, inf, fin, binary64, odd, of_fields, of_bits, to_bits, fits, is_nan}
 use lib.Ieee.Bits.{of_bits-to_bits}
-use lib.Ieee.Compare.{differs_from_itself}
 use lib.Ieee.Exact.{HasValue, odd_sign}
 use Rattle.sheet.specs.Sheet.{signed}
 use Rattle.sheet.specs.work.Work.{capped, capped_whole}
 use Rattle.sheet.proofs.Pattern.{of_bits_is}
 
-pub only_nan : (x : Float) → ne x x ≡ true → x ≡ nan
-only_nan x h = differs_from_itself x (subst T (sym h) tt)
-
-pub no_nan : (x : Float) → ne x x ≡ false → T (not (is_nan x))
-unfolding ne eq is_nan
-no_nan nan h = subst T h tt
-no_nan (inf s) h = tt
-no_nan (fin s m e) h = tt
+pub only_nan : (x : Float) → is_nan x ≡ true → x ≡ nan
+unfolding is_nan
+only_nan nan h = refl
+only_nan (inf s) h = cc
+only_nan (fin s m e) h = cc
 
 abbrev pub Signed : Bool → Float → Type 0
 Signed s nan = ⊥

@@ -34,8 +34,8 @@ le_is (negsuc a) (negsuc b) = sym (sub-sign (suc a) (suc b) ∙ leb-suc-suc b a)
 
 -- ---- a term on the other side
 
-pub move-low : (a s t : ℤ) → le_z (a -ℤ s) t ≡ le_z a (s +ℤ t)
-move-low a s t = le_is (a -ℤ s) t ∙ ap non_neg same ∙ sym (le_is a (s +ℤ t))
+pub move_low : (a s t : ℤ) → le_z (a -ℤ s) t ≡ le_z a (s +ℤ t)
+move_low a s t = le_is (a -ℤ s) t ∙ ap non_neg same ∙ sym (le_is a (s +ℤ t))
   where
     same : t -ℤ (a -ℤ s) ≡ (s +ℤ t) -ℤ a
     same =
@@ -43,8 +43,8 @@ move-low a s t = le_is (a -ℤ s) t ∙ ap non_neg same ∙ sym (le_is a (s +ℤ
         ∙ sym (+ℤ_assoc t s (neg_ℤ a))
         ∙ ap (λ (z : ℤ). z +ℤ neg_ℤ a) (+ℤ_comm t s)
 
-pub move-high : (b s t : ℤ) → le_z t (b -ℤ s) ≡ le_z (s +ℤ t) b
-move-high b s t = le_is t (b -ℤ s) ∙ ap non_neg same ∙ sym (le_is (s +ℤ t) b)
+pub move_high : (b s t : ℤ) → le_z t (b -ℤ s) ≡ le_z (s +ℤ t) b
+move_high b s t = le_is t (b -ℤ s) ∙ ap non_neg same ∙ sym (le_is (s +ℤ t) b)
   where
     same : (b -ℤ s) -ℤ t ≡ b -ℤ (s +ℤ t)
     same = +ℤ_assoc b (neg_ℤ s) (neg_ℤ t) ∙ ap (λ (z : ℤ). b +ℤ z) (sym (neg_ℤ-+ℤ s t))
@@ -95,10 +95,10 @@ pub made-is : (s t : ℤ) → SFits w64 t → sum_right (s +ℤ t) ≡ true → 
 made-is s t f h = ap (λ (z : ℤ). to_z w64 (of_z w64 z)) (made s t f) ∙ to_z-of_z w64 (s +ℤ t) (sum_fits (s +ℤ t) h)
 
 -- a float counts so far without a gap
-pub sum-exact : (t : ℤ) → sum_right t ≡ true → T (in_float binary64 t)
+pub sum_exact : (t : ℤ) → sum_right t ≡ true → T (in_float binary64 t)
 unfolding in_float
-sum-exact (pos n) h = le→leb n (2 ^ 53) (omega (arith, sum-size (pos n) h))
-sum-exact (negsuc n) h = lt→ltb n (2 ^ 53) (omega (arith, sum-size (negsuc n) h))
+sum_exact (pos n) h = le→leb n (2 ^ 53) (omega (arith, sum-size (pos n) h))
+sum_exact (negsuc n) h = lt→ltb n (2 ^ 53) (omega (arith, sum-size (negsuc n) h))
 
 -- ---- numbers of 32 bits as such of 64, and their differences
 

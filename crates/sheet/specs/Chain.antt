@@ -6,8 +6,7 @@ use Rattle.std.specs.Float.Ieee.{of_int, div}
 use Rattle.count.specs.Pick.{pick, every}
 use Rattle.count.specs.Numbers.{within, in24}
 use Rattle.sheet.specs.declared.Axis.{Axis}
-use Rattle.sheet.specs.declared.Converted.{Converted}
-use Rattle.sheet.specs.Sheet.{float, axis_right, distance_steps}
+use Rattle.sheet.specs.Sheet.{Converted, float, axis_right, distance_steps}
 
 -- ---- 02, §2, sentence 4: the chain is summed in whole thousandths of a mm
 

@@ -1,3 +1,4 @@
 pub mod Sheet
+pub mod Refusal
 pub mod Chain
 pub mod work

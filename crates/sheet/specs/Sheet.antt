@@ -8,7 +8,6 @@ use Rattle.count.specs.Pick.{pick}
 use Rattle.sheet.specs.declared.Axis.{Axis}
 use Rattle.sheet.specs.declared.Rate.{Rate}
 use Rattle.sheet.specs.declared.Rate.TheVariants.{PerSecond, PerMinute, Steps}
-use Rattle.sheet.specs.declared.Converted.{Converted}
 
 -- the 64-bit float nearest to n / d, and to -n / d
 unfoldable pub float : ℕ → ℕ → Float
@@ -69,18 +68,26 @@ signed true k = neg_ℤ (pos k)
 
 -- ---- 01, "The sheet", sentence 9: the whole number must be of 24 bits, or from 30 to 10,000 for a speed. An infinity and not-a-number have none
 
+-- the refusal, or 0, and the value, which is 0 where there is a refusal
+pub record Converted : Type 0 where
+  pub refusal : ℕ
+  pub value : ℤ
+
 abbrev pub refused : ℕ → Converted
 refused n = record { refusal = n; value = pos 0 }
 
 abbrev pub found : ℤ → Converted
 found z = record { refusal = 0; value = z }
 
+abbrev pub in_range : ℤ → ℤ → ℤ → Converted
+in_range low z high = pick (le_z low z && le_z z high) (found z) (refused 203)
+
 -- from -8,388,608, which is `negsuc 8388607`, to 8,388,607
 unfoldable pub whole_steps : ℤ → Converted
-whole_steps z = pick (le_z (negsuc 8388607) z && le_z z (pos 8388607)) (found z) (refused 203)
+whole_steps z = in_range (negsuc 8388607) z (pos 8388607)
 
 unfoldable pub whole_speed : ℤ → Converted
-whole_speed z = pick (le_z (pos slowest) z && le_z z (pos fastest)) (found z) (refused 203)
+whole_speed z = in_range (pos slowest) z (pos fastest)
 
 -- the float's whole number in such a range
 unfoldable pub rounded : (ℤ → Converted) → Float → Converted

@@ -1,80 +1,79 @@
 // A chain of distances, summed in thousandths of a mm, so that nothing is lost from one distance to the next (02, §2).
 ghost use Rattle.std.specs.Prelude.{◌≡◌, true, pos, ◌+ℤ◌, length};
-ghost use Rattle.count.specs.Pick.{every};
-ghost use Rattle.sheet.specs.Chain.{sums, sum_right, result_of, chained, chain_of};
-ghost use Rattle.sheet.specs.work.Links.{noted, link_of, fault_from, steps_from};
+ghost use Rattle.sheet.specs.Refusal.{number_of, converted};
+ghost use Rattle.sheet.specs.Chain.{sum_right, result_of, chained, chain_of};
+ghost use Rattle.sheet.specs.work.Links.{link_of, made_of, result_after, fault_from, steps_from};
 
-use super::{Axis, Converted, axis_right, distance_steps, whole_steps};
+use super::{Axis, Refusal, axis_right, distance_steps, whole_steps};
 
-// The result at a sum, how far it is from the result before, and 203 if either is outside 24 bits.
+// The result at a sum, and how far it is from the result before.
 #[derive(Clone, Copy)]
 struct Link {
-    pub refusal: u16,
     pub result: i32,
     pub step: i32,
 }
 
 // Distances in thousandths of a mm as relative distances in steps, or the refusal, which leaves the output as found.
-pub fn chain(axis: Axis, thousandths: &[i64], steps: &mut [i32]) -> u16
-    ensures { chained result steps.new ≡ chain_of axis thousandths.now steps.old }
+pub fn chain(axis: Axis, thousandths: &[i64], steps: &mut [i32]) -> Result<(), Refusal>
+    ensures { chained (number_of result) steps.new ≡ chain_of axis thousandths.now steps.old }
 {
     let n = thousandths.len();
-    if (1000 < n) | (steps.len() != n) {
-        return 105;
+    if 1000 < n || steps.len() != n {
+        return Err(Refusal::Length);
     }
     if !axis_right(axis) {
-        return 201;
+        return Err(Refusal::Axis);
     }
-    let refusal = chain_fault(axis, thousandths);
-    if refusal != 0 {
-        return refusal;
-    }
-    deliver(axis, thousandths, steps);
-    0
+    test(axis, thousandths)?;
+    deliver(axis, thousandths, steps)
 }
 
-// 202 if a sum is not right, else 203 if a result or a difference is outside 24 bits, else 0.
-fn chain_fault(axis: Axis, thousandths: &[i64]) -> u16
-    ensures { result ≡ fault_from axis (pos 0) (pos 0) 0 thousandths.now }
+// 202 if a sum is not right, else 203 if a result or a difference is outside 24 bits.
+fn test(axis: Axis, thousandths: &[i64]) -> Result<(), Refusal>
+    ensures { number_of result ≡ fault_from axis (pos 0) (pos 0) 0 thousandths.now }
 {
-    let mut sum: i64 = 0;
-    let mut result: i32 = 0;
-    let mut refusal: u16 = 0;
-    let mut i = 0;
-    while i < thousandths.len() {
-        let t = thousandths[i];
+    let mut sum = 0;
+    let mut last = Ok(0);
+    for &t in thousandths {
         if !sum_right(sum, t) {
-            return 202;
+            return Err(Refusal::Value);
         }
-        sum = sum + t;
-        let link = link_of(axis, result, sum);
-        result = link.result;
-        refusal = note(refusal, link.refusal);
-        i = i + 1;
+        sum += t;
+        last = next(axis, last, sum);
     }
-    refusal
+    last?;
+    Ok(())
 }
 
-// The differences, each written in its place.
-fn deliver(axis: Axis, thousandths: &[i64], steps: &mut [i32])
-    requires { (length steps.old ≡ length thousandths.now) × (every sum_right (sums (pos 0) thousandths.now) ≡ true) }
-    ensures { steps.new ≡ steps_from axis (pos 0) (pos 0) thousandths.now }
+// The result at a sum, or what was refused already.
+fn next(axis: Axis, last: Result<i32, Refusal>, sum: i64) -> Result<i32, Refusal>
+    requires { sum_right sum ≡ true }
+    ensures { result ≡ result_after axis last sum }
 {
-    let mut sum: i64 = 0;
-    let mut result: i32 = 0;
-    let mut i = 0;
-    while i < thousandths.len() {
-        let t = thousandths[i];
-        sum = sum + t;
-        let link = link_of(axis, result, sum);
-        result = link.result;
-        let step = link.step;
-        steps[i] = step;
-        i = i + 1;
+    let link = link_of(axis, last?, sum)?;
+    Ok(link.result)
+}
+
+// The differences of a chain that is refused nothing, each written in its place.
+fn deliver(axis: Axis, thousandths: &[i64], steps: &mut [i32]) -> Result<(), Refusal>
+    requires long { length steps.old ≡ length thousandths.now }
+    requires sound { fault_from axis (pos 0) (pos 0) 0 thousandths.now ≡ 0 }
+    ensures done { number_of result ≡ 0 }
+    ensures steps { steps.new ≡ steps_from axis (pos 0) (pos 0) thousandths.now }
+{
+    let mut sum = 0;
+    let mut before = 0;
+    for (i, &t) in thousandths.iter().enumerate() {
+        sum += t;
+        let link = link_of(axis, before, sum)?;
+        before = link.result;
+        steps[i] = link.step;
     }
+    Ok(())
 }
 
 // Whether the sum with one distance more is right. The sum is not made here, since it need not fit.
+#[tactic(auto, using(crate::proofs::Sums::low_fits, crate::proofs::Sums::high_fits))]
 fn sum_right(sum: i64, t: i64) -> bool
     requires { sum_right sum ≡ true }
     ensures { result ≡ sum_right (sum +ℤ t) }
@@ -82,35 +81,20 @@ fn sum_right(sum: i64, t: i64) -> bool
     (-1000000000 - sum <= t) & (t <= 1000000000 - sum)
 }
 
-fn link_of(axis: Axis, before: i32, sum: i64) -> Link
+fn link_of(axis: Axis, before: i32, sum: i64) -> Result<Link, Refusal>
     requires { sum_right sum ≡ true }
-    ensures { result ≡ link_of axis before sum }
+    ensures { result ≡ made_of (link_of axis before sum) }
 {
-    let found = result_of(axis, sum);
-    let result = found.value;
-    let gap = whole_steps((result as i64) - (before as i64));
-    let refusal = note(gap.refusal, found.refusal);
-    let step = gap.value;
-    Link {
-        refusal,
-        result,
-        step,
-    }
+    let result = result_of(axis, sum)?;
+    let step = whole_steps(i64::from(result) - i64::from(before))?;
+    Ok(Link { result, step })
 }
 
 // A sum of thousandths divided by 1,000, and converted.
-fn result_of(axis: Axis, sum: i64) -> Converted
+#[tactic(auto, using(crate::proofs::Numbers::thousand, crate::proofs::Sums::sum_exact), unfolding(crate::specs::Chain::result_of, crate::specs::Chain::in_mm))]
+fn result_of(axis: Axis, sum: i64) -> Result<i32, Refusal>
     requires { sum_right sum ≡ true }
-    ensures { result ≡ result_of axis sum }
+    ensures { converted result ≡ result_of axis sum }
 {
     distance_steps(axis, sum as f64 / 1000.0)
-}
-
-fn note(earlier: u16, later: u16) -> u16
-    ensures { result ≡ noted earlier later }
-{
-    if later == 0 {
-        return earlier;
-    }
-    later
 }

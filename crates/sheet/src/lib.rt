@@ -4,7 +4,8 @@
 ghost use Rattle.std.specs.Prelude.{◌≡◌, ◌^◌};
 ghost use Rattle.std.specs.Float.{binary64};
 ghost use Rattle.std.specs.Float.Ieee.{of_bits};
-ghost use Rattle.sheet.specs.Sheet.{axis_right, distance_right, rate_right, between, distance_float, speed_float, half_up, whole_steps, whole_speed, distance_steps, speed_steps, refused, distance_of, speed_of};
+ghost use Rattle.sheet.specs.Sheet.{axis_right, distance_right, rate_right, between, distance_float, speed_float, half_up, in_range, whole_steps, whole_speed, distance_steps, speed_steps, distance_of, speed_of};
+ghost use Rattle.sheet.specs.Refusal.{refusal_paper, converted};
 ghost use Rattle.sheet.specs.work.Work.{Room, capped, capped_whole};
 
 mod chains;
@@ -27,40 +28,60 @@ pub enum Rate {
     Steps(i64),
 }
 
-// The refusal, or 0, and the value, which is 0 where there is a refusal.
-#[derive(Clone, Copy)]
-pub struct Converted {
-    pub refusal: u16,
-    pub value: i32,
+// Why there is no value: an output of another length than the chain, or a chain of more than 1,000 distances; an axis that is not right;
+// a distance, speed or sum that is not right; a whole number outside its range.
+#[derive(Clone, Copy, PartialEq, Eq)]
+pub enum Refusal {
+    Length,
+    Axis,
+    Value,
+    Range,
+}
+
+impl Refusal {
+    // The number by which it is told, which is never 0.
+    pub fn number(self) -> u16
+        ensures { result ≡ (refusal_paper self).number }
+    {
+        match self {
+            Refusal::Length => 105,
+            Refusal::Axis => 201,
+            Refusal::Value => 202,
+            Refusal::Range => 203,
+        }
+    }
 }
 
 // A distance in mm as steps.
-pub fn distance(axis: Axis, mm: f64) -> Converted
-    ensures { result ≡ distance_of axis mm }
+#[tactic(auto, unfolding(crate::specs::Sheet::distance_of))]
+pub fn distance(axis: Axis, mm: f64) -> Result<i32, Refusal>
+    ensures { converted result ≡ distance_of axis mm }
 {
     if !axis_right(axis) {
-        return refuse(201);
+        return Err(Refusal::Axis);
     }
     if !distance_right(mm) {
-        return refuse(202);
+        return Err(Refusal::Value);
     }
     distance_steps(axis, mm)
 }
 
 // A speed as steps per second.
-pub fn speed(axis: Axis, rate: Rate) -> Converted
-    ensures { result ≡ speed_of axis rate }
+#[tactic(auto, unfolding(crate::specs::Sheet::speed_of))]
+pub fn speed(axis: Axis, rate: Rate) -> Result<i32, Refusal>
+    ensures { converted result ≡ speed_of axis rate }
 {
     if !axis_right(axis) {
-        return refuse(201);
+        return Err(Refusal::Axis);
     }
     if !rate_right(rate) {
-        return refuse(202);
+        return Err(Refusal::Value);
     }
     speed_steps(axis, rate)
 }
 
 // The test of the axis, 201.
+#[tactic(auto, using(crate::proofs::Numbers::thousandth, crate::proofs::Numbers::million), unfolding(crate::specs::Sheet::axis_right))]
 pub(crate) fn axis_right(axis: Axis) -> bool
     ensures { result ≡ axis_right axis }
 {
@@ -71,6 +92,7 @@ pub(crate) fn axis_right(axis: Axis) -> bool
 }
 
 // The test of a distance, 202.
+#[tactic(auto, using(crate::proofs::Numbers::minus_million, crate::proofs::Numbers::million), unfolding(crate::specs::Sheet::distance_right))]
 fn distance_right(mm: f64) -> bool
     ensures { result ≡ distance_right mm }
 {
@@ -78,12 +100,12 @@ fn distance_right(mm: f64) -> bool
 }
 
 // The test of a speed, 202.
+#[tactic(auto, using(crate::proofs::Numbers::nought, crate::proofs::Numbers::million), unfolding(crate::specs::Sheet::rate_right))]
 fn rate_right(rate: Rate) -> bool
     ensures { result ≡ rate_right rate }
 {
     match rate {
-        Rate::PerSecond(v) => within(0.0, v, 1000000.0),
-        Rate::PerMinute(v) => within(0.0, v, 1000000.0),
+        Rate::PerSecond(v) | Rate::PerMinute(v) => within(0.0, v, 1000000.0),
         Rate::Steps(n) => (0 <= n) & (n <= 1000000),
     }
 }
@@ -96,16 +118,18 @@ fn within(lo: f64, x: f64, hi: f64) -> bool
 }
 
 // The formula of a distance, rounded to a whole number of steps of 24 bits, else 203.
-pub(crate) fn distance_steps(axis: Axis, mm: f64) -> Converted
-    ensures { result ≡ distance_steps axis mm }
+#[tactic(auto, using(crate::proofs::Range::steps_by, crate::proofs::Range::capped_back), unfolding(crate::specs::Sheet::distance_steps))]
+pub(crate) fn distance_steps(axis: Axis, mm: f64) -> Result<i32, Refusal>
+    ensures { converted result ≡ distance_steps axis mm }
 {
     let steps = mm / axis.lead * axis.steps * axis.gear;
     whole_steps(nearest(steps))
 }
 
 // The formula of a speed, rounded to whole steps per second from 30 to 10,000, else 203.
-fn speed_steps(axis: Axis, rate: Rate) -> Converted
-    ensures { result ≡ speed_steps axis rate }
+#[tactic(auto, using(crate::proofs::Range::speed_by, crate::proofs::Range::capped_back, crate::proofs::Numbers::sixty), unfolding(crate::specs::Sheet::speed_steps))]
+fn speed_steps(axis: Axis, rate: Rate) -> Result<i32, Refusal>
+    ensures { converted result ≡ speed_steps axis rate }
 {
     match rate {
         Rate::PerSecond(v) => whole_speed(nearest(speed_float(axis, v))),
@@ -122,37 +146,28 @@ fn speed_float(axis: Axis, v: f64) -> f64
 }
 
 // The range of a distance.
-pub(crate) fn whole_steps(n: i64) -> Converted
-    ensures { result ≡ whole_steps n }
+#[tactic(auto, unfolding(crate::specs::Sheet::whole_steps))]
+pub(crate) fn whole_steps(n: i64) -> Result<i32, Refusal>
+    ensures { converted result ≡ whole_steps n }
 {
-    if (-8388608 <= n) & (n <= 8388607) {
-        return Converted {
-            refusal: 0,
-            value: n as i32,
-        };
-    }
-    refuse(203)
+    in_range(-8388608, n, 8388607)
 }
 
 // The range of a speed.
-fn whole_speed(n: i64) -> Converted
-    ensures { result ≡ whole_speed n }
+#[tactic(auto, unfolding(crate::specs::Sheet::whole_speed))]
+fn whole_speed(n: i64) -> Result<i32, Refusal>
+    ensures { converted result ≡ whole_speed n }
 {
-    if (30 <= n) & (n <= 10000) {
-        return Converted {
-            refusal: 0,
-            value: n as i32,
-        };
-    }
-    refuse(203)
+    in_range(30, n, 10000)
 }
 
-fn refuse(number: u16) -> Converted
-    ensures { result ≡ refused number }
+fn in_range(low: i32, n: i64, high: i32) -> Result<i32, Refusal>
+    ensures { converted result ≡ in_range low n high }
 {
-    Converted {
-        refusal: number,
-        value: 0,
+    if (i64::from(low) <= n) & (n <= i64::from(high)) {
+        Ok(n as i32)
+    } else {
+        Err(Refusal::Range)
     }
 }
 
@@ -161,19 +176,20 @@ fn refuse(number: u16) -> Converted
 fn nearest(x: f64) -> i64
     ensures { result ≡ capped_whole x }
 {
-    if x != x {
+    if x.is_nan() {
         return 16777216;
     }
-    let bits = f64::to_bits(x);
+    let bits = x.to_bits();
     let size = nearest_size(bits);
     if bits < 0x8000_0000_0000_0000 {
         return size as i64;
     }
-    0 - (size as i64)
+    -(size as i64)
 }
 
 // The size of the nearest whole number, from the bits: below the exponent field 1022 a float is
 // less than a half, and from 1047 on it is 2^24 or more.
+#[tactic(auto, using(crate::proofs::Pattern::digits_short, crate::proofs::Pattern::near_small, crate::proofs::Pattern::near_middle, crate::proofs::Pattern::near_large))]
 fn nearest_size(bits: u64) -> u64
     ensures { result ≡ capped (of_bits binary64 bits) }
 {
@@ -189,6 +205,7 @@ fn nearest_size(bits: u64) -> u64
 }
 
 // The whole number nearest to digits / 2^places, a half going up.
+#[tactic(auto, using(crate::proofs::Halves::unit_is, crate::proofs::Halves::down, crate::proofs::Halves::up, crate::proofs::Halves::one_more))]
 fn halves_up(digits: u64, places: u64) -> u64
     requires { Room digits places }
     ensures { result ≡ half_up digits (2 ^ places) }

@@ -6,8 +6,7 @@ use native.Mathlib.Omega.{arith}
 use lib.IntN.{ℤ, pos, nat_abs}
 use lib.ListN.{get_or}
 use lib.Ieee.{round, of_int, le, mul, div}
-use Rattle.sheet.specs.declared.Converted.{Converted}
-use Rattle.sheet.specs.Sheet.{axis, float, distance_steps, axis_right, rounded, whole_steps, near, half_up}
+use Rattle.sheet.specs.Sheet.{Converted, axis, float, distance_steps, axis_right, rounded, whole_steps, near, half_up}
 use Rattle.sheet.specs.Chain.{total, in_mm, result_of, results, chain_of}
 use Rattle.sheet.proofs.laws.Chain.{alone-is, every-prefix, whole-chain, refused-keeps}
 use Rattle.sheet.proofs.laws.Examples.{apart}

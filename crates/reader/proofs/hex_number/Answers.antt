@@ -1,48 +1,24 @@
--- `reader::hex_number` meets its contract: the loop keeps what the digits come to. Assumes nothing.
-use Prim.Native.Nat.{ℕ, zero, suc, ◌+◌, ◌-◌, ◌*◌, ◌%◌, ◌≤◌, ◌<◌}
-use mathlib.Core.Path.{◌≡◌, sym, ◌∙◌}
-use mathlib.Core.List.{List}
-use native.Mathlib.Omega.{arith}
-use lib.ListN.{length, take, drop, get_or, drop_of_length-le}
-use lib.Seq.{take-nil}
-use Rattle.count.proofs.laws.Lists.{next}
+-- `reader::hex_number` meets its contract: as `fold` says.
+use Rattle.std.proofs.Common.{rules, ◌≡◌, ◌∙◌, refl, ◌+◌, ◌*◌, ◌%◌, ℕ, List, [], ◌∷◌, fold}
+use Rattle.std.proofs.lemmas.Iterator.{YieldsList-from_slice, YieldsList-from_take}
+use Rattle.std.proofs.lemmas.Iterator.Adapters.{YieldsList-from_skip}
+use Rattle.std.proofs.lemmas.Iterator.Consumers.{fold_from_yields_List}
+use Rattle.reader.proofs.laws.Chains.{by_source}
 use Rattle.reader.specs.Reader.{hex_value, with_hex}
 use Rattle.reader.proofs.hex_number.Goals as goal
 
--- ---- what so many digits from byte i on come to
+-- one digit more
+abbrev more : ℕ → ℕ → ℕ
+more n b = n % 0x1000000000000000 * 16 + hex_value b
 
-less : (k : ℕ) → suc k - 1 ≡ k
-less k = omega arith
-
-module _ (s : List ℕ) (i n : ℕ) where
-  none : (left : ℕ) → left ≡ 0 → with_hex (take left (drop i s)) n ≡ n
-  unfolding with_hex
-  none left e = rw e
-
-  all_read : (left : ℕ) → length s ≤ i → with_hex (take left (drop i s)) n ≡ n
-  unfolding with_hex
-  all_read left h = rw (drop_of_length-le s h, take-nil left)
-
-  goes_on : (left : ℕ) → 0 < left → i < length s
-      → with_hex (take left (drop i s)) n ≡ with_hex (take (left - 1) (drop (i + 1) s)) (n % 0x1000000000000000 * 16 + hex_value (get_or s i 0))
-  unfolding with_hex
-  goes_on zero l h = absurd (omega arith)
-  goes_on (suc k) l h = rw (next s i h, less k)
-
-pub returns-then-left-eq0 : goal.returns-then-left-eq0
-returns-then-left-eq0 c =
-    let t = c.args.text.now in
-    sym (c.loop-at.invariant ∙ none t c.loop-at.at c.loop-at.n c.loop-at.left c.if-left-eq0.true)
-
-pub loop-at-preserved : goal.loop-at-preserved
-loop-at-preserved c =
-    let t = c.args.text.now in
-    let some : 0 < c.loop-at.left = omega arith in
-    c.loop-at.invariant
-    ∙ goes_on t c.loop-at.at c.loop-at.n c.loop-at.left some c.loop-at-test.true
-    ∙ rw (← c.hex_value.ensures.0)
+folds : (s : List ℕ) (n : ℕ) → fold more n s ≡ with_hex s n
+unfolding with_hex
+folds [] n = refl
+folds (b ∷ s) n = folds s (more n b)
 
 pub returns : goal.returns
 returns c =
-    let t = c.args.text.now in
-    sym (c.loop-at.invariant ∙ all_read t c.loop-at.at c.loop-at.n c.loop-at.left c.loop-at-test.false)
+    let text = YieldsList-from_slice c.args.text.now c.iter.ensures.rest in
+    let behind = YieldsList-from_skip c.args.from (by_source c.skip.ensures.source text) c.skip.ensures.count in
+    let near = YieldsList-from_take c.args.digits (by_source c.take.ensures.source behind) c.take.ensures.count in
+    fold_from_yields_List _ more 0 _ c.fold.ensures.ran near (λ a x b q h. (refl, search rules)) ∙ folds _ 0

@@ -1,26 +1,41 @@
--- `reader::hex_value` meets its contract: by its tests. Assumes nothing.
-use Prim.Native.Nat.{◌<◌}
-use native.Mathlib.Omega.{arith}
+-- `reader::hex_value` meets its contract: by its tests.
+use Rattle.std.proofs.Common.{◌<◌, ◌≤◌, arith}
 use Rattle.count.specs.Pick.{tests}
 use Rattle.reader.specs.Reader.{hex_value}
 use Rattle.reader.proofs.hex_value.Goals as goal
 
-pub returns-then-b-lt48 : goal.returns-then-b-lt48
+pub returns-in-48-to-57 : goal.returns-in-48-to-57
 unfolding hex_value
-returns-then-b-lt48 c = let h : c.args.b < 97 = omega arith in (search (tests), omega arith)
+returns-in-48-to-57 c =
+    let low : 48 ≤ c.args.b = omega arith in
+    let high : c.args.b ≤ 57 = omega arith in
+    (rw c.from.ensures (search (tests)), omega (arith, c.from.ensures))
 
-pub returns-then-b-le57 : goal.returns-then-b-le57
+pub returns-in-97-to-102 : goal.returns-in-97-to-102
 unfolding hex_value
-returns-then-b-le57 c = (search (tests), omega arith)
+returns-in-97-to-102 c =
+    let above : 57 < c.args.b = omega arith in
+    let low : 97 ≤ c.args.b = omega arith in
+    let high : c.args.b ≤ 102 = omega arith in
+    (rw c.from-in-97-to-102.ensures (search (tests)), omega (arith, c.from-in-97-to-102.ensures))
 
-pub returns-then-b-lt97 : goal.returns-then-b-lt97
+pub returns-in_default : goal.returns-in_default
 unfolding hex_value
-returns-then-b-lt97 c = (search (tests), omega arith)
+returns-in_default c =
+    let under : c.args.b < 48 = omega arith in
+    let low : c.args.b < 97 = omega arith in
+    (search (tests), omega arith)
 
-pub returns-then-b-le102 : goal.returns-then-b-le102
+pub returns-in_default-2 : goal.returns-in_default-2
 unfolding hex_value
-returns-then-b-le102 c = (search (tests), omega arith)
+returns-in_default-2 c =
+    let above : 57 < c.args.b = omega arith in
+    let low : c.args.b < 97 = omega arith in
+    (search (tests), omega arith)
 
-pub returns : goal.returns
+pub returns-in_default-3 : goal.returns-in_default-3
 unfolding hex_value
-returns c = (search (tests), omega arith)
+returns-in_default-3 c =
+    let above : 57 < c.args.b = omega arith in
+    let high : 102 < c.args.b = omega arith in
+    (search (tests), omega arith)

@@ -7,26 +7,21 @@ use native.Mathlib.Nat.{zero-add}
 use native.Mathlib.Numerals.{add-one}
 use native.Mathlib.Omega.{arith}
 use lib.Dec.{leb, eqb}
+use lib.Pointwise.{pointwise}
 use lib.ListN.{length, drop, get_or, set}
 use lib.Seq.{paste, paste-suc, take-length}
 use borrow.Author.Tests.{leb-true}
 use Rattle.count.specs.Pick.{every}
-use Rattle.count.proofs.laws.Truth.{and_parts}
+use Rattle.count.proofs.laws.Truth.{and_parts, and-true, and-false}
 use Rattle.reader.specs.Fields.{is_hex, is_dash, are_pairs, byte_of, pairs, given, bytes_of}
 
 -- ---- a field of one byte
 
-pub dash-not : (s : List ℕ) → (length s ≡ 1 → ⊥) → is_dash s ≡ false
+pub dash-is : (s : List ℕ) → pointwise eqb s (45 ∷ []) ≡ is_dash s
 unfolding is_dash
-dash-not [] h = refl
-dash-not (b ∷ []) h = absurd (h refl)
-dash-not (b ∷ c ∷ s) h = refl
-
-pub dash-is : (s : List ℕ) → length s ≡ 1 → is_dash s ≡ eqb (get_or s 0 0) 45
-unfolding is_dash
-dash-is [] h = absurd (omega arith)
-dash-is (b ∷ []) h = refl
-dash-is (b ∷ c ∷ s) h = absurd (omega arith)
+dash-is [] = refl
+dash-is (b ∷ []) = and-true (eqb b 45)
+dash-is (b ∷ c ∷ s) = and-false (eqb b 45)
 
 -- ---- pairs of digits
 

@@ -1,51 +1,43 @@
--- -1 - v of a negative v, one less than its size, at 32 bits, and -1 - n at 64. Assumes nothing.
-use mathlib.Core.Path.{◌≡◌, subst, ap}
-use mathlib.Core.Bool.{true, false}
-use Prim.Native.Nat.{ℕ, zero, suc, ◌+◌, ◌-◌, ◌<◌, ◌^◌}
-use native.Mathlib.Omega.{arith}
-use lib.Dec.{T}
-use lib.IntN.{ℤ, pos, negsuc, nat_abs, ◌-ℤ◌}
-use lib.Signed.{lt_z, non_neg}
-use mir.Syntax.{w32, w64}
-use mir.Val.{Fits, SFits, to_z}
-use mir.ValLaws.{to_z_pos}
-use borrow.Author.Tests.{ltb-true, le-ltb}
+-- A size with its sign, in 64 bits or not, as a conversion that may fail tests it.
+use Rattle.std.proofs.Common.{◌≡◌, Bool, true, false, ℕ, ℤ, pos, negsuc, Result, Ok, Err, Some, None, FitsSigned, w64, refl, ap, ◌-ℤ◌, neg_ℤ, to_z, of_z, arith, ◌^◌, ◌<◌, zero, suc}
+use Rattle.std.specs.Int.{w128}
+use Rattle.std.proofs.lemmas.Int.{ints}
+use mir.ValLaws.{to_z-of_z}
+use Rattle.std.specs.Result.{OkIff, result_ok}
+use Rattle.std.proofs.lemmas.Bool.{leb-true, leb-false}
+use Rattle.count.specs.Pick.{pick}
+use Rattle.count.specs.Numbers.{within, with_sign}
+use Rattle.count.proofs.laws.Truth.{and-true}
+use Rattle.reader.specs.Fields.{in64}
+use Rattle.reader.specs.work.Sizes.{sized_whole}
 
-flip : (k : ℕ) → negsuc 0 -ℤ negsuc k ≡ pos k
-flip k = rw (le-ltb (suc k) 1 (omega arith)) (ap pos (less k))
+fits_from_in64 : (z : ℤ) → in64 z ≡ true → FitsSigned w64 z
+unfolding within
+fits_from_in64 (pos n) h = record { sfits = omega (arith, leb-true n 9223372036854775807 h) }
+fits_from_in64 (negsuc n) h = record { sfits = omega (arith, leb-true n 9223372036854775807 (rw and-true at h)) }
+
+not_in64 : (z : ℤ) → in64 z ≡ false → FitsSigned w64 z → ⊥
+unfolding within
+not_in64 (pos n) h f = omega (arith, leb-false n 9223372036854775807 h, f.sfits)
+not_in64 (negsuc n) h f = omega (arith, leb-false n 9223372036854775807 (rw and-true at h), f.sfits)
+
+pub sized_by : {E : Type 0} (minus : Bool) (n : ℕ) (z : ℤ) (r : Result ℤ E) → z ≡ with_sign minus n → OkIff r (FitsSigned w64 z) z → result_ok r ≡ sized_whole minus n
+unfolding sized_whole
+sized_by {E = E} minus n z r e p = rw (← e) (go (in64 z) refl r p)
   where
-    less : (k : ℕ) → suc k - 1 ≡ k
-    less k = omega arith
+    go : (t : Bool) → in64 z ≡ t → (r : Result ℤ E) → OkIff r (FitsSigned w64 z) z → result_ok r ≡ pick t (Some z) None
+    go true h (Ok x) p = ap Some p.1
+    go true h (Err x) p = absurd (p (fits_from_in64 z h))
+    go false h (Ok x) p = absurd (not_in64 z h p.0)
+    go false h (Err x) p = refl
 
--- what the branch of a negative v needs and gives
-pub record Under (v : ℤ) : Type 0 where
-  pub sub-fits : SFits w32 (negsuc 0 -ℤ v)
-  pub cast_fits : T (non_neg (negsuc 0 -ℤ v)) × Fits w32 (nat_abs (negsuc 0 -ℤ v))
-  pub add-fits : Fits w32 (nat_abs (negsuc 0 -ℤ v) + 1)
-  pub size : nat_abs (negsuc 0 -ℤ v) + 1 ≡ nat_abs v
-
-pub under : (v : ℤ) → SFits w32 v → lt_z v (pos 0) ≡ true → Under v
-under (pos k) f h = let l : k < 0 = ltb-true k 0 h in absurd (omega arith)
-under (negsuc k) f h =
-    let l : k < 2 ^ 31 = f.sfits in
-    record {
-      sub-fits = rw (flip k) (record { sfits = l });
-      cast_fits = rw (flip k) (tt, record { fits = omega arith });
-      add-fits = rw (flip k) (record { fits = omega arith });
-      size = rw (flip k) (one k);
-    }
+-- a size of 64 bits with a minus, at 128
+pub minus_wide : (n : ℕ) → n < 2 ^ 64 → to_z w128 (of_z w128 (pos 0 -ℤ to_z w128 (of_z w128 (pos n)))) ≡ neg_ℤ (pos n)
+minus_wide n h = rw (to_z-of_z w128 (pos n) (record { sfits = omega arith })) (go n h)
   where
-    one : (k : ℕ) → k + 1 ≡ suc k
-    one k = omega arith
+    less : (n : ℕ) → pos 0 -ℤ pos n ≡ neg_ℤ (pos n)
+    less n = omega (arith, ints)
 
-pub plain : (v : ℤ) → SFits w32 v → lt_z v (pos 0) ≡ false → T (non_neg v) × Fits w32 (nat_abs v)
-plain (pos k) f h = let l : k < 2 ^ 31 = f.sfits in (tt, record { fits = omega arith })
-plain (negsuc k) f h = let l : T false = subst T h tt in absurd l
-
--- -1 less n, at 64 bits
-pub below-fits : (n : ℕ) → n < 2 ^ 63 → SFits w64 (negsuc 0 -ℤ to_z w64 n)
-below-fits n h = rw (to_z_pos w64 n h) (go n h)
-  where
-    go : (n : ℕ) → n < 2 ^ 63 → SFits w64 (negsuc 0 -ℤ pos n)
-    go zero h = record { sfits = omega arith }
-    go (suc k) h = record { sfits = omega arith }
+    go : (n : ℕ) → n < 2 ^ 64 → to_z w128 (of_z w128 (pos 0 -ℤ pos n)) ≡ neg_ℤ (pos n)
+    go zero h = refl
+    go (suc k) h = rw (less (suc k)) (to_z-of_z w128 (negsuc k) (record { sfits = omega arith }))

@@ -1,14 +1,8 @@
--- `reader::next_numbers` meets its contract: the words read so far, and the numbers still to read, are all of them. Assumes nothing.
-use Prim.Native.Nat.{ℕ, suc, ◌+◌, ◌-◌, ◌≤◌, ◌<◌}
-use mathlib.Core.Path.{◌≡◌, refl, sym, ◌∙◌}
-use mathlib.Core.List.{List, ◌++◌, append_assoc, append-nil}
-use native.Mathlib.Numerals.{add-one}
-use native.Mathlib.Omega.{arith}
-use lib.ListN.{length, take, set, length-set}
+-- `reader::next_numbers` meets its contract: the words read so far, and the numbers still to read, are all of them.
+use Rattle.std.proofs.Common.{ℕ, suc, ◌+◌, ◌-◌, ◌≤◌, ◌<◌, ◌≡◌, sym, ◌∙◌, List, ◌++◌, append_assoc, append-nil, add-one, arith, length, take, set}
 use lib.Seq.{take_all, take-suc-set}
 use Rattle.reader.specs.Reader.{number_at, words_at, behind_words}
 use Rattle.reader.proofs.next_numbers.Goals as goal
-use Rattle.reader.proofs.next_numbers.Invariants.{Inv}
 
 -- ---- one number more, and none left
 
@@ -17,6 +11,9 @@ one_less n k h = omega arith
 
 no_more : (n k : ℕ) → n ≤ k → n - k ≡ 0
 no_more n k h = omega arith
+
+all : (n : ℕ) → n - 0 ≡ n
+all n = omega arith
 
 module _ (text words : List ℕ) (n k at : ℕ) where
   words-on : k < n → k < length words
@@ -36,36 +33,28 @@ module _ (text words : List ℕ) (n k at : ℕ) where
   unfolding behind_words
   behind-end h = rw (no_more n k h)
 
-begun : (text words : List ℕ) (from : ℕ) → Inv text words from words from 0
-begun text words from = record { same = refl; within = omega arith; behind = rw (all (length words)); read = rw (all (length words)) }
-  where
-    all : (n : ℕ) → n - 0 ≡ n
-    all n = omega arith
+pub loop-word-init : goal.loop-word-init
+loop-word-init c = record { behind = rw (all (length c.args.words.now)); read = rw (all (length c.args.words.now)) }
 
-pub loop-k-init : goal.loop-k-init
-loop-k-init c = begun c.args.text.now c.args.words.now c.args.from
-
-pub loop-k-preserved : goal.loop-k-preserved
-loop-k-preserved c =
-    let a = c.args in
-    let t = a.text.now in
-    let n = length a.words.now in
-    let h : c.loop-k.k < length a.words.now = omega arith in
-    let w : c.loop-k.k < length c.loop-k.words = omega arith in
+pub loop-word-preserved : goal.loop-word-preserved
+loop-word-preserved c =
+    let t = c.args.text.now in
+    let n = length c.args.words.now in
+    let words = c.loop-word.words in
+    let k = c.loop-word.word-index in
+    let h : c.loop-word.word-index < length c.loop-word.words = omega arith in
     record {
-      same = simp length-set c.loop-k.invariant.same;
-      within = omega arith;
-      behind = rw c.next_number-t.ensures (c.loop-k.invariant.behind ∙ behind-on t c.loop-k.words n c.loop-k.k c.loop-k.at h);
-      read = rw c.next_number-t.ensures (c.loop-k.invariant.read ∙ words-on t c.loop-k.words n c.loop-k.k c.loop-k.at h w);
+      behind = rw c.next_number-t.ensures (c.loop-word.invariant.behind ∙ behind-on t words n k c.loop-word.at c.loop-word-test.true);
+      read = rw c.next_number-t.ensures (c.loop-word.invariant.read ∙ words-on t words n k c.loop-word.at c.loop-word-test.true h);
     }
 
 pub returns : goal.returns
 returns c =
-    let a = c.args in
-    let t = a.text.now in
-    let n = length a.words.now in
-    let h : length a.words.now ≤ c.loop-k.k = omega arith in
-    let w : length c.loop-k.words ≤ c.loop-k.k = omega arith in (
-      sym (c.loop-k.invariant.behind ∙ behind-end t c.loop-k.words n c.loop-k.k c.loop-k.at h),
-      sym (c.loop-k.invariant.read ∙ words-end t c.loop-k.words n c.loop-k.k c.loop-k.at h w),
+    let t = c.args.text.now in
+    let n = length c.args.words.now in
+    let words = c.loop-word.words in
+    let k = c.loop-word.word-index in
+    let h : length c.loop-word.words ≤ c.loop-word.word-index = omega arith in (
+      sym (c.loop-word.invariant.behind ∙ behind-end t words n k c.loop-word.at c.loop-word-test.false),
+      sym (c.loop-word.invariant.read ∙ words-end t words n k c.loop-word.at c.loop-word-test.false h),
     )

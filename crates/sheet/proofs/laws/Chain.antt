@@ -19,8 +19,7 @@ use Rattle.count.specs.Pick.{pick, every}
 use Rattle.count.specs.Numbers.{within, in24}
 use Rattle.count.proofs.laws.Truth.{and_left, and_right, and_parts}
 use Rattle.sheet.specs.declared.Axis.{Axis}
-use Rattle.sheet.specs.declared.Converted.{Converted}
-use Rattle.sheet.specs.Sheet.{float, between, found, near, half_up, axis_right, distance_right, distance_float, distance_steps, distance_of, whole_steps, rounded}
+use Rattle.sheet.specs.Sheet.{Converted, float, between, found, near, half_up, axis_right, distance_right, distance_float, distance_steps, distance_of, whole_steps, rounded}
 use Rattle.sheet.specs.Chain.{total, sums, in_mm, result_of, results, differences, most_distances, sum_right, accepted, Chained, chained, chain_of}
 use Rattle.sheet.proofs.laws.Floats.{zero-rounds}
 use Rattle.sheet.proofs.laws.Thousandths.{sum-is-distance}

@@ -14,8 +14,7 @@ use Rattle.count.specs.Pick.{pick, every}
 use Rattle.count.specs.Numbers.{within, in24}
 use Rattle.count.proofs.laws.Truth.{and_left, and_right}
 use Rattle.sheet.specs.declared.Axis.{Axis}
-use Rattle.sheet.specs.declared.Converted.{Converted}
-use Rattle.sheet.specs.Sheet.{signed, near, found, refused, whole_steps, rounded, axis_right, distance_float, distance_steps}
+use Rattle.sheet.specs.Sheet.{Converted, signed, near, found, refused, whole_steps, rounded, axis_right, distance_float, distance_steps}
 use Rattle.sheet.specs.Chain.{sums, in_mm, result_of, results, differences, most_distances, sum_right, accepted, chained, chain_of}
 use Rattle.sheet.specs.work.Links.{noted, link_of, fault_from, steps_from}
 

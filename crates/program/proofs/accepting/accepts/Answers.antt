@@ -1,4 +1,4 @@
--- `program::accepts` meets its contract. Assumes nothing.
+-- `program::accepting::accepts` meets its contract. Assumes nothing.
 use mathlib.Core.Path.{ap, refl, ◌∙◌}
 use mathlib.Core.Bool.{not}
 use Rattle.program.proofs.Gather.{all_read, not-read}
@@ -14,10 +14,10 @@ decode-requires c =
     let d = asked _ c.is_sized.ensures c.axes_set.ensures (ap not c.if-not-is_sized-axes_set.false) in
     ((sized-parts _ d.0).1, refl, refl)
 
-pub told-requires : goal.told-requires
-told-requires c =
+pub invariant_of-told : goal.invariant_of-told
+invariant_of-told c =
     let d = asked _ c.is_sized.ensures c.axes_set.ensures (ap not c.if-not-is_sized-axes_set.false) in
-    (sized-parts _ d.0).1
+    record { few = (sized-parts _ d.0).1 }
 
 pub returns-then-decode : goal.returns-then-decode
 returns-then-decode c =

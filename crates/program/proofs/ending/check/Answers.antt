@@ -1,5 +1,5 @@
 -- `program::check` meets its contract. Assumes nothing.
-use mathlib.Core.Path.{refl, ◌∙◌}
+use mathlib.Core.Path.{◌∙◌}
 use Rattle.program.proofs.Gather.{all_read, not-read}
 use Rattle.program.proofs.Reading.{too_many, unreadable, verdict-read}
 use Rattle.program.proofs.ending.check.Goals as goal
@@ -7,13 +7,10 @@ use Rattle.program.proofs.ending.check.Goals as goal
 pub returns-then-n-gt1000 : goal.returns-then-n-gt1000
 returns-then-n-gt1000 c = too_many _ _ c.if-n-gt1000.true
 
-pub decode-requires : goal.decode-requires
-decode-requires c = (c.if-n-gt1000.false, refl, refl)
-
 pub returns-then-decode : goal.returns-then-decode
 returns-then-decode c =
     let few = c.if-n-gt1000.false in
-    c.check_arrays.ensures ∙ verdict-read _ _ _ _ few (all_read _ _ few _ _ c.if-decode.true c.decode.ensures)
+    c.check_places.ensures ∙ verdict-read _ _ _ _ few (all_read _ _ few _ _ c.if-decode.true c.decode.ensures)
 
 pub returns : goal.returns
 returns c =

@@ -13,11 +13,11 @@ unfolding again
 returns-then-left-eq0 c =
     let long : length c.args.loops.at ≡ 7 = search rules in
     c.sets.ensures
-    ∙ sym (rw (← c.entry-last.ensures, eq-eqb _ _ c.if-left-eq0.true) (leap-sets c.args.loops _ _ _ _ (top-less c.args.loops.depth) (omega arith)))
+    ∙ sym (rw (← c.entry-left.ensures, eq-eqb _ _ c.if-left-eq0.true) (leap-sets c.args.loops _ _ _ _ (top-less c.args.loops.depth) (omega arith)))
 
 pub returns : goal.returns
 unfolding again
 returns c =
     let long : length c.args.loops.at ≡ 7 = search rules in
     c.sets-2.ensures
-    ∙ sym (rw (← c.entry-last.ensures, ne_eqb _ _ c.if-left-eq0.false) (leap-sets c.args.loops _ _ _ _ (top-same c.args.loops.depth) (omega arith)))
+    ∙ sym (rw (← c.entry-left.ensures, ne_eqb _ _ c.if-left-eq0.false) (leap-sets c.args.loops _ _ _ _ (top-same c.args.loops.depth) (omega arith)))

@@ -1,20 +1,12 @@
--- `reader::all_hex` meets its contract: the loop keeps what the bytes left say. Assumes nothing.
-use mathlib.Core.Path.{sym, ◌∙◌}
-use native.Mathlib.Omega.{arith}
+-- `reader::all_hex` meets its contract: as `all` says.
+use Rattle.std.proofs.Common.{rules, refl, ◌∙◌, sym}
+use Rattle.std.proofs.lemmas.Iterator.{YieldsList-from_slice}
+use Rattle.std.proofs.lemmas.Iterator.Search.{all_from_yields_List}
 use Rattle.reader.specs.Fields.{is_hex}
-use Rattle.reader.proofs.laws.Fields.{every-next, every-none}
+use Rattle.reader.proofs.laws.Fields.{every_is}
 use Rattle.reader.proofs.fields.all_hex.Goals as goal
-
-pub returns-then-not-is_hex : goal.returns-then-not-is_hex
-returns-then-not-is_hex c =
-    let t = c.args.field.now in
-    sym (c.loop-i.invariant ∙ every-next t c.loop-i.i is_hex (omega arith) ∙ rw (← c.is_hex.ensures, c.if-not-is_hex.true))
-
-pub loop-i-preserved : goal.loop-i-preserved
-loop-i-preserved c =
-    let t = c.args.field.now in
-    c.loop-i.invariant ∙ every-next t c.loop-i.i is_hex (omega arith) ∙ rw (← c.is_hex.ensures, c.if-not-is_hex.false)
 
 pub returns : goal.returns
 returns c =
-    sym (c.loop-i.invariant ∙ every-none c.args.field.now c.loop-i.i is_hex c.loop-i-test.false)
+    all_from_yields_List is_hex _ _ _ c.all.ensures.ran (YieldsList-from_slice _ c.iter.ensures.rest) (λ x b q h. (refl, search rules))
+    ∙ sym (every_is is_hex c.args.field.now)

@@ -1,24 +1,27 @@
--- `reader::read_bits` meets its contract: each return by the tests that led there. Assumes nothing.
-use mathlib.Core.Path.{◌≡◌, ◌∙◌}
-use lib.ListN.{length, take}
+-- `reader::read_bits` meets its contract: each return by the tests that led there.
+use Rattle.std.proofs.Common.{◌≡◌, false, ◌&&◌, refl, eqb, length, take, eq-eqb, ne_eqb}
 use lib.Seq.{take-length}
-use borrow.Author.Tests.{eq-eqb, ne_eqb}
-use Rattle.reader.specs.Fields.{bits_of}
+use Rattle.count.specs.Pick.{every}
+use Rattle.count.proofs.laws.Truth.{and-false}
+use Rattle.reader.specs.Fields.{is_hex, bits_of}
 use Rattle.reader.proofs.fields.read_bits.Goals as goal
+use Rattle.reader.proofs.fields.read_bits.Goals.{else-field-eq16-via-then-field-eq16+else-all_hex, else-field-eq16-via-else-field-eq16}
 
-pub returns-then-field-ne16 : goal.returns-then-field-ne16
+pub returns-then-all_hex : goal.returns-then-all_hex
 unfolding bits_of
-returns-then-field-ne16 c = c.no_bits.ensures ∙ rw (ne_eqb _ _ c.if-field-ne16.true)
-
-pub returns-then-not-all_hex : goal.returns-then-not-all_hex
-unfolding bits_of
-returns-then-not-all_hex c =
-    c.no_bits-then-not-all_hex.ensures ∙ rw (eq-eqb _ _ c.if-field-ne16.false, ← c.all_hex.ensures, c.if-not-all_hex.true)
-
-pub returns : goal.returns
-unfolding bits_of
-returns c =
+returns-then-all_hex c =
     let s = c.args.field.now in
-    let n : length s ≡ 16 = c.if-field-ne16.false in
+    let n : length s ≡ 16 = c.if-field-eq16.true in
     let t : take 16 s ≡ s = rw (← n) (take-length s) in
-    rw (eq-eqb _ _ n, ← c.all_hex.ensures, c.if-not-all_hex.false, c.hex_number-word.ensures, t)
+    rw (eq-eqb _ _ n, ← c.all_hex.ensures, c.if-all_hex.true, c.hex_number.ensures, t) refl
+
+pub returns-else-field-eq16 : goal.returns-else-field-eq16
+unfolding bits_of
+returns-else-field-eq16 c =
+    let s = c.args.field.now in
+    let no : eqb (length s) 16 && every is_hex s ≡ false =
+    elim c.else-field-eq16.branch [
+      | else-field-eq16-via-then-field-eq16+else-all_hex w ↦ rw (← w.all_hex.ensures, w.if-all_hex.false, and-false) refl
+      | else-field-eq16-via-else-field-eq16 w ↦ rw (ne_eqb _ _ w.if-field-eq16.false) refl
+    ] in
+    rw no refl

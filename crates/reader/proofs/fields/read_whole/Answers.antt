@@ -1,22 +1,13 @@
--- `reader::read_whole` meets its contract: each return by the tests that led there. Assumes nothing.
-use mathlib.Core.Path.{sym, ap, ◌∙◌}
-use Prim.Native.Nat.{ℕ}
-use mathlib.Core.Bool.{true}
-use mathlib.Core.List.{List}
-use Rattle.count.proofs.laws.Lists.{rest}
+-- `reader::read_whole` meets its contract: by its first byte.
+use Rattle.std.proofs.Common.{true, List, ℕ, ap, sym, ◌∙◌}
 use Rattle.reader.specs.Fields.{signed_whole}
-use Rattle.reader.proofs.laws.Fields.{whole-empty, whole-minus, whole-plus}
+use Rattle.reader.proofs.laws.Fields.{whole-minus, whole-plus}
 use Rattle.reader.proofs.fields.read_whole.Goals as goal
 
-pub returns-then-field-eq0 : goal.returns-then-field-eq0
-returns-then-field-eq0 c = c.no_whole.ensures ∙ sym (whole-empty c.args.field.now c.if-field-eq0.true)
+pub returns-in-Some : goal.returns-in-Some
+returns-in-Some c =
+    let found = c.in-Some.ensures.cases in
+    c.signed_whole.ensures ∙ ap (λ (s : List ℕ). signed_whole true s) found.1 ∙ sym (whole-minus c.args.field.now found.0)
 
-pub returns-then-field-eq45 : goal.returns-then-field-eq45
-returns-then-field-eq45 c =
-    let s = c.args.field.now in
-    c.signed_whole.ensures ∙ ap (λ (l : List ℕ). signed_whole true l) (rest 1 s) ∙ sym (whole-minus s c.if-field-eq0.false c.if-field-eq45.true)
-
-pub returns : goal.returns
-returns c =
-    let s = c.args.field.now in
-    c.signed_whole-2.ensures ∙ sym (whole-plus s c.if-field-eq0.false c.if-field-eq45.false)
+pub returns-in-None : goal.returns-in-None
+returns-in-None c = c.signed_whole-in-None.ensures ∙ sym (whole-plus c.args.field.now c.in-None.ensures.cases)

@@ -4,18 +4,12 @@ use mir.Syntax.{w64}
 use mir.ValLaws.{to_z-of_z}
 use Rattle.count.specs.Numbers.{within}
 use Rattle.sheet.specs.Chain.{sum_right}
-use Rattle.sheet.proofs.Sums.{move-low, move-high, low_fits, high_fits}
+use Rattle.sheet.proofs.Sums.{move_low, move_high, low_fits, high_fits}
 use Rattle.sheet.proofs.chains.sum_right.Goals as goal
-
-pub overflow_sub-result : goal.overflow_sub-result
-overflow_sub-result c = rw (to_z-of_z w64 c.args.sum c.ranges.sum) (low_fits c.args.sum c.requires)
-
-pub overflow_sub-result-2 : goal.overflow_sub-result-2
-overflow_sub-result-2 c = rw (to_z-of_z w64 c.args.sum c.ranges.sum) (high_fits c.args.sum c.requires)
 
 pub returns : goal.returns
 unfolding sum_right within
 returns c =
     let s = c.args.sum in
     let t = c.args.t in
-    rw (to_z-of_z w64 s c.ranges.sum, to_z-of_z w64 t c.ranges.t, to_z-of_z w64 (negsuc 999999999 -ℤ s) (low_fits s c.requires), to_z-of_z w64 (pos 1000000000 -ℤ s) (high_fits s c.requires), move-low (negsuc 999999999) s t, move-high (pos 1000000000) s t)
+    rw (to_z-of_z w64 s c.ranges.sum, to_z-of_z w64 t c.ranges.t, to_z-of_z w64 (negsuc 999999999 -ℤ s) (low_fits s c.requires), to_z-of_z w64 (pos 1000000000 -ℤ s) (high_fits s c.requires), move_low (negsuc 999999999) s t, move_high (pos 1000000000) s t)

@@ -1,8 +1,10 @@
 // What each letter asks of its line, and the first fault of a line outside storing.
 ghost use Rattle.std.specs.Prelude.{◌≡◌};
+ghost use Rattle.record.specs.Fault.{replied};
 ghost use Rattle.board.specs.Direct.{is_wrong, heard_standing, needs_axes};
 ghost use Rattle.board.specs.work.Work.{count_fault, seven_fault, axes_fault, input_fault, output_fault, numbers_fault, line_fault};
 
+use count::Fault;
 use line::{Direct, Letter};
 
 fn is_wrong(letter: Letter) -> bool
@@ -130,6 +132,16 @@ fn output_fault(count: usize, port: u32, value: u32) -> u8
     b'1'
 }
 
+// What a record's fault is answered with: its character, or 0.
+fn character(fault: Result<(), Fault>) -> u8
+    ensures { result ≡ replied fault }
+{
+    match fault {
+        Ok(()) => b'0',
+        Err(f) => f.letter(),
+    }
+}
+
 // 7, 3, 1 and D in this order, or 0; A and M are a record's `0` and `m`, n and N its `n`, z, e and f its own. A circle's plan asks the rest.
 fn numbers_fault(letter: Letter, axes: u8, count: usize, words: [u32; 8]) -> u8
     ensures { result ≡ numbers_fault letter axes count words }
@@ -137,19 +149,19 @@ fn numbers_fault(letter: Letter, axes: u8, count: usize, words: [u32; 8]) -> u8
     match letter {
         Letter::Wrong => b'7',
         Letter::Axes => axes_fault(axes, count, words[0]),
-        Letter::Relative => record::record_fault(axes, b'0', count, words),
-        Letter::Absolute => record::record_fault(axes, b'm', count, words),
-        Letter::Origin => record::record_fault(axes, b'n', count, words),
-        Letter::Zero => record::record_fault(axes, b'n', count, words),
-        Letter::Three => record::record_fault(axes, b'z', count, words),
+        Letter::Relative => character(record::record_fault(axes, b'0', count, words)),
+        Letter::Absolute => character(record::record_fault(axes, b'm', count, words)),
+        Letter::Origin => character(record::record_fault(axes, b'n', count, words)),
+        Letter::Zero => character(record::record_fault(axes, b'n', count, words)),
+        Letter::Three => character(record::record_fault(axes, b'z', count, words)),
         Letter::Position => count_fault(count),
         Letter::Input => input_fault(count, words[0]),
         Letter::Output => output_fault(count, words[0], words[1]),
         Letter::Store => count_fault(count),
         Letter::Empty => count_fault(count),
         Letter::Start => count_fault(count),
-        Letter::Plane => record::record_fault(axes, b'e', count, words),
-        Letter::Direction => record::record_fault(axes, b'f', count, words),
+        Letter::Plane => character(record::record_fault(axes, b'e', count, words)),
+        Letter::Direction => character(record::record_fault(axes, b'f', count, words)),
         Letter::Circle => seven_fault(count),
     }
 }

@@ -1,13 +1,11 @@
 -- No second outcome satisfies the contract of an exported function: of any two results that the contract itself allows for the same
 -- arguments, and of what the lent part then holds, each is the other. Assumes nothing.
-use Rattle.std.specs.Prelude.{ℕ, ◌≡◌, true, false, List, Option, Some, None, Result, Ok, Err, refl}
+use Rattle.std.specs.Prelude.{◌≡◌, true, false, Option, Some, None, refl}
 use Rattle.std.proofs.Common.{sym, ap, ◌∙◌}
-use Rattle.count.specs.declared.Refusal.{Refusal}
 use Rattle.record.specs.declared.Held.{Held}
 use Rattle.record.specs.Keep.{Kept, Storing, kept}
 use Rattle.record.specs.Table.{Filling}
-use Rattle.record.specs.Listing.{Telling, told}
-use Rattle.record.proofs.laws.Replies.{replied-one, refused-one, number-one, number-some}
+use Rattle.record.proofs.laws.Replies.{replied-one, refused-one, told-one}
 use Rattle.record.proofs.fault.record_fault.Reads as record-fault
 use Rattle.record.proofs.bytes.record_at.Reads as record-at
 use Rattle.record.proofs.table.find.Reads as find
@@ -22,12 +20,6 @@ kept-one h (Some x) (Some y) e = ap (λ (l : Held). Some l) (ap (λ (k : Kept). 
 kept-one h (Some x) None e = absurd (let z : true ≡ false = ap (λ (k : Kept). k.stored) e in cc)
 kept-one h None (Some y) e = absurd (let z : false ≡ true = ap (λ (k : Kept). k.stored) e in cc)
 kept-one h None None e = refl
-
-told-one : (r r' : Result ℕ Refusal) (t t' : List ℕ) → told r t ≡ told r' t' → (r ≡ r') × (t ≡ t')
-told-one (Ok m) (Ok n) t t' e = (ap (λ (i : ℕ). Ok i) (ap (λ (x : Telling). x.listed.len) e), ap (λ (x : Telling). x.text) e)
-told-one (Ok m) (Err y) t t' e = absurd (number-some y (sym (ap (λ (x : Telling). x.listed.refusal) e)))
-told-one (Err x) (Ok n) t t' e = absurd (number-some x (ap (λ (x : Telling). x.listed.refusal) e))
-told-one (Err x) (Err y) t t' e = (ap (λ (i : Refusal). Err i) (number-one x y (ap (λ (x : Telling). x.listed.refusal) e)), ap (λ (x : Telling). x.text) e)
 
 pub record-fault-one : (κs : _) (a : _) (r r' : _) (s s' : _) → record-fault.Post κs a r s → record-fault.Post κs a r' s' → r ≡ r'
 record-fault-one κs a r r' s s' p q = replied-one r r' (p ∙ sym q)

@@ -1,5 +1,5 @@
 -- What refuses is told by its character or its number alone: none of them is that of another, or of no refusal. Assumes nothing.
-use Rattle.std.specs.Prelude.{ℕ, ◌≡◌, Result, Ok, Err, refl, eqb}
+use Rattle.std.specs.Prelude.{ℕ, ◌≡◌, List, Result, Ok, Err, refl, eqb}
 use Rattle.std.proofs.Common.{sym, ap, ◌∙◌, arith}
 use Rattle.count.specs.Pick.{pick}
 use Rattle.count.specs.declared.Fault.{Fault}
@@ -9,6 +9,7 @@ use Rattle.count.specs.declared.Refusal.TheVariants as refusal
 use Rattle.count.specs.Refusals.{letter_of, number_of}
 use Rattle.record.specs.Fault.{replied}
 use Rattle.record.specs.Table.{refused}
+use Rattle.record.specs.Listing.{Telling, told}
 
 -- the fault of a character
 abbrev fault_at : ℕ → Fault
@@ -114,3 +115,10 @@ refused-one (Ok x) (Ok y) e = refl
 refused-one (Ok x) (Err t) e = absurd (number-some t (sym e))
 refused-one (Err r) (Ok y) e = absurd (number-some r e)
 refused-one (Err r) (Err t) e = ap (λ (u : Refusal). Err u) (number-one r t e)
+
+-- of a listing, with its text
+pub told-one : (r r' : Result ℕ Refusal) (t t' : List ℕ) → told r t ≡ told r' t' → (r ≡ r') × (t ≡ t')
+told-one (Ok m) (Ok n) t t' e = (ap (λ (i : ℕ). Ok i) (ap (λ (x : Telling). x.listed.len) e), ap (λ (x : Telling). x.text) e)
+told-one (Ok m) (Err y) t t' e = absurd (number-some y (sym (ap (λ (x : Telling). x.listed.refusal) e)))
+told-one (Err x) (Ok n) t t' e = absurd (number-some x (ap (λ (x : Telling). x.listed.refusal) e))
+told-one (Err x) (Err y) t t' e = (ap (λ (i : Refusal). Err i) (number-one x y (ap (λ (x : Telling). x.listed.refusal) e)), ap (λ (x : Telling). x.text) e)

@@ -1,13 +1,13 @@
 -- The calls with their refusals (01, "Calls"; 02 §6): 101, 102, 103, 104 in this order; a refused call returns the state given, with no
 -- reply or the answer nothing, and writes to no buffer.
-use Rattle.std.specs.Prelude.{ℕ, false, not, List, ◌++◌, ltb, eqb, ℤ, pos, length, drop}
+use Rattle.std.specs.Prelude.{ℕ, false, not, List, ◌++◌, ltb, eqb, ℤ, pos, length, drop, Result, Ok, Err}
 use Rattle.count.specs.Sizes.{store_bytes, reply_bytes}
 use Rattle.count.specs.Pick.{pick}
 use Rattle.count.specs.Numbers.{full, value}
 use Rattle.motion.specs.declared.Counters.{Counters}
 use Rattle.travel.specs.Next.{pulse_of}
 use Rattle.record.specs.Memory.{Memory, store_fits, table_fits}
-use Rattle.record.specs.Table.{fetch_of}
+use Rattle.record.specs.Table.{fetch_of, refused as refused_by}
 use Rattle.record.specs.Listing.{Telling, telling, list_of}
 use Rattle.engine.specs.declared.Answer.{Answer}
 use Rattle.engine.specs.declared.Answer.TheVariants as answer
@@ -15,8 +15,9 @@ use Rattle.engine.specs.declared.Told.{Told}
 use Rattle.engine.specs.State as state
 use Rattle.engine.specs.Tick.{ticked}
 use Rattle.board.specs.declared.Board.{Board}
-use Rattle.board.specs.declared.Received.{Received}
-use Rattle.board.specs.declared.Ticked.{Ticked}
+use Rattle.board.specs.declared.Received.{Received as HeardBy}
+use Rattle.board.specs.declared.Ticked.{Ticked as TickedBy}
+use Rattle.count.specs.declared.Refusal.{Refusal}
 use Rattle.board.specs.declared.Point.{Point}
 use Rattle.board.specs.State.{board, no_line, sound, Said}
 use Rattle.board.specs.Receive.{hearing}
@@ -30,6 +31,12 @@ pub record Lent : Type 0 where
 
 abbrev pub lent : List ℕ → Memory → Lent
 lent reply m = record { reply = reply; memory = m }
+
+-- the next state, the bytes of the reply, and the refusal's number or 0
+pub record Received : Type 0 where
+  pub board : Board
+  pub len : ℕ
+  pub refusal : ℕ
 
 -- the result, and what was lent afterwards
 pub record Outcome : Type 0 where
@@ -56,6 +63,12 @@ receiving byte ports b l =
 
 -- ---- a clock call
 
+-- the next state, the answer, and the refusal's number or 0
+pub record Ticked : Type 0 where
+  pub board : Board
+  pub answer : Answer
+  pub refusal : ℕ
+
 abbrev pub clocked : ℕ → Board → Answer → Ticked
 clocked n b a = record { board = b; answer = a; refusal = n }
 
@@ -69,6 +82,22 @@ clocking b m =
     (pick (not (sound b)) (clocked 103 b answer.Nothing)
     (pick (not (table_fits m)) (clocked 104 b answer.Nothing)
     (pick b.standing (clocked 0 b answer.Nothing) (went_on b (ticked pulse_of (fetch_of b.engine.held m) b.engine)))))
+
+-- ---- as the code answers them: what refuses a call stands in place of its reply or its answer
+
+abbrev pub len_in : Result ℕ Refusal → ℕ
+len_in (Ok n) = n
+len_in (Err r) = 0
+
+abbrev pub received : HeardBy → Received
+received r = record { board = r.board; len = len_in r.reply; refusal = refused_by r.reply }
+
+abbrev pub answer_in : Result Answer Refusal → Answer
+answer_in (Ok a) = a
+answer_in (Err r) = answer.Nothing
+
+abbrev pub clocked_by : TickedBy → Ticked
+clocked_by t = record { board = t.board; answer = answer_in t.answer; refusal = refused_by t.answer }
 
 -- ---- the lister: 102, 103, 106, then G
 

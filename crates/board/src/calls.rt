@@ -4,7 +4,9 @@ ghost use Rattle.record.specs.Memory.{memory};
 ghost use Rattle.record.specs.Listing.{told};
 ghost use Rattle.engine.specs.work.Acts.{is_wrong};
 ghost use Rattle.board.specs.State.{sound};
-ghost use Rattle.board.specs.Calls.{lent, did, receiving, clocked, clocking, listing, fresh, point};
+ghost use Rattle.count.specs.Refusals.{number_of};
+ghost use Rattle.record.specs.Table.{refused};
+ghost use Rattle.board.specs.Calls.{lent, did, received, receiving, clocked, clocked_by, answer_in, clocking, listing, fresh, point};
 
 use crate::{Board, Ear, Line, Point, Received, Ticked};
 use count::Refusal;
@@ -27,26 +29,17 @@ fn as_point(c: Counters) -> Point
 fn is_refused(act: Act) -> bool
     ensures { result ≡ is_wrong act }
 {
-    match act {
-        Act::Wrong => true,
-        Act::Still => false,
-        Act::Pulse(_) => false,
-        Act::Pause(_) => false,
-        Act::Finish => false,
-        Act::Record => false,
-    }
+    matches!(act, Act::Wrong)
 }
 
 impl Board {
     pub fn fresh() -> Board
         ensures { result ≡ fresh }
     {
-        let engine = Engine::fresh();
-        let line = Line::empty();
         Board {
-            engine,
+            engine: Engine::fresh(),
             standing: false,
-            line,
+            line: Line::empty(),
         }
     }
 
@@ -54,32 +47,27 @@ impl Board {
     pub fn sound(self) -> bool
         ensures { result ≡ sound self }
     {
-        let e = self.engine;
-        let l = self.line;
-        e.sound() & (l.len <= 80)
+        self.engine.sound() & (self.line.len <= 80)
     }
 
     pub fn position(self) -> Point
         ensures { result ≡ point self.engine.at }
     {
-        let e = self.engine;
-        as_point(e.at)
+        as_point(self.engine.at)
     }
 
     pub fn origin(self) -> Point
         ensures { result ≡ point self.engine.origin }
     {
-        let e = self.engine;
-        as_point(e.origin)
+        as_point(self.engine.origin)
     }
 
-    fn refuse(self, refusal: u16) -> Received
-        ensures { result ≡ record { board = self; len = 0; refusal = refusal } }
+    fn refuse(self, refusal: Refusal) -> Received
+        ensures { received result ≡ record { board = self; len = 0; refusal = number_of refusal } }
     {
         Received {
             board: self,
-            len: 0,
-            refusal,
+            reply: Err(refusal),
         }
     }
 
@@ -92,19 +80,19 @@ impl Board {
         store: &mut [u8],
         table: &mut [u16],
     ) -> Received
-        ensures { did result (lent reply.new (memory store.new table.new)) ≡ receiving byte ports self (lent reply.old (memory store.old table.old)) }
+        ensures { did (received result) (lent reply.new (memory store.new table.new)) ≡ receiving byte ports self (lent reply.old (memory store.old table.old)) }
     {
         if reply.len() < 32 {
-            return self.refuse(101);
+            return self.refuse(Refusal::Reply);
         }
         if store.len() != 16384 {
-            return self.refuse(102);
+            return self.refuse(Refusal::Store);
         }
         if !self.sound() {
-            return self.refuse(103);
+            return self.refuse(Refusal::State);
         }
         if table.len() != 1000 {
-            return self.refuse(104);
+            return self.refuse(Refusal::Table);
         }
         let ear = self.ear(byte);
         if let Ear::Gather = ear {
@@ -113,44 +101,39 @@ impl Board {
         self.hear(ear, byte, ports, store, table).answer(reply)
     }
 
-    fn still(self, refusal: u16) -> Ticked
-        ensures { result ≡ clocked refusal self Answer.Nothing }
+    fn still(self, answer: Result<Answer, Refusal>) -> Ticked
+        ensures { clocked_by result ≡ clocked (refused answer) self (answer_in answer) }
     {
         Ticked {
             board: self,
-            answer: Answer::Nothing,
-            refusal,
+            answer,
         }
     }
 
     // A clock call; what stands stopped answers nothing.
     pub fn clock(self, store: &[u8], table: &[u16]) -> Ticked
-        ensures { result ≡ clocking self (memory store.now table.now) }
+        ensures { clocked_by result ≡ clocking self (memory store.now table.now) }
     {
         if store.len() != 16384 {
-            return self.still(102);
+            return self.still(Err(Refusal::Store));
         }
-        let e = self.engine;
-        let l = self.line;
-        let act = e.see();
-        if is_refused(act) | (80 < l.len) {
-            return self.still(103);
+        let act = self.engine.see();
+        if is_refused(act) | (80 < self.line.len) {
+            return self.still(Err(Refusal::State));
         }
         if table.len() != 1000 {
-            return self.still(104);
+            return self.still(Err(Refusal::Table));
         }
         if self.standing {
-            return self.still(0);
+            return self.still(Ok(Answer::Nothing));
         }
-        let told = e.act(act, store, table);
-        let engine = told.engine;
-        let answer = told.answer;
-        let mut board = self;
-        board.engine = engine;
+        let told = self.engine.act(act, store, table);
         Ticked {
-            board,
-            answer,
-            refusal: 0,
+            board: Board {
+                engine: told.engine,
+                ..self
+            },
+            answer: Ok(told.answer),
         }
     }
 
@@ -164,7 +147,6 @@ impl Board {
         if !self.sound() {
             return Err(Refusal::State);
         }
-        let e = self.engine;
-        record::list(store, e.held, text)
+        record::list(store, self.engine.held, text)
     }
 }

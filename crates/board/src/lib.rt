@@ -9,6 +9,7 @@ mod receive;
 mod reply;
 mod storing;
 
+use count::Refusal;
 use engine::{Answer, Engine};
 
 // The line being gathered: its bytes, the rest of the array 0, and whether more than 80 came.
@@ -27,20 +28,18 @@ pub struct Board {
     pub line: Line,
 }
 
-// What receiving a byte comes to: the next state, the bytes of the reply, and the refusal's number or 0.
+// What receiving a byte comes to: the next state, and the bytes of the reply, or what refuses the call.
 #[derive(Clone, Copy)]
 pub struct Received {
     pub board: Board,
-    pub len: usize,
-    pub refusal: u16,
+    pub reply: Result<usize, Refusal>,
 }
 
-// What a clock call comes to: the next state, its answer, and the refusal's number or 0.
+// What a clock call comes to: the next state, and its answer, or what refuses the call.
 #[derive(Clone, Copy)]
 pub struct Ticked {
     pub board: Board,
-    pub answer: Answer,
-    pub refusal: u16,
+    pub answer: Result<Answer, Refusal>,
 }
 
 // The positions or origins of the axes as numbers.

@@ -2,6 +2,7 @@
 ghost use Rattle.std.specs.Prelude.{◌≡◌, ◌≤◌, false, ◌||◌};
 ghost use Rattle.record.specs.Memory.{memory};
 ghost use Rattle.engine.specs.State.{heard};
+ghost use Rattle.board.specs.Calls.{received};
 ghost use Rattle.board.specs.State.{board, gathered, with_line};
 ghost use Rattle.board.specs.Receive.{is_storing, holds_by, ends_by, returned};
 ghost use Rattle.board.specs.work.Work.{spoke_of, spoke, stop_spoke, break_spoke, reset_spoke, gathers_by, waits_by};
@@ -216,12 +217,11 @@ impl Board {
 
     // No reply.
     pub(crate) fn quiet(self) -> Received
-        ensures { result ≡ record { board = self; len = 0; refusal = 0 } }
+        ensures { received result ≡ record { board = self; len = 0; refusal = 0 } }
     {
         Received {
             board: self,
-            len: 0,
-            refusal: 0,
+            reply: Ok(0),
         }
     }
 

@@ -3,6 +3,7 @@ ghost use Rattle.std.specs.Prelude.{◌≡◌, [], ◌∷◌, ◌++◌, ◌+◌,
 ghost use Rattle.count.specs.Axes.{shown_axes, end_to_end};
 ghost use Rattle.motion.specs.Axes.{on};
 ghost use Rattle.count.specs.Text.{written, report, two_hex, four_digits};
+ghost use Rattle.board.specs.Calls.{received};
 ghost use Rattle.board.specs.work.Work.{bytes_of, put_of, text_of, received_of};
 
 use crate::{Received, Saying, Spoke};
@@ -87,16 +88,13 @@ impl Spoke {
     // The reply written.
     pub(crate) fn answer(self, reply: &mut [u8]) -> Received
         requires { 32 ≤ length reply.old }
-        ensures { (result ≡ received_of self) × (reply.new ≡ text_of self ++ drop (length (text_of self)) reply.old) }
+        ensures { (received result ≡ received_of self) × (reply.new ≡ text_of self ++ drop (length (text_of self)) reply.old) }
     {
-        let board = self.board;
-        let e = board.engine;
-        let say = self.say;
-        let len = put(say, e.axes, e.at, reply);
+        let e = self.board.engine;
+        let len = put(self.say, e.axes, e.at, reply);
         Received {
-            board,
-            len,
-            refusal: 0,
+            board: self.board,
+            reply: Ok(len),
         }
     }
 }

@@ -9,7 +9,7 @@ use lib.ListN.{length, take, drop, set, length-append, length-drop, take-append-
 use lib.Seq.{length-take-le, take_at, drop_at, drop-drop, drop-append-add, set_split}
 use Rattle.count.proofs.laws.Lists.{rest, to_end}
 use Rattle.record.specs.Memory.{Memory, RightMemory}
-use Rattle.board.specs.declared.Received.{Received}
+use Rattle.board.specs.Calls.{Received}
 use Rattle.board.specs.State.{Said, sound}
 use Rattle.board.specs.Receive.{hearing}
 use Rattle.board.specs.Calls as calls

@@ -13,7 +13,7 @@ use Rattle.engine.specs.declared.Answer.TheVariants as answer
 use Rattle.engine.specs.State.{paper}
 use Rattle.engine.specs.Tick.{runs_of}
 use Rattle.board.specs.declared.Board.{Board}
-use Rattle.board.specs.declared.Ticked.{Ticked}
+use Rattle.board.specs.Calls.{Ticked}
 use Rattle.board.specs.State.{sound}
 use Rattle.board.specs.Calls.{Lent, Outcome, receiving, clocking, listing, fresh, point}
 use Rattle.port.specs.declared.State.{State}

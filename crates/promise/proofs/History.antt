@@ -15,7 +15,7 @@ use Rattle.board.proofs.Board.clock.Kinds as clock_kinds
 use Rattle.board.proofs.Board.clock.Reads as clock
 use Rattle.record.specs.Memory.{Memory}
 use Rattle.board.specs.declared.Board.{Board}
-use Rattle.board.specs.declared.Ticked.{Ticked}
+use Rattle.board.specs.Calls.{Ticked}
 use Rattle.board.specs.Calls.{Lent, Outcome, receiving, clocking}
 use Rattle.promise.specs.Machine.{Event, byte as heard, clock as timed}
 

@@ -26,7 +26,7 @@ use Rattle.engine.specs.declared.Job.TheVariants as job
 use Rattle.engine.specs.State.{with_at, with_run, running}
 use Rattle.engine.specs.Tick.{ticked, runs_of}
 use Rattle.board.specs.declared.Board.{Board}
-use Rattle.board.specs.declared.Ticked.{Ticked}
+use Rattle.board.specs.Calls.{Ticked}
 use Rattle.board.specs.State.{board, text_of, line_done}
 use Rattle.board.specs.Storing.{named_fault}
 use Rattle.board.specs.Receive.{hearing, stop_code}

@@ -17,7 +17,7 @@ use Rattle.record.specs.Table.{fetch_of}
 use Rattle.engine.specs.declared.Answer.TheVariants as answer
 use Rattle.engine.specs.Tick.{Rule, ticked}
 use Rattle.board.specs.declared.Board.{Board}
-use Rattle.board.specs.declared.Ticked.{Ticked}
+use Rattle.board.specs.Calls.{Ticked}
 use Rattle.board.specs.State.{sound}
 use Rattle.board.specs.Calls.{clocked, went_on, fresh}
 use Rattle.promise.specs.Machine.{Machine, clocked_by, ours}

@@ -6,7 +6,7 @@ use Rattle.engine.specs.State.{paper}
 use Rattle.record.specs.Memory.{Memory}
 use Rattle.record.specs.Listing.{Telling}
 use Rattle.board.specs.declared.Board.{Board}
-use Rattle.board.specs.declared.Ticked.{Ticked}
+use Rattle.board.specs.Calls.{Ticked}
 use Rattle.board.specs.Calls.{Lent, Outcome, receiving, clocking, listing, fresh}
 use Rattle.course.specs.Run.{course}
 

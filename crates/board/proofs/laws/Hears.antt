@@ -27,7 +27,7 @@ use Rattle.engine.specs.work.Acts.{seen_of, is_wrong, acted_by}
 use Rattle.engine.proofs.laws.Laws.{rules-agree}
 use Rattle.engine.proofs.laws.Acts.{seen-wrong, seen-act, acted-is-ticked}
 use Rattle.board.specs.declared.Board.{Board}
-use Rattle.board.specs.declared.Received.{Received}
+use Rattle.board.specs.Calls.{Received}
 use Rattle.board.specs.declared.Saying.TheVariants as saying
 use Rattle.board.specs.declared.Spoke.{Spoke}
 use Rattle.board.specs.State.{board, text_of, Said, said, sound}

@@ -25,7 +25,7 @@ use Rattle.engine.proofs.laws.Facts.{facts}
 use Rattle.engine.proofs.laws.Kept.{tick-keeps-pulse}
 use Rattle.engine.proofs.laws.Lines as engine
 use Rattle.board.specs.declared.Board.{Board}
-use Rattle.board.specs.declared.Ticked.{Ticked}
+use Rattle.board.specs.Calls.{Ticked}
 use Rattle.board.specs.State.{board, no_line, sound, Said}
 use Rattle.board.specs.Receive.{hearing, reset_said}
 use Rattle.board.specs.Calls.{lent, Outcome, answered, receiving, clocking, fresh}

@@ -22,7 +22,7 @@ use Rattle.engine.specs.Kinds.{kind, row_of}
 use Rattle.circle.specs.Plan.{plane_of, direction_of}
 use Rattle.engine.specs.State.{with_three, with_plane, with_direction, with_output, with_held, axes_of, origin_of, zero_of, started, emptied, storing_of, begin_of, circle_begun, ceased, reset_of}
 use Rattle.board.specs.declared.Board.{Board}
-use Rattle.board.specs.declared.Received.{Received}
+use Rattle.board.specs.Calls.{Received}
 use Rattle.board.specs.declared.Saying.{Saying}
 use Rattle.board.specs.declared.Saying.TheVariants as saying
 use Rattle.board.specs.declared.Spoke.{Spoke}

@@ -19,7 +19,7 @@ use Rattle.engine.specs.Sound.{sound_of}
 use Rattle.engine.proofs.laws.Laws.{rules-agree}
 use Rattle.engine.proofs.laws.Kept.{tick-keeps}
 use Rattle.board.specs.declared.Board.{Board}
-use Rattle.board.specs.declared.Ticked.{Ticked}
+use Rattle.board.specs.Calls.{Ticked}
 use Rattle.board.specs.State.{board, sound}
 use Rattle.board.specs.Calls.{clocked, went_on, clocking}
 use Rattle.board.proofs.laws.Hears.{sound-engine}

@@ -11,7 +11,7 @@ use Rattle.count.specs.Pick.{pick}
 use Rattle.record.specs.Memory.{Memory, store_fits}
 use Rattle.engine.specs.declared.Answer.TheVariants as answer
 use Rattle.board.specs.declared.Board.{Board}
-use Rattle.board.specs.declared.Ticked.{Ticked}
+use Rattle.board.specs.Calls.{Ticked}
 use Rattle.board.specs.Calls.{Lent, lent, Outcome, refused, receiving, clocked, clocking, fresh}
 use Rattle.port.specs.declared.Clocked.{Clocked}
 use Rattle.port.specs.declared.State.{State}

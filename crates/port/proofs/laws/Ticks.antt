@@ -22,7 +22,7 @@ use Rattle.engine.specs.declared.Told.{Told}
 use Rattle.engine.specs.State.{running}
 use Rattle.engine.specs.work.Acts.{act_by, seen_of, is_wrong, marked_job, pulsed, acted_by}
 use Rattle.engine.proofs.laws.Acts.{seen-act}
-use Rattle.board.specs.declared.Ticked.{Ticked}
+use Rattle.board.specs.Calls.{Ticked}
 use Rattle.board.specs.State.{board, sound}
 use Rattle.board.specs.Calls.{clocked, clocking}
 use Rattle.board.proofs.laws.Hears.{sound-engine, refused-so, acted-so, clocked-so}

@@ -26,7 +26,7 @@ use Rattle.engine.specs.Tick.{Fetching, told, finished, directly, moving_on, tic
 use Rattle.engine.specs.Sound.{job_sound}
 use Rattle.engine.proofs.laws.Facts.{facts}
 use Rattle.board.specs.declared.Board.{Board}
-use Rattle.board.specs.declared.Ticked.{Ticked}
+use Rattle.board.specs.Calls.{Ticked}
 use Rattle.board.specs.State.{sound}
 use Rattle.board.specs.Calls.{went_on, clocking}
 use Rattle.board.proofs.laws.Hears.{sound-engine}

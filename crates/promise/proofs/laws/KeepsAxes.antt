@@ -38,7 +38,7 @@ use Rattle.engine.specs.Tick.{Rule, Fetching, after_pause, performed, ticked}
 use Rattle.engine.proofs.laws.Facts.{facts}
 use Rattle.engine.proofs.laws.Cases.{record-cases, cases}
 use Rattle.board.specs.declared.Board.{Board}
-use Rattle.board.specs.declared.Ticked.{Ticked}
+use Rattle.board.specs.Calls.{Ticked}
 use Rattle.board.specs.State.{text_of, Said, sound}
 use Rattle.board.specs.Direct.{heard_standing, needs_axes, reply_of, effect_of, accepted_said, direct_said}
 use Rattle.board.specs.Storing.{record_of, record_reply, stored_by, stored_said}

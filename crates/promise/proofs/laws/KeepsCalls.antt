@@ -24,7 +24,7 @@ use Rattle.engine.specs.declared.Told.{Told}
 use Rattle.engine.specs.State.{paper}
 use Rattle.engine.specs.Tick.{Rule, Fetching, told, ticked_by, ticked}
 use Rattle.board.specs.declared.Board.{Board}
-use Rattle.board.specs.declared.Ticked.{Ticked}
+use Rattle.board.specs.Calls.{Ticked}
 use Rattle.board.specs.State.{board, sound}
 use Rattle.board.specs.Receive.{hearing, is_storing}
 use Rattle.board.specs.Calls.{Lent, Outcome, refused, answered, receiving, clocked, went_on, clocking, listing}

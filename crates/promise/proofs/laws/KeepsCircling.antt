@@ -35,7 +35,7 @@ use Rattle.engine.specs.State.{with_run, with_job, running, begun, no_pulse, beg
 use Rattle.engine.specs.Tick.{Rule, Fetching, ticked}
 use Rattle.engine.proofs.laws.Cases.{record-cases, cases}
 use Rattle.board.specs.declared.Board.{Board}
-use Rattle.board.specs.declared.Ticked.{Ticked}
+use Rattle.board.specs.Calls.{Ticked}
 use Rattle.board.specs.State.{sound, Said}
 use Rattle.board.specs.Direct.{Effect, plan_reply, effect_of, accepted_said, started_with}
 use Rattle.board.specs.Receive.{ear_of, gathering, ordinary, hearing, holds_by, stopped, ends_by, broken, reset_said}

@@ -48,7 +48,7 @@ use Rattle.engine.specs.State.{paper, with_three, with_plane, with_direction, wi
 use Rattle.engine.specs.Tick.{Fetching, told, on_to, moving, moving_by, after_pause, delaying, leading, performed, fetched, directly, moving_on, ticked_by, ticked}
 use Rattle.engine.specs.Sound.{axes_known, job_sound, sound_of}
 use Rattle.board.specs.declared.Board.{Board}
-use Rattle.board.specs.declared.Ticked.{Ticked}
+use Rattle.board.specs.Calls.{Ticked}
 use Rattle.board.specs.State.{sound}
 use Rattle.board.specs.Calls.{clocking}
 use Rattle.count.specs.declared.Axis.{Axis}

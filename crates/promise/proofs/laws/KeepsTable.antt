@@ -31,7 +31,7 @@ use Rattle.join.specs.Join.{counted, both, end_to_end, joined_memory, Joining, j
 use Rattle.join.proofs.laws.Passed.{Passed, passed, few, long, each, refused, joined, refusal_is}
 use Rattle.join.proofs.laws.Joined.{joined-list, joined-long, joined-below}
 use Rattle.board.specs.declared.Board.{Board}
-use Rattle.board.specs.declared.Ticked.{Ticked}
+use Rattle.board.specs.Calls.{Ticked}
 use Rattle.board.specs.Calls.{Lent, lent, Outcome, receiving, clocking, fresh}
 use Rattle.promise.specs.Machine.{ours}
 use Rattle.promise.specs.Steps.{Each, reached, Along}

@@ -25,7 +25,7 @@ use Rattle.engine.proofs.laws.Facts.{facts}
 use Rattle.engine.proofs.laws.Fetches.{same-tick}
 use Rattle.engine.proofs.laws.Laws.{held_stays}
 use Rattle.board.specs.declared.Board.{Board}
-use Rattle.board.specs.declared.Ticked.{Ticked}
+use Rattle.board.specs.Calls.{Ticked}
 use Rattle.board.specs.State.{sound}
 use Rattle.board.specs.Receive.{hearing}
 use Rattle.board.specs.Calls.{lent, Outcome, receiving, clocked, went_on, clocking}

@@ -16,7 +16,7 @@ use Rattle.engine.specs.declared.Engine.{Engine}
 use Rattle.engine.specs.State.{ceased, reset_of, heard}
 use Rattle.board.specs.declared.Line.{Line}
 use Rattle.board.specs.declared.Board.{Board}
-use Rattle.board.specs.declared.Ticked.{Ticked}
+use Rattle.board.specs.Calls.{Ticked}
 use Rattle.board.specs.State.{board, no_line, Said, said}
 use Rattle.board.specs.Receive.{holds_by, ends_by, ear_by, ear_of, stopped, broken, reset_said, ordinary, gathering, hearing}
 use Rattle.board.specs.Calls.{clocking, fresh}

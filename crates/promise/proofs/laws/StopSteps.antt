@@ -22,7 +22,7 @@ use Rattle.engine.specs.Tick.{ticked, ticked_by}
 use Rattle.engine.specs.Sound.{sound_of}
 use Rattle.board.specs.declared.Line.{Line}
 use Rattle.board.specs.declared.Board.{Board}
-use Rattle.board.specs.declared.Ticked.{Ticked}
+use Rattle.board.specs.Calls.{Ticked}
 use Rattle.board.specs.State.{board, no_line, sound, said}
 use Rattle.board.specs.Receive.{ear_by, ear_of, holds_by, stopped, ordinary, hearing, gathering}
 use Rattle.board.specs.Calls.{lent, Outcome, refused, answered, receiving, clocking}

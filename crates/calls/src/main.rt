@@ -121,8 +121,11 @@ fn list(rt: &impl Print, play: Play, space: &[u8]) -> io::Result<Play> {
     let board = play.board;
     let n = within(play.store, space);
     let mut text = [0u8; 32768];
-    let listed = board.list(&space[0..n], &mut text);
-    show_listing(rt, listed.refusal, &text, listed.len as usize)?;
+    let (refusal, len) = match board.list(&space[0..n], &mut text) {
+        Ok(len) => (0, len),
+        Err(refusal) => (refusal.number(), 0),
+    };
+    show_listing(rt, refusal, &text, len as usize)?;
     Ok(called(play, board))
 }
 

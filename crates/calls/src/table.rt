@@ -43,7 +43,10 @@ pub(crate) fn fill(
     let engine = board.engine;
     let n = within(play.store, space);
     let k = entries_of(play.table, table);
-    let refusal = record::fill(&space[0..n], &mut table[0..k], engine.held);
+    let refusal = match record::fill(&space[0..n], &mut table[0..k], engine.held) {
+        Ok(()) => 0,
+        Err(refusal) => refusal.number(),
+    };
     show_filled(rt, refusal)?;
     Ok(called(play, board))
 }

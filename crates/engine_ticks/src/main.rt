@@ -254,11 +254,11 @@ fn keep(
         count: byte_of(w[2]),
         words: words_of(w),
     };
-    let k = record::store_record(store, table, e.held, item);
+    let stored = record::store_record(store, table, e.held, item);
     print!(rt; "K")?;
-    show_bool(rt, k.stored)?;
+    show_bool(rt, stored.is_some())?;
     println!(rt;)?;
-    Ok(e.set_held(k.held))
+    Ok(e.set_held(stored.unwrap_or(e.held)))
 }
 
 // A byte of the store as a host sets it.

@@ -66,10 +66,10 @@ fn storing(pace: Pace) -> Pace {
 }
 
 fn list(pace: Pace, store: &[u8], text: &mut [u8]) -> Pace {
-    let listed = pace.board.list(store, text);
+    let len = pace.board.list(store, text).unwrap_or(0);
     Pace {
         calls: pace.calls.wrapping_add(1),
-        sum: pace.sum.wrapping_add(listed.len as u64),
+        sum: pace.sum.wrapping_add(u64::from(len)),
         ..pace
     }
 }

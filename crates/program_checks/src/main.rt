@@ -5,7 +5,7 @@
 ghost use Rattle.std.specs.Io.{ReadsAtMost};
 
 use program::{Flaw, Going, Loop, Loops};
-use record::Held;
+use record::{Found, Held};
 use std::io;
 use std::io::Read;
 
@@ -82,13 +82,12 @@ fn run(rt: &impl Print, store: &[u8], table: &[u16], held: Held) -> io::Result<(
     let mut left = 40u16;
     while 0 < left {
         left = left - 1;
-        let f = record::fetch(store, table, held, place);
-        if f.len == 0 {
+        let Found::Got(item) = record::fetch(store, table, held, place) else {
             return print!(rt; " E");
-        }
+        };
         print!(rt; " ")?;
         put(rt, place)?;
-        let way = program::onward(f.item, place, held.records, loops);
+        let way = program::onward(item, place, held.records, loops);
         loops = way.loops;
         place = match way.going {
             Going::To(next) => next,
@@ -109,8 +108,9 @@ fn walk(table: &mut [u16], store: &[u8], held: Held) {
     let mut i = 0usize;
     while i < table.len() {
         table[i] = at as u16;
-        let f = record::record_at(store, held, at);
-        at = (at + (f.len as usize)) % 65536;
+        if let Found::Got(item) = record::record_at(store, held, at) {
+            at = (at + usize::from(item.len())) % 65536;
+        }
         i += 1;
     }
 }

@@ -4,7 +4,7 @@
 
 ghost use Rattle.std.specs.Io.{ReadsAtMost};
 
-use record::{Held, Record};
+use record::{Found, Held, Record};
 use std::io;
 use std::io::Read;
 
@@ -38,9 +38,7 @@ fn store_times(
     let mut held = before;
     let mut left = times;
     while 0 < left {
-        let k = record::store_record(store, table, held, item);
-        let longer = k.held;
-        held = longer;
+        held = record::store_record(store, table, held, item).unwrap_or(held);
         left = left - 1;
     }
     held
@@ -87,10 +85,10 @@ fn fill_again(
     };
     let mut place = 0u16;
     while place < from.records {
-        let f = record::fetch(store, table, from, place);
-        let k = record::store_record(second, other, held, f.item);
-        let longer = k.held;
-        held = longer;
+        let Found::Got(item) = record::fetch(store, table, from, place) else {
+            return held;
+        };
+        held = record::store_record(second, other, held, item).unwrap_or(held);
         place = place + 1;
     }
     held
@@ -138,8 +136,7 @@ fn same_entries(a: &[u16], b: &[u16]) -> bool {
 // Whether a table is the one that is filled from its store.
 fn is_filled(store: &[u8], table: &[u16], held: Held) -> bool {
     let mut other: [u16; 1000] = [0; 1000];
-    let refusal = record::fill(store, &mut other, held);
-    (refusal == 0) & same_entries(table, &other)
+    record::fill(store, &mut other, held).is_ok() && same_entries(table, &other)
 }
 
 // The listing as it stands in the buffer, and a line feed.
@@ -175,12 +172,13 @@ fn show_again(rt: &impl Print, store: &[u8], table: &[u16], held: Held) -> io::R
 // The listing of a store, or its refusal.
 fn show_store(rt: &impl Print, store: &[u8], table: &[u16], held: Held) -> io::Result<()> {
     let mut lines: [u8; 32768] = [0; 32768];
-    let listed = record::list(store, held, &mut lines);
-    if listed.refusal != 0 {
-        return show_refusal(rt, listed.refusal);
+    match record::list(store, held, &mut lines) {
+        Ok(len) => {
+            show_listing(rt, &lines, len)?;
+            show_again(rt, store, table, held)
+        }
+        Err(refusal) => show_refusal(rt, refusal.number()),
     }
-    show_listing(rt, &lines, listed.len)?;
-    show_again(rt, store, table, held)
 }
 
 // One store of the text; answers where the text goes on.

@@ -1,3 +1,4 @@
 pub mod Signed
+pub mod Told
 pub mod Only
 pub mod laws

@@ -3,6 +3,7 @@
 use mathlib.Core.Path.{◌≡◌, sym, ap, ◌∙◌}
 use Rattle.record.proofs.laws.Replies.{told-one}
 use Rattle.board.specs.Calls.{Outcome}
+use Rattle.board.proofs.Told.{received-one, clocked-one}
 use Rattle.board.proofs.Board.fresh.Reads as fresh
 use Rattle.board.proofs.Board.sound.Reads as sound
 use Rattle.board.proofs.Board.position.Reads as position
@@ -41,7 +42,7 @@ pub receive-one : (κs : _) (a : _) (r r' : _) (s s' : _) → receive.Post κs a
     × ((receive-table s).now ≡ (receive-table s').now)
 receive-one κs a r r' s s' p q =
     let e = p ∙ sym q in (
-      ap (λ (o : Outcome). o.result) e,
+      received-one r r' (ap (λ (o : Outcome). o.result) e),
       ap (λ (o : Outcome). o.after.reply) e,
       ap (λ (o : Outcome). o.after.memory.store) e,
       ap (λ (o : Outcome). o.after.memory.table) e,
@@ -51,7 +52,7 @@ pub take-one : (κs : _) (a : _) (r r' : _) (s s' : _) → take.Post κs a r s �
 take-one κs a r r' s s' p q = p ∙ sym q
 
 pub clock-one : (κs : _) (a : _) (r r' : _) (s s' : _) → clock.Post κs a r s → clock.Post κs a r' s' → r ≡ r'
-clock-one κs a r r' s s' p q = p ∙ sym q
+clock-one κs a r r' s s' p q = clocked-one r r' (p ∙ sym q)
 
 -- the third parameter, `text: &mut [u8]`, as it is left
 abbrev list-text : {X A B C : Type 0} → A × (B × (X × C)) → X

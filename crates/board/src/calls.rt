@@ -6,7 +6,7 @@ ghost use Rattle.engine.specs.work.Acts.{is_wrong};
 ghost use Rattle.board.specs.State.{sound};
 ghost use Rattle.count.specs.Refusals.{number_of};
 ghost use Rattle.record.specs.Table.{refused};
-ghost use Rattle.board.specs.Calls.{lent, did, received, receiving, clocked, clocked_by, answer_in, clocking, listing, fresh, point};
+ghost use Rattle.board.specs.Calls.{lent, did, received, receiving, clocked, clocked_by, answer_in, len_in, clocking, listing, fresh, point};
 
 use crate::{Board, Ear, Line, Point, Received, Ticked};
 use count::Refusal;
@@ -30,6 +30,18 @@ fn is_refused(act: Act) -> bool
     ensures { result ≡ is_wrong act }
 {
     matches!(act, Act::Wrong)
+}
+
+impl Received {
+    // The bytes of the reply; none where the call is refused.
+    pub fn len(self) -> usize
+        ensures { result ≡ len_in self.reply }
+    {
+        match self.reply {
+            Ok(n) => n,
+            Err(_) => 0,
+        }
+    }
 }
 
 impl Board {

@@ -111,14 +111,14 @@ impl Play {
             &mut self.table,
         );
         self.called(heard.board);
-        reply.truncate(heard.len);
-        show_heard(rt, heard.refusal, &reply)
+        reply.truncate(heard.len());
+        show_heard(rt, heard.reply, &reply)
     }
 
     fn clock(&mut self, rt: &impl Print) -> io::Result<()> {
         let ticked = self.board.clock(self.store(), self.entries());
         self.called(ticked.board);
-        show_ticked(rt, ticked.refusal, ticked.answer)
+        show_ticked(rt, ticked.answer)
     }
 
     fn list(&mut self, rt: &impl Print, alloc: Global) -> io::Result<()> {

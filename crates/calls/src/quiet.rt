@@ -1,7 +1,7 @@
 // A run of clock calls until the board has nothing more to do, `Q`, and what is printed of it.
 use crate::Play;
 use crate::show::{job_name, show_ticked};
-use board::Board;
+use board::{Board, Ticked};
 use engine::Answer;
 use std::io;
 
@@ -11,6 +11,11 @@ fn is_first(board: Board) -> bool {
         Some(t) => t.made() == 1,
         None => false,
     }
+}
+
+// Whether a call did nothing, or was refused.
+fn is_nothing(ticked: Ticked) -> bool {
+    matches!(ticked.answer, Ok(Answer::Nothing) | Err(_))
 }
 
 // What the board is at after a call: its job, the next record's place before the call and after it, and the origin.
@@ -25,22 +30,14 @@ fn show_place(rt: &impl Print, from: u16, board: Board) -> io::Result<()> {
 }
 
 // A call of a run: its refusal, or its answer with what the board is at. The nothing at the end is not printed.
-fn show_run(
-    rt: &impl Print,
-    refusal: u16,
-    answer: Answer,
-    from: u16,
-    board: Board,
-) -> io::Result<()> {
-    if refusal != 0 {
-        return show_ticked(rt, refusal, answer);
-    }
-    match answer {
-        Answer::Nothing => Ok(()),
-        Answer::Pulse(_, _) if !is_first(board) => show_ticked(rt, refusal, answer),
-        _ => {
-            show_ticked(rt, refusal, answer)?;
-            show_place(rt, from, board)
+fn show_run(rt: &impl Print, ticked: Ticked, from: u16) -> io::Result<()> {
+    match ticked.answer {
+        Ok(Answer::Nothing) => Ok(()),
+        Err(_) => show_ticked(rt, ticked.answer),
+        Ok(Answer::Pulse(_, _)) if !is_first(ticked.board) => show_ticked(rt, ticked.answer),
+        Ok(_) => {
+            show_ticked(rt, ticked.answer)?;
+            show_place(rt, from, ticked.board)
         }
     }
 }
@@ -50,15 +47,15 @@ impl Play {
     fn step(&mut self, rt: &impl Print) -> io::Result<()> {
         let from = self.board.engine.run.place;
         let ticked = self.board.clock(self.store(), self.entries());
-        self.over = matches!(ticked.answer, Answer::Nothing);
+        self.over = is_nothing(ticked);
         self.called(ticked.board);
-        show_run(rt, ticked.refusal, ticked.answer, from, ticked.board)
+        show_run(rt, ticked, from)
     }
 
     // Whether a run that was not over in its calls is over now.
     fn look(&mut self) {
         let ticked = self.board.clock(self.store(), self.entries());
-        self.over = matches!(ticked.answer, Answer::Nothing);
+        self.over = is_nothing(ticked);
         self.called(self.board);
     }
 

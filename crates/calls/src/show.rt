@@ -7,22 +7,24 @@ use std::alloc::Global;
 use std::io;
 
 // A clock call: its refusal, or its answer.
-pub(crate) fn show_ticked(rt: &impl Print, refusal: u16, answer: Answer) -> io::Result<()> {
-    if refusal != 0 {
-        return println!(rt; "C {refusal}");
-    }
+pub(crate) fn show_ticked(rt: &impl Print, answer: Result<Answer, Refusal>) -> io::Result<()> {
     match answer {
-        Answer::Pulse(signs, speed) => println!(rt; "C Pulse {signs} {speed}"),
-        Answer::Pause => println!(rt; "C Pause"),
-        Answer::Send(b) => println!(rt; "C Send {b}"),
-        Answer::Done => println!(rt; "C Done"),
-        Answer::Nothing => println!(rt; "C Nothing"),
+        Err(refusal) => println!(rt; "C {refusal}"),
+        Ok(Answer::Pulse(signs, speed)) => println!(rt; "C Pulse {signs} {speed}"),
+        Ok(Answer::Pause) => println!(rt; "C Pause"),
+        Ok(Answer::Send(b)) => println!(rt; "C Send {b}"),
+        Ok(Answer::Done) => println!(rt; "C Done"),
+        Ok(Answer::Nothing) => println!(rt; "C Nothing"),
     }
 }
 
 // A byte received: its refusal, or its reply.
-pub(crate) fn show_heard(rt: &impl Print, refusal: u16, reply: &[u8]) -> io::Result<()> {
-    if refusal != 0 {
+pub(crate) fn show_heard(
+    rt: &impl Print,
+    heard: Result<usize, Refusal>,
+    reply: &[u8],
+) -> io::Result<()> {
+    if let Err(refusal) = heard {
         return println!(rt; "B {refusal}");
     }
     if reply.is_empty() {

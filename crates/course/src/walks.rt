@@ -93,7 +93,7 @@ impl Walk {
         }
         let board = self.board;
         let heard = board.receive(byte, [0u8; 4], &mut out[2..], &mut *store, &mut *table);
-        let n = put_reply(&mut *out, heard.len);
+        let n = put_reply(&mut *out, heard.len());
         let next = heard.board;
         if !runs_now(next) {
             let still = Walk {

@@ -17,14 +17,14 @@ struct Pace {
     pub sum: u64,
 }
 
-// What an answer adds to the sum; nothing adds 0 and no other does.
-fn weight(answer: Answer) -> u64 {
+// What an answer adds to the sum; nothing adds 0, as a refused call does, and no other.
+fn weight(answer: Result<Answer, count::Refusal>) -> u64 {
     match answer {
-        Answer::Pulse(_, speed) => 3 + u64::from(speed),
-        Answer::Pause => 1,
-        Answer::Send(b) => 1 + u64::from(b),
-        Answer::Done => 2,
-        Answer::Nothing => 0,
+        Ok(Answer::Pulse(_, speed)) => 3 + u64::from(speed),
+        Ok(Answer::Pause) => 1,
+        Ok(Answer::Send(b)) => 1 + u64::from(b),
+        Ok(Answer::Done) => 2,
+        Ok(Answer::Nothing) | Err(_) => 0,
     }
 }
 
@@ -54,7 +54,7 @@ fn receive(pace: Pace, byte: u8, store: &mut [u8], table: &mut [u16]) -> Pace {
     Pace {
         board: heard.board,
         calls: pace.calls.wrapping_add(1),
-        sum: pace.sum.wrapping_add(heard.len as u64),
+        sum: pace.sum.wrapping_add(heard.len() as u64),
     }
 }
 

@@ -9,6 +9,7 @@ ghost use Rattle.port.specs.Calls.{fresh_state, clocked_by, ticked_state, clocki
 
 use crate::answers::clocked;
 use crate::code::as_flag;
+use crate::store::refusal_of;
 use crate::{Clocked, Heard, Shown, State, Written};
 use board::Board;
 use engine::{Act, Answer};
@@ -130,8 +131,8 @@ pub fn board_receive(
         .receive(byte, ports_of(ports), reply, store, table);
     Heard {
         state: state.with_board(t.board),
-        len: t.len,
-        refusal: t.refusal,
+        len: t.len(),
+        refusal: refusal_of(t.reply),
     }
 }
 
@@ -156,10 +157,8 @@ pub fn board_list(state: State, store: &[u8], text: &mut [u8]) -> Written
     if !state.is_known() {
         return written(state, 0, 103);
     }
-    match state.open().list(store, text) {
-        Ok(len) => written(state, len, 0),
-        Err(refusal) => written(state, 0, refusal.number()),
-    }
+    let listed = state.open().list(store, text);
+    written(state, listed.unwrap_or(0), refusal_of(listed))
 }
 
 // ---- what a host shows

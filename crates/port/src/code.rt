@@ -166,12 +166,8 @@ fn byte_over(job: Job, old: u8) -> u8
 {
     match job {
         Job::Wait(c, _) => c,
-        Job::Idle
-        | Job::Storing
-        | Job::Direct(_)
-        | Job::Ready
-        | Job::Moving(_)
-        | Job::Delay(_) => old,
+        Job::Idle | Job::Storing | Job::Direct(_) | Job::Ready | Job::Moving(_) | Job::Delay(_) =>
+            old,
     }
 }
 

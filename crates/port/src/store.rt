@@ -2,13 +2,24 @@
 // lent buffers cross the border.
 ghost use Rattle.std.specs.Prelude.{◌≡◌};
 ghost use Rattle.record.specs.Memory.{memory};
-ghost use Rattle.record.specs.Table.{filling, fill_of};
+ghost use Rattle.record.specs.Table.{filling, fill_of, refused};
 ghost use Rattle.join.specs.Join.{joining, join_of};
 ghost use Rattle.sheet.specs.Chain.{chained, chain_of};
 ghost use Rattle.port.specs.Store.{held, joined};
 
+use count::Refusal;
 use record::Held;
 use sheet::Axis;
+
+// What refuses a call, by its number; 0 where nothing does.
+pub(crate) fn refusal_of<T: Copy>(answer: Result<T, Refusal>) -> u16
+    ensures { result ≡ refused answer }
+{
+    match answer {
+        Ok(_) => 0,
+        Err(refusal) => refusal.number(),
+    }
+}
 
 // The table of a store that was kept, or the refusal: 102, 104, or G for a store that cannot be read.
 pub fn board_fill(used: u16, records: u16, axes: u8, store: &[u8], table: &mut [u16]) -> u16
@@ -19,10 +30,7 @@ pub fn board_fill(used: u16, records: u16, axes: u8, store: &[u8], table: &mut [
         records,
         axes,
     };
-    match record::fill(store, table, part) {
-        Ok(()) => 0,
-        Err(refusal) => refusal.number(),
-    }
+    refusal_of(record::fill(store, table, part))
 }
 
 // A second program put behind a first, whose part in use, store and table are the destination; or the refusal, and they stay.

@@ -16,7 +16,10 @@ use Rattle.board.proofs.Board.clock.Reads as clock
 use Rattle.record.specs.Memory.{Memory}
 use Rattle.board.specs.declared.Board.{Board}
 use Rattle.board.specs.Calls.{Ticked}
-use Rattle.board.specs.Calls.{Lent, Outcome, receiving, clocking}
+use Rattle.board.specs.declared.Received.{Received as HeardBy}
+use Rattle.board.specs.declared.Ticked.{Ticked as TickedBy}
+use Rattle.board.specs.Calls.{Lent, Outcome, Received, did, received, receiving, clocked_by, clocking}
+use Rattle.board.proofs.Told.{heard_told, heard-any, clock_told, clock-any}
 use Rattle.promise.specs.Machine.{Event, byte as heard, clock as timed}
 
 -- ---- what a contract allows of one call
@@ -35,7 +38,9 @@ pub record Hears (v : ℕ) (ports : List ℕ) (l : Lent) (b : Board) (o : Outcom
   pub replied : last.1.1.1.0.now ≡ o.after.reply
   pub stored : last.1.1.1.1.0.now ≡ o.after.memory.store
   pub entered : last.1.1.1.1.1.0.now ≡ o.after.memory.table
-  pub post : receive.Post κs args o.result last
+  pub told : HeardBy
+  pub tells : o.result ≡ received told
+  pub post : receive.Post κs args told last
 
 -- a result of `clock`
 pub record Ticks (mem : Memory) (b : Board) (t : Ticked) : Type 1 where
@@ -45,13 +50,15 @@ pub record Ticks (mem : Memory) (b : Board) (t : Ticked) : Type 1 where
   pub self : args.0 ≡ b
   pub store : args.1.0.now ≡ mem.store
   pub table : args.1.1.0.now ≡ mem.table
-  pub post : clock.Post κs args t last
+  pub told : TickedBy
+  pub tells : t ≡ clocked_by told
+  pub post : clock.Post κs args told last
 
 pub hears-is : (v : ℕ) (ports : List ℕ) (l : Lent) (b : Board) (o : Outcome) → Hears v ports l b o → o ≡ receiving v ports b l
-hears-is v ports l b o h = rw (← h.self, ← h.given, ← h.inputs, ← h.reply, ← h.store, ← h.table, ← h.replied, ← h.stored, ← h.entered) h.post
+hears-is v ports l b o h = rw (h.tells, ← h.self, ← h.given, ← h.inputs, ← h.reply, ← h.store, ← h.table, ← h.replied, ← h.stored, ← h.entered) h.post
 
 pub ticks-is : (mem : Memory) (b : Board) (t : Ticked) → Ticks mem b t → t ≡ clocking b mem
-ticks-is mem b t h = rw (← h.self, ← h.store, ← h.table) h.post
+ticks-is mem b t h = h.tells ∙ rw (← h.self, ← h.store, ← h.table) h.post
 
 pub clock-allowed : (mem : Memory) (b : Board) → Ticks mem b (clocking b mem)
 clock-allowed mem b = record {
@@ -61,7 +68,9 @@ clock-allowed mem b = record {
   self = refl;
   store = refl;
   table = refl;
-  post = refl;
+  told = clock_told (clocking b mem);
+  tells = clock-any b mem;
+  post = sym (clock-any b mem);
 }
 
 pub byte-allowed : (v : ℕ) (ports : List ℕ) (l : Lent) (b : Board) → Hears v ports l b (receiving v ports b l)
@@ -78,7 +87,9 @@ byte-allowed v ports l b = record {
   replied = refl;
   stored = refl;
   entered = refl;
-  post = refl;
+  told = heard_told (receiving v ports b l).result;
+  tells = heard-any v ports b l;
+  post = ap (λ (r : Received). did r (receiving v ports b l).after) (sym (heard-any v ports b l));
 }
 
 -- ---- any sequence of calls

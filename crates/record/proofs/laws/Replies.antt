@@ -62,7 +62,7 @@ replied-one (Err f) (Ok y) e = absurd (letter-some f e)
 replied-one (Err f) (Err g) e = ap (λ (h : Fault). Err h) (letter-one f g e)
 
 -- the refusal of a number
-abbrev refusal_at : ℕ → Refusal
+abbrev pub refusal_at : ℕ → Refusal
 refusal_at n =
     pick (eqb n 101) refusal.Reply
     (pick (eqb n 102) refusal.Store

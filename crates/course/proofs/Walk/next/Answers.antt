@@ -79,7 +79,7 @@ returns-then-not-runs_now c =
     let m = memory a.store.now a.table.now in
     let o : a.self.over ≡ true = not-false _ c.if-not-self.false in
     let e : ready a.self m a.out.now ≡ true = sym c.is_ready.ensures ∙ c.if-not-is_ready.false in
-    next-still a.byte a.self m a.out.now o e c.receive-heard.ensures c.put_reply-n.ensures (sym c.runs_now.ensures ∙ c.if-not-runs_now.true)
+    next-still a.byte a.self m a.out.now o e c.receive-heard.ensures (rw c.len.ensures at c.put_reply-n.ensures) (sym c.runs_now.ensures ∙ c.if-not-runs_now.true)
 
 pub slice_bounds-run-count : goal.slice_bounds-run-count
 unfolding ready
@@ -91,7 +91,7 @@ slice_bounds-run-count c =
     let q = c.receive-heard in
     let p = ready-parts a.self m a.out.now e in
     let f = c.put_reply-n in
-    let v = framed-here a.byte a.self m a.out.now o e q.ensures f.ensures in
+    let v = framed-here a.byte a.self m a.out.now o e q.ensures (rw c.len.ensures at f.ensures) in
     omega (arith, line-fits a.byte a.self m a.out.now o e q.ensures v, f.auto.out, mid-long 2 a.out.now q.new.reply (omega (arith, p.0)) q.auto.reply, p.0)
 
 pub slice_bounds-run-start : goal.slice_bounds-run-start
@@ -104,7 +104,7 @@ slice_bounds-run-start c =
     let q = c.receive-heard in
     let p = ready-parts a.self m a.out.now e in
     let f = c.put_reply-n in
-    let v = framed-here a.byte a.self m a.out.now o e q.ensures f.ensures in
+    let v = framed-here a.byte a.self m a.out.now o e q.ensures (rw c.len.ensures at f.ensures) in
     omega (arith, line-fits a.byte a.self m a.out.now o e q.ensures v, f.auto.out, mid-long 2 a.out.now q.new.reply (omega (arith, p.0)) q.auto.reply, p.0)
 
 pub end_of-len-requires : goal.end_of-len-requires
@@ -117,7 +117,7 @@ end_of-len-requires c =
     let q = c.receive-heard in
     let p = ready-parts a.self m a.out.now e in
     let f = c.put_reply-n in
-    let v = framed-here a.byte a.self m a.out.now o e q.ensures f.ensures in
+    let v = framed-here a.byte a.self m a.out.now o e q.ensures (rw c.len.ensures at f.ensures) in
     let x = c.run-ran in
     let l : length f.new.out ≡ length a.out.now = f.auto.out ∙ mid-long 2 a.out.now q.new.reply (omega (arith, p.0)) q.auto.reply in
     let n : f.result ≤ length f.new.out = omega (arith, line-fits a.byte a.self m a.out.now o e q.ensures v, l, p.0) in
@@ -139,7 +139,7 @@ shape_of-out c =
     let q = c.receive-heard in
     let p = ready-parts a.self m a.out.now e in
     let f = c.put_reply-n in
-    let v = framed-here a.byte a.self m a.out.now o e q.ensures f.ensures in
+    let v = framed-here a.byte a.self m a.out.now o e q.ensures (rw c.len.ensures at f.ensures) in
     let x = c.run-ran in
     let l : length f.new.out ≡ length a.out.now = f.auto.out ∙ mid-long 2 a.out.now q.new.reply (omega (arith, p.0)) q.auto.reply in
     mid-long f.result f.new.out x.new.out (omega (arith, line-fits a.byte a.self m a.out.now o e q.ensures v, l, p.0)) x.auto.out ∙ l
@@ -156,4 +156,4 @@ returns c =
     let x = c.run-ran in
     let f = c.put_reply-n in
     ap (λ (n : ℕ). done_of (record { walk = walk x.result.board x.result.calls x.result.over; len = n }) (memory q.new.store q.new.table) (put_mid f.result (length f.new.out - f.result) f.new.out x.new.out)) c.end_of-len.ensures
-    ∙ next-made a.byte a.self m a.out.now o e q.ensures c.put_reply-n.ensures x.ensures
+    ∙ next-made a.byte a.self m a.out.now o e q.ensures (rw c.len.ensures at c.put_reply-n.ensures) x.ensures

@@ -33,14 +33,7 @@ fn unlisted(refusal: u16) -> Listed
 fn is_refused(act: Act) -> bool
     ensures { result ≡ is_wrong act }
 {
-    match act {
-        Act::Wrong => true,
-        Act::Still => false,
-        Act::Pulse(_) => false,
-        Act::Pause(_) => false,
-        Act::Finish => false,
-        Act::Record => false,
-    }
+    matches!(act, Act::Wrong)
 }
 
 impl Board {

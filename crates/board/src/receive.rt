@@ -15,74 +15,34 @@ use engine::Job;
 fn is_storing(job: Job) -> bool
     ensures { result ≡ is_storing job }
 {
-    match job {
-        Job::Idle => false,
-        Job::Storing => true,
-        Job::Direct(_) => false,
-        Job::Ready => false,
-        Job::Moving(_) => false,
-        Job::Delay(_) => false,
-        Job::Wait(_, _) => false,
-    }
+    matches!(job, Job::Storing)
 }
 
 // Whether lines are gathered.
 fn is_gathering(job: Job) -> bool
     ensures { result ≡ gathers_by job }
 {
-    match job {
-        Job::Idle => true,
-        Job::Storing => true,
-        Job::Direct(_) => false,
-        Job::Ready => false,
-        Job::Moving(_) => false,
-        Job::Delay(_) => false,
-        Job::Wait(_, _) => false,
-    }
+    matches!(job, Job::Idle | Job::Storing)
 }
 
 fn is_waiting(job: Job) -> bool
     ensures { result ≡ waits_by job }
 {
-    match job {
-        Job::Idle => false,
-        Job::Storing => false,
-        Job::Direct(_) => false,
-        Job::Ready => false,
-        Job::Moving(_) => false,
-        Job::Delay(_) => false,
-        Job::Wait(_, _) => true,
-    }
+    matches!(job, Job::Wait(_, _))
 }
 
 // Whether a stop holds it.
 fn is_held(job: Job) -> bool
     ensures { result ≡ holds_by job }
 {
-    match job {
-        Job::Idle => false,
-        Job::Storing => false,
-        Job::Direct(_) => true,
-        Job::Ready => true,
-        Job::Moving(_) => true,
-        Job::Delay(_) => false,
-        Job::Wait(_, _) => false,
-    }
+    matches!(job, Job::Direct(_) | Job::Ready | Job::Moving(_))
 }
 
 // Whether a break ends it.
 fn is_ended(job: Job) -> bool
     ensures { result ≡ ends_by job }
 {
-    match job {
-        Job::Idle => false,
-        Job::Storing => false,
-        Job::Direct(_) => true,
-        Job::Ready => true,
-        Job::Moving(_) => true,
-        Job::Delay(_) => true,
-        Job::Wait(_, _) => true,
-    }
+    !matches!(job, Job::Idle | Job::Storing)
 }
 
 // What an ordinary byte is taken for where lines are gathered.

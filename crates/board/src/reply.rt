@@ -9,8 +9,7 @@ ghost use Rattle.board.specs.work.Work.{bytes_of, put_of, text_of, received_of};
 use crate::{Received, Saying, Spoke};
 use motion::Counters;
 
-fn put_one(reply: &mut [u8], byte: u8) -> usize
-    requires { 32 ≤ length reply.old }
+fn put_one(reply: &mut [u8; 32], byte: u8) -> usize
     ensures { written result reply.new ≡ put_of (byte ∷ []) reply.old }
 {
     reply[0] = byte;
@@ -18,16 +17,15 @@ fn put_one(reply: &mut [u8], byte: u8) -> usize
 }
 
 // A position at byte `at`.
-fn put_at(reply: &mut [u8], at: usize, c: u32)
-    requires { at + 6 ≤ length reply.old }
+fn put_at(reply: &mut [u8; 32], at: usize, c: u32)
+    requires { at ≤ 26 }
     ensures { reply.new ≡ take at reply.old ++ report c ++ drop (at + 6) reply.old }
 {
     count::put_report(&mut reply[at..], c);
 }
 
 // 0 and the positions of x, y and z.
-fn put_three(reply: &mut [u8], at: Counters) -> usize
-    requires { 32 ≤ length reply.old }
+fn put_three(reply: &mut [u8; 32], at: Counters) -> usize
     ensures { written result reply.new ≡ put_of (48 ∷ report at.x ++ report at.y ++ report at.z) reply.old }
 {
     reply[0] = b'0';
@@ -38,8 +36,7 @@ fn put_three(reply: &mut [u8], at: Counters) -> usize
 }
 
 // 0 and the positions: of x, y and z, and with four axes of A.
-fn put_positions(reply: &mut [u8], axes: u8, at: Counters) -> usize
-    requires { 32 ≤ length reply.old }
+fn put_positions(reply: &mut [u8; 32], axes: u8, at: Counters) -> usize
     ensures { written result reply.new ≡ put_of (48 ∷ end_to_end (λ i. report (on i at)) (shown_axes (eqb axes 15))) reply.old }
 {
     let three = put_three(&mut *reply, at);
@@ -51,8 +48,7 @@ fn put_positions(reply: &mut [u8], axes: u8, at: Counters) -> usize
 }
 
 // 0 and a port's byte.
-fn put_port(reply: &mut [u8], byte: u8) -> usize
-    requires { 32 ≤ length reply.old }
+fn put_port(reply: &mut [u8; 32], byte: u8) -> usize
     ensures { written result reply.new ≡ put_of (48 ∷ two_hex byte) reply.old }
 {
     count::put_byte(&mut reply[1..], byte);
@@ -61,8 +57,7 @@ fn put_port(reply: &mut [u8], byte: u8) -> usize
 }
 
 // G, the letter of a fault, and its place.
-fn put_fault(reply: &mut [u8], letter: u8, place: u16) -> usize
-    requires { 32 ≤ length reply.old }
+fn put_fault(reply: &mut [u8; 32], letter: u8, place: u16) -> usize
     ensures { written result reply.new ≡ put_of (71 ∷ letter ∷ four_digits place) reply.old }
 {
     count::put_place(&mut reply[2..], place);
@@ -71,8 +66,7 @@ fn put_fault(reply: &mut [u8], letter: u8, place: u16) -> usize
     6
 }
 
-fn put(say: Saying, axes: u8, at: Counters, reply: &mut [u8]) -> usize
-    requires { 32 ≤ length reply.old }
+fn put(say: Saying, axes: u8, at: Counters, reply: &mut [u8; 32]) -> usize
     ensures { written result reply.new ≡ put_of (bytes_of say axes at) reply.old }
 {
     match say {
@@ -91,7 +85,8 @@ impl Spoke {
         ensures { (received result ≡ received_of self) × (reply.new ≡ text_of self ++ drop (length (text_of self)) reply.old) }
     {
         let e = self.board.engine;
-        let len = put(self.say, e.axes, e.at, reply);
+        let front = reply.first_chunk_mut().unwrap();
+        let len = put(self.say, e.axes, e.at, front);
         Received {
             board: self.board,
             reply: Ok(len),

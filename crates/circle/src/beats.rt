@@ -1,19 +1,12 @@
 // The pulses of an arc.
-ghost use Rattle.std.specs.Prelude.{◌≡◌, ◌<◌};
-ghost use Rattle.count.specs.Axes.{Each};
-ghost use Rattle.motion.specs.Axes.{on};
-ghost use Rattle.circle.specs.Rule.{measure};
-ghost use Rattle.circle.specs.Arc.{zero, arc_signs, counted_pair, arc_beat, with_made, arc_left};
+ghost use Rattle.std.specs.Prelude.{◌≡◌};
+ghost use Rattle.circle.specs.Rule.{on_axes, measure, ways_at, move_of};
+ghost use Rattle.circle.specs.Arc.{zero, arc_beat, with_made, arc_left};
 
-use super::rule::{measured, move_by, on_axes, on_plane, ways_of};
-use super::{Arc, Pair};
+use super::counted::Counted;
+use super::rule::{measured, move_by, on_axes, ways_of};
+use super::{Arc, Circling, Pair};
 use motion::{Beat, Counters, Mark, Signs};
-
-fn is_counted_pair(p: Pair) -> bool
-    ensures { result ≡ counted_pair p }
-{
-    count::in_range(p.first) & count::in_range(p.second)
-}
 
 // The centre of what is counted from it.
 pub(crate) fn at_centre() -> Pair
@@ -26,26 +19,23 @@ pub(crate) fn at_centre() -> Pair
 }
 
 // x² + y² at a start.
-pub(crate) fn start_value(start: Pair) -> u64
-    requires { (start.first < 16777216) × (start.second < 16777216) }
-    ensures { result ≡ measure zero start }
+pub(crate) fn start_value(start: Counted) -> u64
+    ensures { result ≡ measure zero start.pair }
 {
-    measured(at_centre(), start)
+    measured(at_centre(), start.pair)
+}
+
+// What the next pulse shows.
+fn signs(circling: Circling, centre: Counted, start: Counted, at: Counted) -> Signs
+    ensures { result ≡ on_axes circling.plane
+        (move_of (measure zero start.pair) centre.pair at.pair (ways_at circling.direction centre.pair at.pair)) }
+{
+    let w = ways_of(circling.direction, centre.pair, at.pair);
+    let turn = move_by(start_value(start), centre, at, w);
+    on_axes(circling.plane, turn)
 }
 
 impl Arc {
-    // What the next pulse shows.
-    fn signs(self, at: Counters) -> Signs
-        requires { Each (λ i. on i at < 16777216) × (self.centre.first < 16777216) × (self.centre.second < 16777216)
-            × (self.start.first < 16777216) × (self.start.second < 16777216) }
-        ensures { result ≡ arc_signs self at }
-    {
-        let p = on_plane(self.circling.plane, at);
-        let w = ways_of(self.circling.direction, self.centre, p);
-        let turn = move_by(start_value(self.start), self.centre, p, w);
-        on_axes(self.circling.plane, turn)
-    }
-
     // The pulse after so many, or that none is left.
     pub fn beat_in(self, made: u32, at: Counters) -> Option<Beat>
         ensures { result ≡ arc_beat (with_made self made) at }
@@ -53,10 +43,17 @@ impl Arc {
         if self.length <= made {
             return None;
         }
-        if !(motion::counted_at(at) & is_counted_pair(self.centre) & is_counted_pair(self.start)) {
+        if !motion::counted_at(at) {
             return None;
         }
-        let signs = self.signs(at);
+        let centre = Counted::new(self.centre)?;
+        let start = Counted::new(self.start)?;
+        let signs = signs(
+            self.circling,
+            centre,
+            start,
+            Counted::on_plane(self.circling.plane, at),
+        );
         let there = motion::step_to(at, signs)?;
         Some(Beat {
             signs,

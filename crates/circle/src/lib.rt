@@ -2,6 +2,7 @@
 #![tactic(auto)]
 
 mod beats;
+mod counted;
 mod plan;
 mod rule;
 mod sound;

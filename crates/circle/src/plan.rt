@@ -6,7 +6,8 @@ ghost use Rattle.motion.specs.Phase.{sign_value};
 ghost use Rattle.circle.specs.Plan.{plane_of, direction_of, plane_set, start_of, or_else, first_ways, less, centre_of, arc_from, going_by, bend_of};
 
 use super::beats::at_centre;
-use super::rule::{on_plane, shifted_by, ways_of};
+use super::counted::Counted;
+use super::rule::{shifted_by, ways_of};
 use super::sound::has_room;
 use super::{Arc, Circling, Direction, Pair, Plane, Ways};
 use count::{Axis, Fault};
@@ -56,13 +57,15 @@ fn start_count(w: u32) -> u32
 }
 
 // The start, counted from the centre.
-fn start_of(words: [u32; 8]) -> Pair
+fn start_of(words: [u32; 8]) -> Counted
     requires { right_arc words ≡ true }
-    ensures { (result ≡ start_of words) × (result.first < 16777216) × (result.second < 16777216) }
+    ensures { result.pair ≡ start_of words }
 {
     let first = start_count(words[3]);
     let second = start_count(words[4]);
-    Pair { first, second }
+    Counted {
+        pair: Pair { first, second },
+    }
 }
 
 fn or_else(s: Sign, later: Sign) -> Sign
@@ -75,12 +78,11 @@ fn or_else(s: Sign, later: Sign) -> Sign
 }
 
 // The ways that the rule gives at the start; for an axis that has none there, the one once the first pulse is made.
-fn first_ways(d: Direction, start: Pair) -> Ways
-    requires { (start.first < 16777216) × (start.second < 16777216) }
-    ensures { result ≡ first_ways d start }
+fn first_ways(d: Direction, start: Counted) -> Ways
+    ensures { result ≡ first_ways d start.pair }
 {
     let centre = at_centre();
-    let w = ways_of(d, centre, start);
+    let w = ways_of(d, centre, start.pair);
     let later = ways_of(d, centre, shifted_by(start, w));
     Ways {
         first: or_else(w.first, later.first),
@@ -114,13 +116,12 @@ fn less_by(at: u32, start: u32) -> u32
     (at + 8388608).saturating_sub(start)
 }
 
-fn centre_of(at: Pair, start: Pair) -> Pair
-    requires { (at.first < 16777216) × (at.second < 16777216) × (start.first < 16777216) × (start.second < 16777216) }
-    ensures { result ≡ centre_of at start }
+fn centre_of(at: Counted, start: Counted) -> Pair
+    ensures { result ≡ centre_of at.pair start.pair }
 {
     Pair {
-        first: less_by(at.first, start.first),
-        second: less_by(at.second, start.second),
+        first: less_by(at.pair.first, start.pair.first),
+        second: less_by(at.pair.second, start.pair.second),
     }
 }
 
@@ -139,16 +140,16 @@ fn arc_of(circling: Circling, centre: Pair, start: Pair, words: [u32; 8]) -> Arc
 }
 
 // 9: the arc, if the square around its centre lies within 24 bits.
-fn bend_by(circling: Circling, at: Counters, start: Pair, words: [u32; 8]) -> Result<Arc, Fault>
-    requires { (start.first < 16777216) × (start.second < 16777216) × (get_or words 1 0 ≤ 10000) }
-    ensures { result ≡ going_by circling at start words }
+fn bend_by(circling: Circling, at: Counters, start: Counted, words: [u32; 8]) -> Result<Arc, Fault>
+    requires { get_or words 1 0 ≤ 10000 }
+    ensures { result ≡ going_by circling at start.pair words }
 {
     if !motion::counted_at(at) {
         return Err(Fault::Outside);
     }
-    let centre = centre_of(on_plane(circling.plane, at), start);
+    let centre = centre_of(Counted::on_plane(circling.plane, at), start);
     if has_room(centre, start) {
-        return Ok(arc_of(circling, centre, start, words));
+        return Ok(arc_of(circling, centre, start.pair, words));
     }
     Err(Fault::Outside)
 }

@@ -4,6 +4,7 @@ ghost use Rattle.count.specs.Numbers.{far};
 ghost use Rattle.motion.specs.Phase.{moved};
 ghost use Rattle.circle.specs.Rule.{on_plane, on_axes, side, measure, against, turning, ways_at, rests, shifted, off, move_of};
 
+use super::counted::Counted;
 use super::{Direction, Pair, Plane, Ways};
 use motion::{Counters, Sign, Signs};
 
@@ -139,13 +140,12 @@ fn shift(c: u32, s: Sign) -> u32
     }
 }
 
-pub(crate) fn shifted_by(at: Pair, w: Ways) -> Pair
-    requires { (at.first < 16777216) × (at.second < 16777216) }
-    ensures { (result ≡ shifted at w) × (result.first ≤ 16777216) × (result.second ≤ 16777216) }
+pub(crate) fn shifted_by(at: Counted, w: Ways) -> Pair
+    ensures { (result ≡ shifted at.pair w) × (result.first ≤ 16777216) × (result.second ≤ 16777216) }
 {
     Pair {
-        first: shift(at.first, w.first),
-        second: shift(at.second, w.second),
+        first: shift(at.pair.first, w.first),
+        second: shift(at.pair.second, w.second),
     }
 }
 
@@ -158,9 +158,8 @@ fn off_by(value: u64, centre: Pair, at: Pair) -> u64
 }
 
 // Which of the two axes moves.
-pub(crate) fn move_by(value: u64, centre: Pair, at: Pair, w: Ways) -> Ways
-    requires { (centre.first < 16777216) × (centre.second < 16777216) × (at.first < 16777216) × (at.second < 16777216) }
-    ensures { result ≡ move_of value centre at w }
+pub(crate) fn move_by(value: u64, centre: Counted, at: Counted, w: Ways) -> Ways
+    ensures { result ≡ move_of value centre.pair at.pair w }
 {
     let one = Ways {
         second: Sign::Rest,
@@ -176,8 +175,8 @@ pub(crate) fn move_by(value: u64, centre: Pair, at: Pair, w: Ways) -> Ways
     if is_rest(w.second) {
         return one;
     }
-    let by_one = off_by(value, centre, shifted_by(at, one));
-    let by_two = off_by(value, centre, shifted_by(at, two));
+    let by_one = off_by(value, centre.pair, shifted_by(at, one));
+    let by_two = off_by(value, centre.pair, shifted_by(at, two));
     if by_one <= by_two {
         return one;
     }

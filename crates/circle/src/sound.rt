@@ -1,11 +1,12 @@
 // What 103 asks of an arc under way; no root is taken.
-ghost use Rattle.std.specs.Prelude.{◌≡◌, true, ◌&&◌, ◌<◌, ◌+◌, leb};
+ghost use Rattle.std.specs.Prelude.{◌≡◌, true, ◌&&◌, ◌+◌, leb};
 ghost use Rattle.motion.specs.Sound.{speed_right};
 ghost use Rattle.circle.specs.Rule.{on_plane};
 ghost use Rattle.circle.specs.Plan.{root, reaches, has_room};
 ghost use Rattle.circle.specs.Sound.{start_sound, point_sound, arc_under_way, arc_look};
 
 use super::beats::start_value;
+use super::counted::Counted;
 use super::rule::on_plane;
 use super::{Arc, Pair};
 use motion::{Counters, Look};
@@ -31,9 +32,8 @@ fn reaches_by(n: u64, c: u32) -> bool
 }
 
 // Whether the square around a centre, which an arc never leaves, lies within 24 bits.
-pub(crate) fn has_room(centre: Pair, start: Pair) -> bool
-    requires { (start.first < 16777216) × (start.second < 16777216) }
-    ensures { result ≡ has_room centre start }
+pub(crate) fn has_room(centre: Pair, start: Counted) -> bool
+    ensures { result ≡ has_room centre start.pair }
 {
     let n = start_value(start);
     reaches_by(n, centre.first) & reaches_by(n, centre.second)
@@ -51,9 +51,8 @@ fn is_near(n: u64, d: u32) -> bool
 }
 
 // Whether a point lies in that square and is not its centre.
-fn point_right(start: Pair, centre: Pair, p: Pair) -> bool
-    requires { (start.first < 16777216) × (start.second < 16777216) }
-    ensures { result ≡ point_sound start centre p }
+fn point_right(start: Counted, centre: Pair, p: Pair) -> bool
+    ensures { result ≡ point_sound start.pair centre p }
 {
     let n = start_value(start);
     let x = is_near(n, count::distance(centre.first, p.first));
@@ -69,7 +68,8 @@ impl Arc {
         ensures { result ≡ has_room self.centre self.start && point_sound self.start self.centre (on_plane self.circling.plane at) }
     {
         let p = on_plane(self.circling.plane, at);
-        has_room(self.centre, self.start) & point_right(self.start, self.centre, p)
+        let start = Counted { pair: self.start };
+        has_room(self.centre, start) & point_right(start, self.centre, p)
     }
 
     // Whether an arc under way is one that 103 lets pass.

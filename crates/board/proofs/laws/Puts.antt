@@ -1,20 +1,23 @@
 -- The replies of P, b and the end line as the code writes them, part after part, are the texts at the front of the buffer. Assumes nothing.
 use Prim.Native.Nat.{ℕ, suc, ◌+◌, ◌-◌, ◌≤◌}
 use mathlib.Core.Path.{◌≡◌, refl, sym, ap, ◌∙◌}
-use mathlib.Core.Bool.{Bool}
+use mathlib.Core.Bool.{Bool, true, false}
 use mathlib.Core.List.{List, [], ◌∷◌, ◌++◌, append_assoc, append-nil}
 use native.Mathlib.Omega.{arith}
 use borrow.Author.Tests.{le-ltb, eq-eqb, ne_eqb}
 use lib.Dec.{eqb}
 use borrow.Rule.Slice.PartMut.{put_mid}
-use lib.ListN.{length, take, drop, set, length-set, length-append, length-drop}
+use lib.ListN.{length, take, drop, set, length-append, length-drop}
 use lib.Seq.{take_at, drop_at, drop-drop, set_split, length-take-le}
 use Rattle.count.proofs.laws.Lists.{rest, to_end, set_front, drop-one}
 use Rattle.count.specs.Text.{Written, written, wrote, report, two_hex, hexes, four_digits, decimals}
 use Rattle.count.specs.Axes.{shown_axes, end_to_end}
 use Rattle.motion.specs.declared.Counters.{Counters}
 use Rattle.motion.specs.Axes.{on}
-use Rattle.board.specs.work.Work.{put_of}
+use Rattle.board.specs.declared.Saying.{Saying}
+use Rattle.board.specs.declared.Saying.TheVariants as saying
+use Rattle.board.specs.work.Work.{bytes_of, put_of}
+use Rattle.std.proofs.lemmas.List.{take-append-drop, drop-append-le}
 
 -- ---- a text where there is room for it
 
@@ -23,11 +26,12 @@ unfolding wrote
 wrote-long room t x h = rw (le-ltb (length x) room h)
 
 -- behind the first `at` bytes
-text-behind : (s ys t : List ℕ) (at room n : ℕ) → at + room ≤ length s → written n ys ≡ wrote room t (take (length s - at) (drop at s))
+text-behind : (s ys t : List ℕ) (at room n k : ℕ) → length s ≡ at + k → room ≤ k → written n ys ≡ wrote room t (take k (drop at s))
     → ys ≡ t ++ drop (length t) (drop at s)
-text-behind s ys t at room n h e =
-    let r : take (length s - at) (drop at s) ≡ drop at s = rest at s in
-    let l : length (drop at s) ≡ length s - at = length-drop at s in
+text-behind s ys t at room n k l h e =
+    let m : k ≡ length s - at = omega arith in
+    let r : take k (drop at s) ≡ drop at s = rw m (rest at s) in
+    let d : length (drop at s) ≡ length s - at = length-drop at s in
     let p : written n ys ≡ wrote room t (drop at s) = e ∙ ap (λ (x : List ℕ). wrote room t x) r in
     ap (λ (w : Written). w.text) (p ∙ wrote-long room t (drop at s) (omega arith))
 
@@ -46,19 +50,16 @@ length-four p = refl
 put_as : (t s : List ℕ) {x : List ℕ} (n : ℕ) → length t ≡ n → x ≡ t ++ drop n s → written n x ≡ put_of t s
 put_as t s n l e = ap (λ (y : List ℕ). written n y) e ∙ ap (λ (k : ℕ). written k (t ++ drop k s)) (sym l)
 
--- ---- one byte
-
-pub one-put : (s : List ℕ) (x : ℕ) → 32 ≤ length s → written 1 (set s 0 x) ≡ put_of (x ∷ []) s
-one-put s x h = ap (λ (l : List ℕ). written 1 l) (set_split s 0 x (omega arith))
-
 -- ---- 0 and a port's byte
 
-pub port-put : (s ys : List ℕ) (b n : ℕ) → 32 ≤ length s → written n ys ≡ wrote 2 (two_hex b) (take (length s - 1) (drop 1 s))
-    → written 3 (set (put_mid 1 (length s - 1) s ys) 0 48) ≡ put_of (48 ∷ two_hex b) s
+pub port-put : (s ys : List ℕ) (b n : ℕ) → length s ≡ 32 → written n ys ≡ wrote 2 (two_hex b) (take 31 (drop 1 s))
+    → written 3 (set (put_mid 1 31 s ys) 0 48) ≡ put_of (48 ∷ two_hex b) s
 port-put s ys b n h e =
     let l = length_two b in
-    let p : ys ≡ two_hex b ++ drop 2 (drop 1 s) = text-behind s ys (two_hex b) 1 2 n (omega arith) e ∙ rw l in
-    let q : set (put_mid 1 (length s - 1) s ys) 0 48 ≡ (48 ∷ two_hex b) ++ drop 3 s = set_front s ys 48 (omega arith) ∙ rw (p, drop-one 2 s) in
+    let m : length s - 1 ≡ 31 = omega arith in
+    let p : ys ≡ two_hex b ++ drop 2 (drop 1 s) = text-behind s ys (two_hex b) 1 2 n 31 h (omega arith) e ∙ rw l in
+    let f : set (put_mid 1 31 s ys) 0 48 ≡ 48 ∷ ys = rw m at (set_front s ys 48 (omega arith)) in
+    let q : set (put_mid 1 31 s ys) 0 48 ≡ (48 ∷ two_hex b) ++ drop 3 s = f ∙ rw (p, drop-one 2 s) in
     put_as (48 ∷ two_hex b) s 3 (ap suc l) q
 
 -- ---- G, a letter and a place
@@ -69,21 +70,25 @@ set-two [] ys x y h = absurd (omega arith)
 set-two (a ∷ []) ys x y h = absurd (omega arith)
 set-two (a ∷ b ∷ s) ys x y h = ap (λ (l : List ℕ). set (set l 0 x) 1 y) (to_end 2 (a ∷ b ∷ s) ys)
 
-pub fault-put : (s ys : List ℕ) (l p n : ℕ) → 32 ≤ length s → written n ys ≡ wrote 4 (four_digits p) (take (length s - 2) (drop 2 s))
-    → written 6 (set (set (put_mid 2 (length s - 2) s ys) 0 71) 1 l) ≡ put_of (71 ∷ l ∷ four_digits p) s
+pub fault-put : (s ys : List ℕ) (l p n : ℕ) → length s ≡ 32 → written n ys ≡ wrote 4 (four_digits p) (take 30 (drop 2 s))
+    → written 6 (set (set (put_mid 2 30 s ys) 0 71) 1 l) ≡ put_of (71 ∷ l ∷ four_digits p) s
 fault-put s ys l p n h e =
     let f = length-four p in
-    let t : ys ≡ four_digits p ++ drop 4 (drop 2 s) = text-behind s ys (four_digits p) 2 4 n (omega arith) e ∙ rw f in
-    let q : set (set (put_mid 2 (length s - 2) s ys) 0 71) 1 l ≡ (71 ∷ l ∷ four_digits p) ++ drop 6 s = set-two s ys 71 l (omega arith) ∙ rw (t, drop-drop 4 2 s) in
+    let m : length s - 2 ≡ 30 = omega arith in
+    let t : ys ≡ four_digits p ++ drop 4 (drop 2 s) = text-behind s ys (four_digits p) 2 4 n 30 h (omega arith) e ∙ rw f in
+    let g : set (set (put_mid 2 30 s ys) 0 71) 1 l ≡ 71 ∷ l ∷ ys = rw m at (set-two s ys 71 l (omega arith)) in
+    let q : set (set (put_mid 2 30 s ys) 0 71) 1 l ≡ (71 ∷ l ∷ four_digits p) ++ drop 6 s = g ∙ rw (t, drop-drop 4 2 s) in
     put_as (71 ∷ l ∷ four_digits p) s 6 (ap (λ (k : ℕ). suc (suc k)) f) q
 
 -- ---- 0 and the positions
 
-pub report-put : (s ys : List ℕ) (at c n : ℕ) → at + 6 ≤ length s → written n ys ≡ wrote 6 (report c) (take (length s - at) (drop at s))
-    → put_mid at (length s - at) s ys ≡ take at s ++ report c ++ drop (at + 6) s
-report-put s ys at c n h e =
-    let p : ys ≡ report c ++ drop 6 (drop at s) = text-behind s ys (report c) at 6 n h e ∙ rw (length-report c) in
-    to_end at s ys ∙ rw (p, drop-drop) (sym (append_assoc (take at s) (report c) (drop (at + 6) s)))
+pub report-put : (s ys : List ℕ) (at c n : ℕ) → length s ≡ 32 → at ≤ 26 → written n ys ≡ wrote 6 (report c) (take (32 - at) (drop at s))
+    → put_mid at (32 - at) s ys ≡ take at s ++ report c ++ drop (at + 6) s
+report-put s ys at c n l h e =
+    let m : length s - at ≡ 32 - at = omega arith in
+    let p : ys ≡ report c ++ drop 6 (drop at s) = text-behind s ys (report c) at 6 n (32 - at) (omega arith) (omega arith) e ∙ rw (length-report c) in
+    let t : put_mid at (32 - at) s ys ≡ take at s ++ ys = rw m at (to_end at s ys) in
+    t ∙ rw (p, drop-drop) (sym (append_assoc (take at s) (report c) (drop (at + 6) s)))
 
 -- six bytes more behind the first k
 more-put : (p s t u x : List ℕ) (k : ℕ) → length p ≡ k → t ≡ p ++ drop k s → u ≡ take k t ++ x ++ drop (k + 6) t → u ≡ (p ++ x) ++ drop (k + 6) s
@@ -93,7 +98,7 @@ more-put p s t u x k l e h =
     let q : drop (k + 6) t ≡ drop (k + 6) s = sym (drop-drop 6 k t) ∙ ap (λ (y : List ℕ). drop 6 y) d ∙ drop-drop 6 k s in
     h ∙ rw (a, q)
 
-pub positions-put : (s t u v : List ℕ) (x y z : ℕ) → 32 ≤ length s
+pub positions-put : (s t u v : List ℕ) (x y z : ℕ) → length s ≡ 32
     → t ≡ take 1 (set s 0 48) ++ report x ++ drop 7 (set s 0 48)
     → u ≡ take 7 t ++ report y ++ drop 13 t
     → v ≡ take 13 u ++ report z ++ drop 19 u
@@ -110,31 +115,6 @@ positions-put s t u v x y z h e f g =
     let c : v ≡ ((((48 ∷ []) ++ report x) ++ report y) ++ report z) ++ drop 19 s = more-put (((48 ∷ []) ++ report x) ++ report y) s u v (report z) 13 l13 b g in
     let m : length (48 ∷ report x ++ report y ++ report z) ≡ 19 = simp length-append (omega arith) in
     put_as (48 ∷ report x ++ report y ++ report z) s 19 m c
-
--- a part of six bytes keeps the length
-kept-long : (s t x : List ℕ) (k : ℕ) → k + 6 ≤ length s → length x ≡ 6 → t ≡ take k s ++ x ++ drop (k + 6) s → length t ≡ length s
-kept-long s t x k h l e =
-    let a : length (drop (k + 6) s) ≡ length s - (k + 6) = length-drop (k + 6) s in
-    let b : length (take k s) ≡ k = length-take-le k s (omega arith) in
-    let c : length (take k s ++ x ++ drop (k + 6) s) ≡ length (take k s) + length x + length (drop (k + 6) s) = simp length-append in
-    ap length e ∙ c ∙ omega arith
-
-module _ (s t u v : List ℕ) (x y z : ℕ) (h : 32 ≤ length s) (e : t ≡ take 1 (set s 0 48) ++ report x ++ drop 7 (set s 0 48)) where
-  pub kept-one : length t ≡ length s
-  kept-one =
-      let l : length (set s 0 48) ≡ length s = length-set s 0 48 in
-      kept-long (set s 0 48) t (report x) 1 (omega arith) (length-report x) e ∙ l
-
-  module _ (f : u ≡ take 7 t ++ report y ++ drop 13 t) where
-    pub kept-two : length u ≡ length s
-    kept-two =
-        let l : length t ≡ length s = kept-one in
-        kept-long t u (report y) 7 (omega arith) (length-report y) f ∙ l
-
-    pub kept-three : v ≡ take 13 u ++ report z ++ drop 19 u → length v ≡ length s
-    kept-three g =
-        let l : length u ≡ length s = kept-two in
-        kept-long u v (report z) 13 (omega arith) (length-report z) g ∙ l
 
 -- ---- the positions by the axis
 
@@ -169,3 +149,30 @@ shown-four s t u at axes n h e f =
     let m : length (48 ∷ x ++ y ++ z ++ report at.a) ≡ 25 = simp length-append (omega arith) in
     put_as (48 ∷ x ++ y ++ z ++ report at.a) s 25 m q ∙ ap (λ (k : List ℕ). put_of (48 ∷ k) s) (positions-four x y z (report at.a))
     ∙ ap (λ (b : Bool). put_of (48 ∷ end_to_end (λ i. report (on i at)) (shown_axes b)) s) (sym (eq-eqb axes 15 h))
+
+-- ---- at the front of what is lent
+
+text_short : (say : Saying) (axes : ℕ) (at : Counters) → length (bytes_of say axes at) ≤ 32
+text_short saying.Silent axes at = omega arith
+text_short (saying.One b) axes at = omega arith
+text_short saying.Positions axes at = shown (eqb axes 15)
+  where
+    shown : (b : Bool) → length (48 ∷ end_to_end (λ i. report (on i at)) (shown_axes b)) ≤ 32
+    shown true = simp (length-append, length-report) (omega arith)
+    shown false = simp (length-append, length-report) (omega arith)
+text_short (saying.Port v) axes at = omega (arith, length_two v)
+text_short (saying.Fault l p) axes at = omega (arith, length-four p)
+
+-- the first 32 bytes are written, and the others stay
+pub front-put : (s x y : List ℕ) (say : Saying) (axes : ℕ) (at : Counters) (n : ℕ) → 32 ≤ length s → x ≡ take 32 s
+    → written n y ≡ put_of (bytes_of say axes at) x
+    → written n (y ++ drop 32 s) ≡ put_of (bytes_of say axes at) s
+front-put s x y say axes at n h f e =
+    let t = bytes_of say axes at in
+    let l : length (take 32 s) ≡ 32 = length-take-le 32 s h in
+    let k : length t ≤ length (take 32 s) = omega (arith, text_short say axes at) in
+    let d : drop (length t) s ≡ drop (length t) (take 32 s) ++ drop 32 s =
+    ap (λ (z : List ℕ). drop (length t) z) (sym (take-append-drop 32 s)) ∙ drop-append-le (length t) (take 32 s) (drop 32 s) k in
+    let y' : y ≡ t ++ drop (length t) (take 32 s) = ap (λ (w : Written). w.text) e ∙ rw f in
+    let m : n ≡ length t = ap (λ (w : Written). w.len) e in
+    rw (m, y', d) (ap (λ (z : List ℕ). written (length t) z) (append_assoc t (drop (length t) (take 32 s)) (drop 32 s)))

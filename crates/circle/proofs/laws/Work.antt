@@ -14,7 +14,7 @@ use Rattle.count.specs.Pick.{pick}
 use Rattle.count.specs.Numbers.{full, in24, signed, word, within}
 use Rattle.count.specs.declared.Axis.{Axis}
 use Rattle.count.specs.Axes.{Each}
-use Rattle.count.proofs.laws.Axes.{each_at, each_of}
+use Rattle.count.proofs.laws.Axes.{each_of}
 use Rattle.count.specs.Ranges.{nth, in_arc, in_zero, in_way, in_start, in_speed, right_arc}
 use Rattle.count.proofs.laws.Laws.{signed_low, signed_high, within-up}
 use Rattle.count.proofs.laws.Truth.{and_left, and_right}
@@ -27,13 +27,12 @@ use Rattle.motion.specs.Phase.{sign_value}
 use Rattle.motion.proofs.laws.Passed.{in24-of}
 use Rattle.motion.specs.Pulse.{step_to}
 use Rattle.motion.specs.Sound.{counted, speed_right}
-use Rattle.circle.specs.declared.Plane.{Plane}
 use Rattle.circle.specs.declared.Circling.{Circling}
 use Rattle.circle.specs.declared.Pair.{Pair}
 use Rattle.circle.specs.declared.Ways.{Ways}
 use Rattle.circle.specs.declared.Arc.{Arc}
-use Rattle.circle.specs.Rule.{first_axis, second_axis, on_plane, rests, first_only, second_only, shifted, off, move_of}
-use Rattle.circle.specs.Arc.{arc_signs, counted_pair, beat_to, arc_beat, with_made}
+use Rattle.circle.specs.Rule.{on_plane, on_axes, measure, ways_at, rests, first_only, second_only, shifted, off, move_of}
+use Rattle.circle.specs.Arc.{zero, arc_signs, counted_pair, beat_to, arc_beat, with_made}
 use Rattle.circle.specs.Plan.{plane_set, start_of, first_ways, ways_fit, centre_of, has_room, arc_from, going_by, bend_of}
 use Rattle.circle.specs.Sound.{start_sound, point_sound, arc_under_way, arc_look}
 
@@ -62,10 +61,6 @@ module _ (value : ℕ) (centre at : Pair) (w : Ways) where
 
 -- ---- counts of 24 bits
 
--- where the axes of a plane stand
-pub plane-small : {p : Pair} (plane : Plane) (c : Counters) → p ≡ on_plane plane c → Each (λ i. on i c < full) → (p.first < full) × (p.second < full)
-plane-small plane c e h = rw e (each_at (λ (i : Axis). on i c < full) h (first_axis plane), each_at (λ (i : Axis). on i c < full) h (second_axis plane))
-
 pub counted-parts : (c : Counters) → counted c ≡ true → Each (λ i. on i c < full)
 counted-parts c h = each_of (λ (i : Axis). on i c < full) (in24-of c h).each
 
@@ -81,6 +76,12 @@ none : {A : Type 0} (b : Bool) {c : Bool} (x y : A) → c ≡ false → y ≡ pi
 none true x y h = rw h
 none false x y h = refl
 
+-- what the code shows, of the arc's own centre and start and of where the axes of its plane stand
+pub signs-are : (a : Arc) (at : Counters) {c s p : Pair} {w : Signs} → c ≡ a.centre → s ≡ a.start → p ≡ on_plane a.circling.plane at
+    → w ≡ on_axes a.circling.plane (move_of (measure zero s) c p (ways_at a.circling.direction c p)) → w ≡ arc_signs a at
+unfolding arc_signs
+signs-are a at e f g u = rw (u, e, f, g)
+
 module _ (a : Arc) (k : ℕ) (at : Counters) where
   same-signs : arc_signs (with_made a k) at ≡ arc_signs a at
   unfolding arc_signs
@@ -90,33 +91,21 @@ module _ (a : Arc) (k : ℕ) (at : Counters) where
   unfolding arc_beat
   beat-past h = rw (le-ltb k a.length h)
 
-  module _ {x y z : Bool} (p : x ≡ counted at) (q : y ≡ counted_pair a.centre) (r : z ≡ counted_pair a.start) where
-    all : counted at && counted_pair a.centre && counted_pair a.start ≡ x && y && z
-    all = rw (p, q, r)
+  pub beat-out : counted at && counted_pair a.centre && counted_pair a.start ≡ false → None ≡ arc_beat (with_made a k) at
+  unfolding arc_beat
+  beat-out h =
+      none (ltb k a.length) (beat_to (with_made a k) (arc_signs (with_made a k) at) (step_to at (arc_signs (with_made a k) at))) None h
 
-    pub beat-out : x && y && z ≡ false → None ≡ arc_beat (with_made a k) at
+  module _ (t : counted at && counted_pair a.centre && counted_pair a.start ≡ true) {s : Signs} {m : Option Counters} (l : k < a.length)
+      (u : s ≡ arc_signs a at) (v : m ≡ step_to at s) where
+    pub beat-none : m ≡ None → None ≡ arc_beat (with_made a k) at
     unfolding arc_beat
-    beat-out h =
-        none (ltb k a.length) (beat_to (with_made a k) (arc_signs (with_made a k) at) (step_to at (arc_signs (with_made a k) at))) None (all ∙ h)
+    beat-none w = rw (lt-ltb k a.length l, t, same-signs, ← u, ← v, w)
 
-    module _ (t : x && y && z ≡ true) where
-      pub beat-parts : Each (λ i. on i at < full) × (a.centre.first < full) × (a.centre.second < full)
-          × (a.start.first < full) × (a.start.second < full)
-      beat-parts =
-          let c = counted-parts at (sym p ∙ and_left x y (and_left (x && y) z t)) in
-          let d = pair_parts a.centre (sym q ∙ and_right x y (and_left (x && y) z t)) in
-          let e = pair_parts a.start (sym r ∙ and_right (x && y) z t) in
-          (c, d.0, d.1, e.0, e.1)
-
-      module _ {s : Signs} {m : Option Counters} (l : k < a.length) (u : s ≡ arc_signs a at) (v : m ≡ step_to at s) where
-        pub beat-none : m ≡ None → None ≡ arc_beat (with_made a k) at
-        unfolding arc_beat
-        beat-none w = rw (lt-ltb k a.length l, all, t, same-signs, ← u, ← v, w)
-
-        pub beat-to : {d : Counters} → m ≡ Some d
-            → Some (record { signs = s; speed = a.speed; at = d; mark = record { phase = 0; made = k + 1 } }) ≡ arc_beat (with_made a k) at
-        unfolding arc_beat
-        beat-to w = rw (lt-ltb k a.length l, all, t, same-signs, ← u, ← v, w)
+    pub beat-to : {d : Counters} → m ≡ Some d
+        → Some (record { signs = s; speed = a.speed; at = d; mark = record { phase = 0; made = k + 1 } }) ≡ arc_beat (with_made a k) at
+    unfolding arc_beat
+    beat-to w = rw (lt-ltb k a.length l, t, same-signs, ← u, ← v, w)
 
 -- ---- the start
 

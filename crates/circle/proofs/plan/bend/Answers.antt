@@ -13,13 +13,13 @@ pub start_of-start-requires : goal.start_of-start-requires
 start_of-start-requires c = sym c.right_arc.ensures ∙ c.if-not-right_arc.false
 
 pub returns-then-not-ways_fit : goal.returns-then-not-ways_fit
-returns-then-not-ways_fit c = let a = c.args in bend-unfit a.axes a.circling a.at a.words (sym c.plane_set.ensures ∙ c.if-not-plane_set.false) (sym c.right_arc.ensures ∙ c.if-not-right_arc.false) c.start_of-start.ensures.0 c.first_ways.ensures c.ways_fit.ensures c.if-not-ways_fit.true
+returns-then-not-ways_fit c = let a = c.args in bend-unfit a.axes a.circling a.at a.words (sym c.plane_set.ensures ∙ c.if-not-plane_set.false) (sym c.right_arc.ensures ∙ c.if-not-right_arc.false) c.start_of-start.ensures c.first_ways.ensures c.ways_fit.ensures c.if-not-ways_fit.true
 
 pub returns-then-not-is_speed : goal.returns-then-not-is_speed
-returns-then-not-is_speed c = let a = c.args in bend-slow a.axes a.circling a.at a.words (sym c.plane_set.ensures ∙ c.if-not-plane_set.false) (sym c.right_arc.ensures ∙ c.if-not-right_arc.false) c.start_of-start.ensures.0 c.first_ways.ensures c.ways_fit.ensures c.if-not-ways_fit.false (sym c.is_speed.ensures ∙ c.if-not-is_speed.true)
+returns-then-not-is_speed c = let a = c.args in bend-slow a.axes a.circling a.at a.words (sym c.plane_set.ensures ∙ c.if-not-plane_set.false) (sym c.right_arc.ensures ∙ c.if-not-right_arc.false) c.start_of-start.ensures c.first_ways.ensures c.ways_fit.ensures c.if-not-ways_fit.false (sym c.is_speed.ensures ∙ c.if-not-is_speed.true)
 
 pub bend_by-requires : goal.bend_by-requires
-bend_by-requires c = let s = c.start_of-start.ensures in (s.1, s.2, speed-small c.args.words (sym c.is_speed.ensures ∙ c.if-not-is_speed.false))
+bend_by-requires c = speed-small c.args.words (sym c.is_speed.ensures ∙ c.if-not-is_speed.false)
 
 pub returns : goal.returns
-returns c = let a = c.args in bend-on a.axes a.circling a.at a.words (sym c.plane_set.ensures ∙ c.if-not-plane_set.false) (sym c.right_arc.ensures ∙ c.if-not-right_arc.false) c.start_of-start.ensures.0 c.first_ways.ensures c.ways_fit.ensures c.if-not-ways_fit.false (sym c.is_speed.ensures ∙ c.if-not-is_speed.false) c.bend_by.ensures
+returns c = let a = c.args in bend-on a.axes a.circling a.at a.words (sym c.plane_set.ensures ∙ c.if-not-plane_set.false) (sym c.right_arc.ensures ∙ c.if-not-right_arc.false) c.start_of-start.ensures c.first_ways.ensures c.ways_fit.ensures c.if-not-ways_fit.false (sym c.is_speed.ensures ∙ c.if-not-is_speed.false) c.bend_by.ensures

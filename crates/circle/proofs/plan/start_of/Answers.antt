@@ -9,4 +9,4 @@ pub start_count-second-requires : goal.start_count-second-requires
 start_count-second-requires c = (arc-starts c.args.words c.requires).1
 
 pub returns : goal.returns
-returns c = (rw (c.start_count-second.ensures.0, c.start_count-first.ensures.0), c.start_count-first.ensures.1, c.start_count-second.ensures.1)
+returns c = rw (c.start_count-second.ensures.0, c.start_count-first.ensures.0)

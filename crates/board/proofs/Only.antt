@@ -12,6 +12,7 @@ use Rattle.board.proofs.Board.receive.Reads as receive
 use Rattle.board.proofs.Board.take.Reads as take
 use Rattle.board.proofs.Board.clock.Reads as clock
 use Rattle.board.proofs.Board.list.Reads as list
+use Rattle.board.proofs.Received.len.Reads as received-len
 
 pub fresh-one : (κs : _) (a : _) (r r' : _) (s s' : _) → fresh.Post κs a r s → fresh.Post κs a r' s' → r ≡ r'
 fresh-one κs a r r' s s' p q = p ∙ sym q
@@ -60,3 +61,6 @@ list-text s = s.1.1.0
 
 pub list-one : (κs : _) (a : _) (r r' : _) (s s' : _) → list.Post κs a r s → list.Post κs a r' s' → (r ≡ r') × ((list-text s).now ≡ (list-text s').now)
 list-one κs a r r' s s' p q = told-one r r' (list-text s).now (list-text s').now (p ∙ sym q)
+
+pub received-len-one : (κs : _) (a : _) (r r' : _) (s s' : _) → received-len.Post κs a r s → received-len.Post κs a r' s' → r ≡ r'
+received-len-one κs a r r' s s' p q = p ∙ sym q

@@ -36,6 +36,9 @@ use Rattle.count.proofs.movement.right_count.Reads as right-count
 use Rattle.count.proofs.movement.right_distances.Reads as right-distances
 use Rattle.count.proofs.movement.right_speeds.Reads as right-speeds
 use Rattle.count.proofs.arcs.right_arc.Reads as right-arc
+use Rattle.count.proofs.chosen.Reads as chosen
+use Rattle.count.proofs.Fault.letter.Reads as letter
+use Rattle.count.proofs.Refusal.number.Reads as refusal-number
 
 pub in-range-one : (κs : _) (a : _) (r r' : _) (s s' : _) → in-range.Post κs a r s → in-range.Post κs a r' s' → r ≡ r'
 in-range-one κs a r r' s s' p q = p ∙ sym q
@@ -158,3 +161,13 @@ right-speeds-one κs a r r' s s' p q = p ∙ sym q
 
 pub right-arc-one : (κs : _) (a : _) (r r' : _) (s s' : _) → right-arc.Post κs a r s → right-arc.Post κs a r' s' → r ≡ r'
 right-arc-one κs a r r' s s' p q = p ∙ sym q
+
+-- of a value of any type: `g` to `w` are what the bound on the type brings
+pub chosen-one : (g : _) (x : _) (y : _) (z : _) (w : _) (κs : _) (a : _) (r r' : _) (s s' : _) → chosen.Post g x y z w κs a r s → chosen.Post g x y z w κs a r' s' → r ≡ r'
+chosen-one g x y z w κs a r r' s s' p q = p ∙ sym q
+
+pub letter-one : (κs : _) (a : _) (r r' : _) (s s' : _) → letter.Post κs a r s → letter.Post κs a r' s' → r ≡ r'
+letter-one κs a r r' s s' p q = p ∙ sym q
+
+pub refusal-number-one : (κs : _) (a : _) (r r' : _) (s s' : _) → refusal-number.Post κs a r s → refusal-number.Post κs a r' s' → r ≡ r'
+refusal-number-one κs a r r' s s' p q = p ∙ sym q

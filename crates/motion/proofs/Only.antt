@@ -13,6 +13,9 @@ use Rattle.motion.proofs.Move.at_mark.Reads as at_mark
 use Rattle.motion.proofs.Move.left.Reads as left
 use Rattle.motion.proofs.Move.sound.Reads as sound
 use Rattle.motion.proofs.Move.resting.Reads as resting
+use Rattle.motion.proofs.Sign.value.Reads as sign-value
+use Rattle.motion.proofs.Sign.character.Reads as sign-character
+use Rattle.motion.proofs.sound.speed_right.Reads as speed-right
 
 pub plan-one : (κs : _) (a : _) (r r' : _) (s s' : _) → plan.Post κs a r s → plan.Post κs a r' s' → r ≡ r'
 plan-one κs a r r' s s' p q = p ∙ sym q
@@ -49,3 +52,12 @@ at-mark-one κs a r r' s s' p q = p ∙ sym q
 
 pub counted-at-one : (κs : _) (a : _) (r r' : _) (s s' : _) → counted-at.Post κs a r s → counted-at.Post κs a r' s' → r ≡ r'
 counted-at-one κs a r r' s s' p q = p ∙ sym q
+
+pub sign-value-one : (κs : _) (a : _) (r r' : _) (s s' : _) → sign-value.Post κs a r s → sign-value.Post κs a r' s' → r ≡ r'
+sign-value-one κs a r r' s s' p q = p ∙ sym q
+
+pub sign-character-one : (κs : _) (a : _) (r r' : _) (s s' : _) → sign-character.Post κs a r s → sign-character.Post κs a r' s' → r ≡ r'
+sign-character-one κs a r r' s s' p q = p ∙ sym q
+
+pub speed-right-one : (κs : _) (a : _) (r r' : _) (s s' : _) → speed-right.Post κs a r s → speed-right.Post κs a r' s' → r ≡ r'
+speed-right-one κs a r r' s s' p q = p ∙ sym q

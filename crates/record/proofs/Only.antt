@@ -14,6 +14,8 @@ use Rattle.record.proofs.table.fill.Reads as fill
 use Rattle.record.proofs.places.readable.Reads as readable
 use Rattle.record.proofs.keep.store_record.Reads as store-record
 use Rattle.record.proofs.listing.list.Reads as list
+use Rattle.record.proofs.Held.end.Reads as held-end
+use Rattle.record.proofs.Record.len.Reads as record-len
 
 kept-one : (h : Held) (r r' : Option Held) → kept h r ≡ kept h r' → r ≡ r'
 kept-one h (Some x) (Some y) e = ap (λ (l : Held). Some l) (ap (λ (k : Kept). k.held) e)
@@ -62,3 +64,9 @@ list-text s = s.1.1.0
 
 pub list-one : (κs : _) (a : _) (r r' : _) (s s' : _) → list.Post κs a r s → list.Post κs a r' s' → (r ≡ r') × ((list-text s).now ≡ (list-text s').now)
 list-one κs a r r' s s' p q = told-one r r' (list-text s).now (list-text s').now (p ∙ sym q)
+
+pub held-end-one : (κs : _) (a : _) (r r' : _) (s s' : _) → held-end.Post κs a r s → held-end.Post κs a r' s' → r ≡ r'
+held-end-one κs a r r' s s' p q = p ∙ sym q
+
+pub record-len-one : (κs : _) (a : _) (r r' : _) (s s' : _) → record-len.Post κs a r s → record-len.Post κs a r' s' → r ≡ r'
+record-len-one κs a r r' s s' p q = p ∙ sym q

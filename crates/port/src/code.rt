@@ -292,11 +292,12 @@ impl State {
     pub(crate) fn open(self) -> Board
         ensures { result ≡ board_of self }
     {
+        let bytes = self.line;
         Board {
             engine: self.engine(),
             standing: self.standing == 1,
             line: Line {
-                bytes: self.line,
+                bytes,
                 len: self.len,
                 over: self.over == 1,
             },
@@ -334,8 +335,9 @@ impl State {
     pub(crate) fn with_board(self, b: Board) -> State
         ensures { result ≡ over self b }
     {
+        let line = b.line.bytes;
         State {
-            line: b.line.bytes,
+            line,
             len: b.line.len,
             over: as_flag(b.line.over),
             standing: as_flag(b.standing),

@@ -1,12 +1,19 @@
 // The pulses of an arc.
 ghost use Rattle.std.specs.Prelude.{◌≡◌};
 ghost use Rattle.circle.specs.Rule.{on_axes, measure, ways_at, move_of};
-ghost use Rattle.circle.specs.Arc.{zero, arc_beat, with_made, arc_left};
+ghost use Rattle.circle.specs.Arc.{zero, counted_pair, arc_beat, with_made, arc_left};
 
 use super::counted::Counted;
 use super::rule::{measured, move_by, on_axes, ways_of};
 use super::{Arc, Circling, Pair};
 use motion::{Beat, Counters, Mark, Signs};
+
+// Whether the counts of a point are of 24 bits.
+fn is_counted(p: Pair) -> bool
+    ensures { result ≡ counted_pair p }
+{
+    count::in_range(p.first) & count::in_range(p.second)
+}
 
 // The centre of what is counted from it.
 pub(crate) fn at_centre() -> Pair
@@ -43,17 +50,14 @@ impl Arc {
         if self.length <= made {
             return None;
         }
-        if !motion::counted_at(at) {
+        // One test of all: with an `Option` of each point a pulse takes longer.
+        if !(motion::counted_at(at) & is_counted(self.centre) & is_counted(self.start)) {
             return None;
         }
-        let centre = Counted::new(self.centre)?;
-        let start = Counted::new(self.start)?;
-        let signs = signs(
-            self.circling,
-            centre,
-            start,
-            Counted::on_plane(self.circling.plane, at),
-        );
+        let centre = Counted::of(self.centre);
+        let start = Counted::of(self.start);
+        let p = Counted::on_plane(self.circling.plane, at);
+        let signs = signs(self.circling, centre, start, p);
         let there = motion::step_to(at, signs)?;
         Some(Beat {
             signs,

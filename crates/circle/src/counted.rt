@@ -1,9 +1,8 @@
 // A point of a plane whose counts lie within 24 bits.
-ghost use Rattle.std.specs.Prelude.{◌≡◌, ◌<◌, true, false, MatchOption};
+ghost use Rattle.std.specs.Prelude.{◌≡◌, ◌<◌};
 ghost use Rattle.count.specs.Axes.{Each};
 ghost use Rattle.motion.specs.Axes.{on};
 ghost use Rattle.circle.specs.Rule.{on_plane};
-ghost use Rattle.circle.specs.Arc.{counted_pair};
 
 use super::rule::on_plane;
 use super::{Pair, Plane};
@@ -16,14 +15,17 @@ pub(crate) struct Counted {
 }
 
 impl Counted {
-    // The point, or that a count lies beyond 24 bits.
-    pub(crate) fn new(pair: Pair) -> Option<Counted>
-        ensures { MatchOption result (counted_pair pair ≡ false) (λ c. (c.pair ≡ pair) × (counted_pair pair ≡ true)) }
+    // Made count by count: where the pair is copied whole, the compiler takes it apart again, and a pulse takes longer.
+    pub(crate) fn of(p: Pair) -> Counted
+        requires { (p.first < 16777216) × (p.second < 16777216) }
+        ensures { result.pair ≡ p }
     {
-        if count::in_range(pair.first) & count::in_range(pair.second) {
-            return Some(Counted { pair });
+        Counted {
+            pair: Pair {
+                first: p.first,
+                second: p.second,
+            },
         }
-        None
     }
 
     // Where the axes of a plane stand.
@@ -31,8 +33,6 @@ impl Counted {
         requires { Each (λ i. on i at < 16777216) }
         ensures { result.pair ≡ on_plane plane at }
     {
-        Counted {
-            pair: on_plane(plane, at),
-        }
+        Counted::of(on_plane(plane, at))
     }
 }

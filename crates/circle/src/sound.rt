@@ -68,7 +68,7 @@ impl Arc {
         ensures { result ≡ has_room self.centre self.start && point_sound self.start self.centre (on_plane self.circling.plane at) }
     {
         let p = on_plane(self.circling.plane, at);
-        let start = Counted { pair: self.start };
+        let start = Counted::of(self.start);
         has_room(self.centre, start) & point_right(start, self.centre, p)
     }
 

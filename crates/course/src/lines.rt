@@ -21,11 +21,7 @@ pub(crate) fn put_head(out: &mut [u8]) -> usize
     requires { 64 ≤ length out.old }
     ensures { Wrote head_text out.old result out.new }
 {
-    out[0] = b'w';
-    out[1] = b'a';
-    out[2] = b'l';
-    out[3] = b'k';
-    out[4] = b'\n';
+    out[..5].copy_from_slice(b"walk\n");
     5
 }
 
@@ -34,15 +30,7 @@ pub(crate) fn put_limit(out: &mut [u8]) -> usize
     requires { 64 ≤ length out.old }
     ensures { Wrote limit_text out.old result out.new × (result ≡ 9) }
 {
-    out[0] = b'L';
-    out[1] = b' ';
-    out[2] = b'1';
-    out[3] = b'0';
-    out[4] = b'0';
-    out[5] = b'0';
-    out[6] = b'0';
-    out[7] = b'0';
-    out[8] = b'\n';
+    out[..9].copy_from_slice(b"L 100000\n");
     9
 }
 

@@ -54,33 +54,6 @@ fn put_speed(out: &mut [u8], v: u16) -> usize
     2
 }
 
-// `P`, the signs of x, y and z and a space: six bytes.
-fn put_signs(out: &mut [u8], x: u8, y: u8, z: u8)
-    requires { 13 ≤ length out.old }
-    ensures { out.new ≡ 80 ∷ 32 ∷ x ∷ y ∷ z ∷ 32 ∷ drop 6 out.old }
-{
-    out[0] = b'P';
-    out[1] = b' ';
-    out[2] = x;
-    out[3] = y;
-    out[4] = z;
-    out[5] = b' ';
-}
-
-// The same with that of A: seven bytes.
-fn put_all_signs(out: &mut [u8], x: u8, y: u8, z: u8, a: u8)
-    requires { 13 ≤ length out.old }
-    ensures { out.new ≡ 80 ∷ 32 ∷ x ∷ y ∷ z ∷ a ∷ 32 ∷ drop 7 out.old }
-{
-    out[0] = b'P';
-    out[1] = b' ';
-    out[2] = x;
-    out[3] = y;
-    out[4] = z;
-    out[5] = a;
-    out[6] = b' ';
-}
-
 // `P`, the signs, of A too where it is set, and the speed: at most thirteen bytes.
 pub(crate) fn put_pulse(out: &mut [u8], turns: bool, signs: Signs, speed: u16) -> usize
     requires { 13 ≤ length out.old }
@@ -91,25 +64,13 @@ pub(crate) fn put_pulse(out: &mut [u8], turns: bool, signs: Signs, speed: u16) -
     let z = signs.z.character();
     if turns {
         let a = signs.a.character();
-        put_all_signs(&mut *out, x, y, z, a);
+        out[..7].copy_from_slice(&[b'P', b' ', x, y, z, a, b' ']);
         let j = put_speed(&mut out[7..], speed);
         return 7 + j;
     }
-    put_signs(&mut *out, x, y, z);
+    out[..6].copy_from_slice(&[b'P', b' ', x, y, z, b' ']);
     let k = put_speed(&mut out[6..], speed);
     6 + k
-}
-
-// `R` and a sent character: four bytes.
-fn put_sent(out: &mut [u8], b: u8) -> usize
-    requires { 13 ≤ length out.old }
-    ensures { Wrote (82 ∷ 32 ∷ b ∷ 10 ∷ []) out.old result out.new × (result ≤ 13) }
-{
-    out[0] = b'R';
-    out[1] = b' ';
-    out[2] = b;
-    out[3] = b'\n';
-    4
 }
 
 // What a clock call's answer prints: at most thirteen bytes.
@@ -119,9 +80,10 @@ pub(crate) fn put_answer(out: &mut [u8], turns: bool, a: Answer) -> usize
 {
     match a {
         Answer::Pulse(signs, speed) => put_pulse(out, turns, signs, speed),
-        Answer::Pause => 0,
-        Answer::Send(b) => put_sent(out, b),
-        Answer::Done => 0,
-        Answer::Nothing => 0,
+        Answer::Send(b) => {
+            out[..4].copy_from_slice(&[b'R', b' ', b, b'\n']);
+            4
+        }
+        Answer::Pause | Answer::Done | Answer::Nothing => 0,
     }
 }

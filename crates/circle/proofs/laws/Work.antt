@@ -82,6 +82,11 @@ pub signs-are : (a : Arc) (at : Counters) {c s p : Pair} {w : Signs} → c ≡ a
 unfolding arc_signs
 signs-are a at e f g u = rw (u, e, f, g)
 
+-- the three tests of the code as one
+pub all-counted : (a : Arc) (at : Counters) {x y z b : Bool} → x ≡ counted at → y ≡ counted_pair a.centre → z ≡ counted_pair a.start
+    → x && y && z ≡ b → counted at && counted_pair a.centre && counted_pair a.start ≡ b
+all-counted a at p q r h = rw (← p, ← q, ← r) h
+
 module _ (a : Arc) (k : ℕ) (at : Counters) where
   same-signs : arc_signs (with_made a k) at ≡ arc_signs a at
   unfolding arc_signs

@@ -3,8 +3,8 @@ use Rattle.circle.proofs.laws.Work.{pair_parts}
 use Rattle.circle.proofs.laws.Arcs.{small-start}
 use Rattle.circle.proofs.Arc.placed.Goals as goal
 
-pub invariant_of-start : goal.invariant_of-start
-invariant_of-start c = record { in_range = pair_parts c.args.self.start (small-start c.args.self.start c.requires) }
+pub of-start-requires : goal.of-start-requires
+of-start-requires c = pair_parts c.args.self.start (small-start c.args.self.start c.requires)
 
 pub returns : goal.returns
-returns c = rw (c.point_right.ensures, c.has_room.ensures, c.on_plane-p.ensures)
+returns c = rw (c.point_right.ensures, c.has_room.ensures, c.of-start.ensures, c.on_plane-p.ensures)

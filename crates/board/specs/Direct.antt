@@ -14,7 +14,7 @@ use Rattle.line.specs.Letter.{Letter}
 use Rattle.line.specs.Letter as letter
 use Rattle.line.specs.Said.{Direct}
 use Rattle.engine.specs.declared.Engine.{Engine}
-use Rattle.engine.specs.declared.Begun.{Begun}
+use Rattle.engine.specs.State.{Begun}
 use Rattle.engine.specs.State.{with_three, with_plane, with_direction, with_output, axes_of, origin_of, zero_of, started, emptied, storing_of, begin_of, circle_begun}
 use Rattle.board.specs.declared.Board.{Board}
 use Rattle.count.specs.Chars.{ch}

@@ -1,12 +1,13 @@
 // The effects of a line outside storing whose letter and numbers are right, and its reply.
 ghost use Rattle.std.specs.Prelude.{◌≡◌, ◌%◌, get_or};
 ghost use Rattle.line.specs.Said.{letter_said, direct_found};
+ghost use Rattle.engine.specs.State.{begun_in};
 ghost use Rattle.board.specs.State.{board, no_line};
 ghost use Rattle.board.specs.work.Work.{spoke_of, replied_with, begun_with, started_by, affected, obeyed};
 
 use crate::{Board, Line, Saying, Spoke, letters};
 use count::Fault;
-use engine::{Begun, Engine};
+use engine::Engine;
 use line::{Direct, Letter};
 
 // The lowest byte of a word.
@@ -54,15 +55,16 @@ impl Board {
     }
 
     // A movement or circle that runs replies nothing yet; one that is refused or has no pulse replies at once.
-    fn begin(self, begun: Begun) -> Spoke
-        ensures { result ≡ begun_with self begun }
+    fn begin(self, begun: Result<Option<Engine>, Fault>) -> Spoke
+        ensures { result ≡ begun_with self (begun_in self.engine begun) }
     {
-        let engine = begun.engine;
-        let reply = begun.reply;
-        if reply == 0 {
-            return self.with_engine(engine).says(Saying::Silent);
+        match begun {
+            Ok(moving) => match moving {
+                Some(engine) => self.with_engine(engine).says(Saying::Silent),
+                None => self.replies(self.engine, b'0'),
+            },
+            Err(fault) => self.replies(self.engine, fault.letter()),
         }
-        self.replies(engine, reply)
     }
 
     // S: go on with what stands, else start the program; 8 and G.

@@ -9,6 +9,7 @@ use Rattle.engine.proofs.Engine.under_way.Reads as under-way
 use Rattle.engine.proofs.Engine.runs.Reads as runs
 use Rattle.engine.proofs.Engine.sound.Reads as sound
 use Rattle.engine.proofs.Engine.hear.Reads as hear
+use Rattle.engine.proofs.Answered.{begun-only}
 use Rattle.engine.proofs.Engine.begin.Reads as begin
 use Rattle.engine.proofs.Engine.begin_circle.Reads as begin-circle
 use Rattle.engine.proofs.Engine.start.Reads as start
@@ -42,10 +43,10 @@ pub hear-one : (κs : _) (a : _) (r r' : _) (s s' : _) → hear.Post κs a r s �
 hear-one κs a r r' s s' p q = p ∙ sym q
 
 pub begin-one : (κs : _) (a : _) (r r' : _) (s s' : _) → begin.Post κs a r s → begin.Post κs a r' s' → r ≡ r'
-begin-one κs a r r' s s' p q = p ∙ sym q
+begin-one κs a r r' s s' p q = begun-only _ r r' (p ∙ sym q)
 
 pub begin-circle-one : (κs : _) (a : _) (r r' : _) (s s' : _) → begin-circle.Post κs a r s → begin-circle.Post κs a r' s' → r ≡ r'
-begin-circle-one κs a r r' s s' p q = p ∙ sym q
+begin-circle-one κs a r r' s s' p q = begun-only _ r r' (p ∙ sym q)
 
 pub start-one : (κs : _) (a : _) (r r' : _) (s s' : _) → start.Post κs a r s → start.Post κs a r' s' → r ≡ r'
 start-one κs a r r' s s' p q = p ∙ sym q

@@ -2,7 +2,7 @@
 -- circles, §7 for the A axis).
 use Rattle.count.specs.declared.Fault.{Fault}
 use Rattle.count.specs.Refusals.{letter_of}
-use Rattle.std.specs.Prelude.{ℕ, ◌+◌, Bool, false, List, [], ◌∷◌, eqb, pos, Result, Ok, Err}
+use Rattle.std.specs.Prelude.{ℕ, ◌+◌, Bool, false, List, [], ◌∷◌, eqb, pos, Option, Some, None, Result, Ok, Err}
 use Rattle.count.specs.Chars.{ch}
 use Rattle.count.specs.Pick.{pick}
 use Rattle.count.specs.Paper.{Paper, says}
@@ -29,7 +29,6 @@ use Rattle.engine.specs.declared.Job.{Job}
 use Rattle.engine.specs.declared.Job.TheVariants as job
 use Rattle.engine.specs.declared.Run.{Run}
 use Rattle.engine.specs.declared.Engine.{Engine}
-use Rattle.engine.specs.declared.Begun.{Begun}
 use Rattle.engine.specs.Kinds.{kind, row_of}
 
 -- ---- the answer on paper: 1 a pulse with its signs and speed, 2 a pause, 3 a byte to send, 4 a record done, 5 nothing
@@ -163,6 +162,10 @@ heard b e = heard_by e.run.job b e
 
 -- ---- a direct movement or circle: the reply that refuses it; reply 0 if it has no pulse; else it runs and replies nothing yet
 
+pub record Begun : Type 0 where
+  pub engine : Engine
+  pub reply : ℕ
+
 abbrev pub begun : ℕ → Engine → Begun
 begun reply e = record { engine = e; reply = reply }
 
@@ -173,6 +176,12 @@ no_pulse m = eqb (left_of m) 0
 abbrev pub begun_by : Result Travel Fault → Engine → Begun
 begun_by (Ok m) e = pick (no_pulse m) (begun (ch "0") e) (begun 0 (with_job e (job.Direct m)))
 begun_by (Err f) e = begun (letter_of f) e
+
+-- as the code answers it: what refuses it; no engine, where there is no pulse to make; or the engine that moves
+abbrev pub begun_in : Engine → Result (Option Engine) Fault → Begun
+begun_in e (Ok (Some d)) = begun 0 d
+begun_in e (Ok None) = begun (ch "0") e
+begun_in e (Err f) = begun (letter_of f) e
 
 unfoldable pub begin_of : Bool → List ℕ → Engine → Begun
 begin_of absolute words e = begun_by (plan_of (asked e.axes e.three e.at e.origin absolute words)) e

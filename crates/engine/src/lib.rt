@@ -63,14 +63,6 @@ pub struct Told {
     pub answer: Answer,
 }
 
-// The engine after the line of a direct movement or circle, and its reply: what refuses it, 0 for one without a pulse, or none (0) for one
-// that runs.
-#[derive(Clone, Copy)]
-pub struct Begun {
-    pub engine: Engine,
-    pub reply: u8,
-}
-
 // What a clock call does, decided before it is done: nothing, since 103 refuses the state; nothing, since nothing runs; a pulse; a pause
 // with so many after it; the 0 after the last pulse; or the record at the place.
 #[derive(Clone, Copy)]

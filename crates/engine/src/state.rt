@@ -3,10 +3,10 @@ ghost use Rattle.std.specs.Prelude.{◌≡◌};
 ghost use Rattle.count.specs.Pick.{pick};
 ghost use Rattle.program.specs.Onward.{no_loops};
 ghost use Rattle.engine.specs.work.Glide.{glided};
-ghost use Rattle.engine.specs.State.{with_at, with_origin, with_three, with_output, with_held, with_run, running, with_job, zeroes, mixed, beside_a, turntable_of, axes_of, origin_of, zero_of, idle, ceased, started, nothing_held, emptied, fresh, storing_of, kept_by, reset_of, heard, begun, begun_by, begin_of, circle_begun};
+ghost use Rattle.engine.specs.State.{with_at, with_origin, with_three, with_output, with_held, with_run, running, with_job, zeroes, mixed, beside_a, turntable_of, axes_of, origin_of, zero_of, idle, ceased, started, nothing_held, emptied, fresh, storing_of, kept_by, reset_of, heard, begun, begun_by, begun_in, begin_of, circle_begun};
 
 use super::circles::circling_first;
-use super::{Begun, Engine, Job, Run};
+use super::{Engine, Job, Run};
 use count::{Axis, Fault};
 use motion::Counters;
 use program::{Loop, Loops};
@@ -248,42 +248,29 @@ impl Engine {
         self.with_job(Job::Ready)
     }
 
-    // A direct movement or circle as it is planned.
-    fn begin_by(self, plan: Result<Travel, Fault>) -> Begun
-        ensures { result ≡ begun_by plan self }
+    // A direct movement or circle as it is planned: the engine that moves, or none where there is no pulse to make.
+    fn begin_by(self, plan: Result<Travel, Fault>) -> Result<Option<Engine>, Fault>
+        ensures { begun_in self result ≡ begun_by plan self }
     {
-        match plan {
-            Ok(m) => {
-                if m.left() == 0 {
-                    return Begun {
-                        engine: self,
-                        reply: b'0',
-                    };
-                }
-                Begun {
-                    engine: self.with_job(Job::Direct(m)),
-                    reply: 0,
-                }
-            }
-            Err(b) => Begun {
-                engine: self,
-                reply: b.letter(),
-            },
+        let m = plan?;
+        if m.left() == 0 {
+            return Ok(None);
         }
+        Ok(Some(self.with_job(Job::Direct(m))))
     }
 
     // A direct movement's line.
     #[tactic(auto, unfolding(crate::specs::State::begin_of))]
-    pub fn begin(self, absolute: bool, words: [u32; 8]) -> Begun
-        ensures { result ≡ begin_of absolute words self }
+    pub fn begin(self, absolute: bool, words: [u32; 8]) -> Result<Option<Engine>, Fault>
+        ensures { begun_in self result ≡ begin_of absolute words self }
     {
         self.begin_by(travel::plan(self.axes, self.three, self.at, self.origin, absolute, words))
     }
 
     // A direct circle's line.
     #[tactic(auto, unfolding(crate::specs::State::circle_begun))]
-    pub fn begin_circle(self, words: [u32; 8]) -> Begun
-        ensures { result ≡ circle_begun words self }
+    pub fn begin_circle(self, words: [u32; 8]) -> Result<Option<Engine>, Fault>
+        ensures { begun_in self result ≡ circle_begun words self }
     {
         self.begin_by(travel::circle(self.axes, self.circling, self.at, words))
     }

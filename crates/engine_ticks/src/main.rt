@@ -3,7 +3,8 @@
 #![tactic(auto)]
 
 use circle::{Direction, Plane};
-use engine::{Answer, Begun, Engine, Run};
+use count::Fault;
+use engine::{Answer, Engine, Run};
 use program::Loops;
 use record::{Held, Record};
 use std::io;
@@ -82,9 +83,14 @@ fn words_of(w: [u32; 11]) -> [u32; 8] {
 }
 
 // A direct movement or circle: B and the reply.
-fn begun(rt: &impl Print, b: Begun) -> io::Result<Engine> {
-    println!(rt; "B {}", b.reply)?;
-    Ok(b.engine)
+fn begun(rt: &impl Print, e: Engine, begun: Result<Option<Engine>, Fault>) -> io::Result<Engine> {
+    let reply = match begun {
+        Ok(Some(_)) => 0,
+        Ok(None) => b'0',
+        Err(fault) => fault.letter(),
+    };
+    println!(rt; "B {reply}")?;
+    Ok(begun.unwrap_or(None).unwrap_or(e))
 }
 
 // The part in use as a host sets it.
@@ -151,7 +157,7 @@ fn act(
         4 => e.start(),
         5 => ticks(rt, e, store, table, w[1])?,
         6 => e.hear(byte_of(w[1])),
-        7 => begun(rt, e.begin(w[1] == 1, words_of(w)))?,
+        7 => begun(rt, e, e.begin(w[1] == 1, words_of(w)))?,
         8 => {
             set(store, w[1], byte_of(w[2]));
             e
@@ -170,7 +176,7 @@ fn act(
         }
         19 => e.set_plane(w[1]),
         20 => e.set_direction(w[1]),
-        21 => begun(rt, e.begin_circle(words_of(w)))?,
+        21 => begun(rt, e, e.begin_circle(words_of(w)))?,
         22 => e.set_axes(byte_of(w[1])),
         _ => {
             show_engine(rt, e)?;

@@ -31,7 +31,7 @@ use Rattle.line.specs.Said.{Direct}
 use Rattle.line.specs.Said.{Stored}
 use Rattle.line.specs.Lines.{direct_of, stored_of}
 use Rattle.engine.specs.declared.Engine.{Engine}
-use Rattle.engine.specs.declared.Begun.{Begun}
+use Rattle.engine.specs.State.{Begun}
 use Rattle.engine.specs.declared.Job.{Job}
 use Rattle.engine.specs.declared.Job.TheVariants as job
 use Rattle.circle.specs.Plan.{plane_of, direction_of}

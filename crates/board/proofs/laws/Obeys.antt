@@ -32,7 +32,7 @@ use Rattle.line.specs.Letter.{Letter}
 use Rattle.line.specs.Letter as letter
 use Rattle.line.specs.Said.{Direct}
 use Rattle.engine.specs.declared.Engine.{Engine}
-use Rattle.engine.specs.declared.Begun.{Begun}
+use Rattle.engine.specs.State.{Begun}
 use Rattle.engine.specs.State.{axes_of, origin_of, zero_of, with_output, started, begun_by, begin_of, circle_begun}
 use Rattle.engine.specs.Sound.{axes_known}
 use Rattle.board.specs.declared.Board.{Board}

@@ -16,7 +16,7 @@ use Rattle.line.specs.Letter.{Letter}
 use Rattle.line.specs.Letter as letter
 use Rattle.line.specs.Said.{Direct}
 use Rattle.engine.specs.declared.Engine.{Engine}
-use Rattle.engine.specs.declared.Begun.{Begun}
+use Rattle.engine.specs.State.{Begun}
 use Rattle.engine.specs.declared.Job.{Job}
 use Rattle.engine.specs.Kinds.{kind, row_of}
 use Rattle.circle.specs.Plan.{plane_of, direction_of}

@@ -21,7 +21,7 @@ use Rattle.travel.specs.Sound.{under_way}
 use Rattle.travel.proofs.laws.Plans.{plan-sound, circle-sound}
 use Rattle.record.specs.declared.Held.{Held}
 use Rattle.program.specs.Onward.{no_loops}
-use Rattle.engine.specs.declared.Begun.{Begun}
+use Rattle.engine.specs.State.{Begun}
 use Rattle.engine.specs.declared.Job.{Job}
 use Rattle.engine.specs.declared.Job.TheVariants as job
 use Rattle.engine.specs.declared.Engine.{Engine}

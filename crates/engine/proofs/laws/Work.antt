@@ -35,8 +35,7 @@ use Rattle.record.specs.declared.Held.{Held}
 use Rattle.record.specs.declared.Record.{Record}
 use Rattle.record.specs.Fault.{ranges_right, is_movement, is_absolute}
 use Rattle.record.specs.Bytes.{is_right}
-use Rattle.record.specs.declared.Found.{Found}
-use Rattle.record.specs.declared.Found.TheVariants.{Got, End, Wrong}
+use Rattle.record.specs.declared.Found.TheVariants.{Got, End}
 use Rattle.record.specs.Memory.{Memory}
 use Rattle.record.specs.Places.{record_at}
 use Rattle.record.specs.Table.{spot_of, record_from, fetch_of}

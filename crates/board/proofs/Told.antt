@@ -26,7 +26,7 @@ by-refusal (Ok x) (Err t) f p = absurd (number-some t (sym p))
 by-refusal (Err r) (Ok y) f p = absurd (number-some r p)
 by-refusal (Err r) (Err t) f p = ap (λ (u : Refusal). Err u) (number-one r t p)
 
-reply-one : (r s : Result ℕ Refusal) → len_in r ≡ len_in s → refused_by r ≡ refused_by s → r ≡ s
+pub reply-one : (r s : Result ℕ Refusal) → len_in r ≡ len_in s → refused_by r ≡ refused_by s → r ≡ s
 reply-one r s e = by-refusal r s (λ x y p q. rw (p, q) at e)
 
 answer-one : (r s : Result Answer Refusal) → answer_in r ≡ answer_in s → refused_by r ≡ refused_by s → r ≡ s

@@ -15,7 +15,7 @@ use Rattle.board.specs.Receive.{hearing}
 use Rattle.board.specs.Calls as calls
 use Rattle.board.specs.Calls.{lent, receiving, answered}
 use Rattle.board.proofs.laws.Laws.{hearing-sound, memory-right, reply-short, never-refused}
-use Rattle.course.specs.declared.Ran.{Ran}
+use Rattle.course.specs.Run.{Ran}
 use Rattle.course.specs.declared.Walk.{Walk}
 use Rattle.course.specs.Text.{reply_text}
 use Rattle.course.specs.Run.{runs_now, Course, no_calls, course, allowed, RunOutcome, did_run, ran, run_outcome}

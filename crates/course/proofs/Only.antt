@@ -3,6 +3,7 @@
 use mathlib.Core.Path.{◌≡◌, sym, ap, ◌∙◌}
 use Rattle.count.specs.Text.{Written}
 use Rattle.course.specs.Run.{RunOutcome}
+use Rattle.course.proofs.Runs.{ran-only}
 use Rattle.course.specs.Walk.{Done}
 use Rattle.course.proofs.runs.run.Reads as run
 use Rattle.course.proofs.Walk.new.Reads as new
@@ -11,13 +12,14 @@ use Rattle.course.proofs.Walk.next.Reads as next
 use Rattle.course.proofs.Walk.feed.Reads as feed
 use Rattle.course.proofs.Walk.go_on.Reads as go_on
 use Rattle.course.proofs.Walk.tail.Reads as tail
+use Rattle.course.proofs.Ran.len.Reads as ran-len
 
 -- the fifth parameter, `out: &mut [u8]`, as it is left
 abbrev run_out : {X A B C D E : Type 0} → A × (B × (C × (D × (X × E)))) → X
 run_out s = s.1.1.1.1.0
 
 pub run-one : (κs : _) (a : _) (r r' : _) (s s' : _) → run.Post κs a r s → run.Post κs a r' s' → (r ≡ r') × ((run_out s).now ≡ (run_out s').now)
-run-one κs a r r' s s' p q = (ap (λ (o : RunOutcome). o.result) (p ∙ sym q), ap (λ (o : RunOutcome). o.out) (p ∙ sym q))
+run-one κs a r r' s s' p q = (ran-only r r' (ap (λ (o : RunOutcome). o.result) (p ∙ sym q)), ap (λ (o : RunOutcome). o.out) (p ∙ sym q))
 
 pub new-one : (κs : _) (a : _) (r r' : _) (s s' : _) → new.Post κs a r s → new.Post κs a r' s' → r ≡ r'
 new-one κs a r r' s s' p q = p ∙ sym q
@@ -67,3 +69,6 @@ tail-out s = s.1.0
 
 pub tail-one : (κs : _) (a : _) (r r' : _) (s s' : _) → tail.Post κs a r s → tail.Post κs a r' s' → (r ≡ r') × ((tail-out s).now ≡ (tail-out s').now)
 tail-one κs a r r' s s' p q = (ap (λ (w : Written). w.len) (p ∙ sym q), ap (λ (w : Written). w.text) (p ∙ sym q))
+
+pub ran-len-one : (κs : _) (a : _) (r r' : _) (s s' : _) → ran-len.Post κs a r s → ran-len.Post κs a r' s' → r ≡ r'
+ran-len-one κs a r r' s s' p q = p ∙ sym q

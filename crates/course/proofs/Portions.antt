@@ -15,7 +15,7 @@ use Rattle.count.proofs.laws.Truth.{and_parts}
 use Rattle.record.specs.Memory.{Memory, RightMemory, store_fits, table_fits}
 use Rattle.board.specs.declared.Board.{Board}
 use Rattle.board.specs.State.{sound}
-use Rattle.course.specs.declared.Ran.{Ran}
+use Rattle.course.specs.Run.{Ran}
 use Rattle.course.specs.declared.Walk.{Walk}
 use Rattle.course.specs.Text.{limit_text, end_text}
 use Rattle.course.specs.Run.{course, allowed, RunOutcome, did_run, refused_run, ran, run_outcome}

@@ -6,7 +6,9 @@ use Rattle.engine.specs.Tick.{runs_of}
 use Rattle.board.specs.declared.Board.{Board}
 use Rattle.board.specs.State.{sound}
 use Rattle.board.specs.Calls.{clocking}
-use Rattle.course.specs.declared.Ran.{Ran}
+use Rattle.course.specs.declared.Ran.{Ran as RanBy}
+use Rattle.record.specs.Table.{refused as refused_by}
+use Rattle.board.specs.Calls.{len_in}
 use Rattle.course.specs.Text.{turning, answer_text}
 
 -- something runs and does not stand stopped
@@ -40,6 +42,18 @@ course (suc k) m b =
 
 unfoldable pub allowed : ℕ → List ℕ → ℕ
 allowed limit out = min limit (length out / 13)
+
+-- what a run comes to: the board after it, the clock calls used, whether the run is over, the bytes written, and the refusal's number or 0
+pub record Ran : Type 0 where
+  pub board : Board
+  pub calls : ℕ
+  pub over : Bool
+  pub len : ℕ
+  pub refusal : ℕ
+
+-- as the code answers it: what refuses a run stands in place of the bytes written
+abbrev pub ran_in : RanBy → Ran
+ran_in r = record { board = r.board; calls = r.calls; over = r.over; len = len_in r.written; refusal = refused_by r.written }
 
 -- the result and the buffer afterwards
 pub record RunOutcome : Type 0 where

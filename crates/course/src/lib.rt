@@ -9,19 +9,19 @@ mod text;
 mod walks;
 
 use board::Board;
+use count::Refusal;
 use engine::Engine;
 use motion::Counters;
 pub use runs::run;
 use travel::Travel;
 
-// What a run comes to: the board after it, the clock calls used, whether the run is over, the bytes written, and the refusal's number or 0.
+// What a run comes to: the board after it, the clock calls used, whether the run is over, and the bytes written, or what refuses it.
 #[derive(Clone, Copy)]
 pub struct Ran {
     pub board: Board,
     pub calls: u32,
     pub over: bool,
-    pub len: usize,
-    pub refusal: u16,
+    pub written: Result<usize, Refusal>,
 }
 
 // A walk between two portions: the board, the clock calls used for the last byte, and whether its run is over.

@@ -113,7 +113,7 @@ impl Walk {
             calls: ran.calls,
             over: ran.over,
         };
-        let len = end_of(n, ran.len, out.len());
+        let len = end_of(n, ran.len(), out.len());
         Portion { walk, len }
     }
 
@@ -160,7 +160,10 @@ impl Walk {
             calls: sum_of(calls, ran.calls),
             over: ran.over,
         };
-        Portion { walk, len: ran.len }
+        Portion {
+            walk,
+            len: ran.len(),
+        }
     }
 
     // The last lines: the limit if the run is not over, and the end; a buffer of fewer than 64 bytes stays as it is.

@@ -5,7 +5,7 @@ use Rattle.count.specs.Pick.{pick}
 use Rattle.count.specs.Numbers.{value}
 use Rattle.count.specs.Text.{shown}
 use Rattle.board.specs.declared.Board.{Board}
-use Rattle.course.specs.declared.Ran.{Ran}
+use Rattle.course.specs.Run.{Ran}
 use Rattle.course.specs.declared.Walk.{Walk}
 use Rattle.course.specs.declared.Portion.{Portion}
 use Rattle.course.specs.Run.{runs_now}

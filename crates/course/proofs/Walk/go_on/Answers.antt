@@ -32,5 +32,7 @@ returns c =
     let a = c.args in
     let m = memory a.store.now a.table.now in
     let r = c.run-ran in
-    ap (λ (n : ℕ). done_of (record { walk = walk r.result.board n r.result.over; len = r.result.len }) m r.new.out) c.sum_of.ensures
+    let l = c.len.ensures in
+    ap (λ (n : ℕ). done_of (record { walk = walk r.result.board n r.result.over; len = c.len.result }) m r.new.out) c.sum_of.ensures
+    ∙ ap (λ (k : ℕ). done_of (record { walk = walk r.result.board (a.self.calls + r.result.calls) r.result.over; len = k }) m r.new.out) l
     ∙ on-made a.self m a.out.now c.if-self.false (sym c.is_ready.ensures ∙ c.if-not-is_ready.false) (r.ensures ∙ ap (λ (n : ℕ). run_outcome n a.self.board m a.out.now) c.left_of.ensures)

@@ -121,7 +121,7 @@ end_of-len-requires c =
     let x = c.run-ran in
     let l : length f.new.out ≡ length a.out.now = f.auto.out ∙ mid-long 2 a.out.now q.new.reply (omega (arith, p.0)) q.auto.reply in
     let n : f.result ≤ length f.new.out = omega (arith, line-fits a.byte a.self m a.out.now o e q.ensures v, l, p.0) in
-    rw (mid-long f.result f.new.out x.new.out n x.auto.out) (omega (arith, run_fits a.byte a.self m a.out.now o e q.ensures v x.ensures x.auto.out, n))
+    rw (c.len-2.ensures, mid-long f.result f.new.out x.new.out n x.auto.out) (omega (arith, run_fits a.byte a.self m a.out.now o e q.ensures v x.ensures x.auto.out, n))
 
 pub shape_of-store : goal.shape_of-store
 shape_of-store c = c.receive-heard.auto.store
@@ -155,5 +155,5 @@ returns c =
     let p = ready-parts a.self m a.out.now e in
     let x = c.run-ran in
     let f = c.put_reply-n in
-    ap (λ (n : ℕ). done_of (record { walk = walk x.result.board x.result.calls x.result.over; len = n }) (memory q.new.store q.new.table) (put_mid f.result (length f.new.out - f.result) f.new.out x.new.out)) c.end_of-len.ensures
+    ap (λ (n : ℕ). done_of (record { walk = walk x.result.board x.result.calls x.result.over; len = n }) (memory q.new.store q.new.table) (put_mid f.result (length f.new.out - f.result) f.new.out x.new.out)) (rw c.len-2.ensures at c.end_of-len.ensures)
     ∙ next-made a.byte a.self m a.out.now o e q.ensures (rw c.len.ensures at c.put_reply-n.ensures) x.ensures

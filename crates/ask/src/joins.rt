@@ -33,19 +33,19 @@ fn ask(
     if fields.next().is_some() {
         return Err(Fault::Unread);
     }
-    let joined = join::join(first, &mut store, &mut table, second, &other);
-    if joined.refusal != 0 {
-        return Ok(show::refused(alloc, joined.refusal)?);
-    }
+    let joined = match join::join(first, &mut store, &mut table, second, &other) {
+        Ok(held) => held,
+        Err(refusal) => return Ok(format!(in alloc; "{refusal}")?),
+    };
     // The bytes in use, and the entries up to the last that is not 65,535.
-    store.truncate(usize::from(joined.held.used));
+    store.truncate(usize::from(joined.used));
     let n = table
         .iter()
         .rev()
         .skip_while(|entry| **entry == u16::MAX)
         .count();
     table.truncate(n);
-    Ok(show::joined(alloc, joined.held, &store, &table)?)
+    Ok(show::joined(alloc, joined, &store, &table)?)
 }
 
 // The answer to the question `join` with these fields.

@@ -11,16 +11,6 @@ pub(crate) fn chained(alloc: Global, steps: &[i32]) -> Result<String, AllocError
     Ok(text)
 }
 
-// The refusal of a join: its character, or the number of any other. By numbers, as `join::join` gives them.
-pub(crate) fn refused(alloc: Global, refusal: u16) -> Result<String, AllocError> {
-    match refusal {
-        51 => format!(in alloc; "3"),
-        71 => format!(in alloc; "G"),
-        54 => format!(in alloc; "6"),
-        _ => format!(in alloc; "{refusal}"),
-    }
-}
-
 // Two digits for each byte, or `-` for none.
 fn put_bytes(text: &mut String, bytes: &[u8]) -> Result<(), AllocError> {
     if bytes.is_empty() {

@@ -1,7 +1,7 @@
 -- No second outcome satisfies the contract of an exported function: of any two results that the contract itself allows for the same
 -- arguments, and of what each lent buffer then holds, each is the other. Assumes nothing.
 use mathlib.Core.Path.{◌≡◌, sym, ap, ◌∙◌}
-use Rattle.record.specs.Listing.{Telling}
+use Rattle.record.proofs.laws.Replies.{told-one}
 use Rattle.board.specs.Calls.{Outcome}
 use Rattle.board.proofs.Board.fresh.Reads as fresh
 use Rattle.board.proofs.Board.sound.Reads as sound
@@ -58,6 +58,4 @@ abbrev list-text : {X A B C : Type 0} → A × (B × (X × C)) → X
 list-text s = s.1.1.0
 
 pub list-one : (κs : _) (a : _) (r r' : _) (s s' : _) → list.Post κs a r s → list.Post κs a r' s' → (r ≡ r') × ((list-text s).now ≡ (list-text s').now)
-list-one κs a r r' s s' p q =
-    let e = p ∙ sym q in
-    (ap (λ (t : Telling). t.listed) e, ap (λ (t : Telling). t.text) e)
+list-one κs a r r' s s' p q = told-one r r' (list-text s).now (list-text s').now (p ∙ sym q)

@@ -1,15 +1,15 @@
 // The calls, with their refusals 101, 102, 103 and 104 in this order, and what a host reads of a board.
 ghost use Rattle.std.specs.Prelude.{◌≡◌};
 ghost use Rattle.record.specs.Memory.{memory};
-ghost use Rattle.record.specs.Listing.{telling};
+ghost use Rattle.record.specs.Listing.{told};
 ghost use Rattle.engine.specs.work.Acts.{is_wrong};
 ghost use Rattle.board.specs.State.{sound};
 ghost use Rattle.board.specs.Calls.{lent, did, receiving, clocked, clocking, listing, fresh, point};
 
 use crate::{Board, Ear, Line, Point, Received, Ticked};
+use count::Refusal;
 use engine::{Act, Answer, Engine};
 use motion::Counters;
-use record::Listed;
 
 // Counters as numbers.
 fn as_point(c: Counters) -> Point
@@ -21,12 +21,6 @@ fn as_point(c: Counters) -> Point
         z: count::number(c.z),
         a: count::number(c.a),
     }
-}
-
-fn unlisted(refusal: u16) -> Listed
-    ensures { result ≡ record { refusal = refusal; len = 0 } }
-{
-    Listed { refusal, len: 0 }
 }
 
 // Whether 103 refuses the engine.
@@ -154,14 +148,14 @@ impl Board {
     }
 
     // The listing of the store; refused with 106 for a short text buffer, then with G.
-    pub fn list(self, store: &[u8], text: &mut [u8]) -> Listed
-        ensures { telling result.refusal result.len text.new ≡ listing self store.now text.old }
+    pub fn list(self, store: &[u8], text: &mut [u8]) -> Result<u32, Refusal>
+        ensures { told result text.new ≡ listing self store.now text.old }
     {
         if store.len() != 16384 {
-            return unlisted(102);
+            return Err(Refusal::Store);
         }
         if !self.sound() {
-            return unlisted(103);
+            return Err(Refusal::State);
         }
         let e = self.engine;
         record::list(store, e.held, text)

@@ -5,6 +5,7 @@ ghost use Rattle.board.specs.State.{board, no_line};
 ghost use Rattle.board.specs.work.Work.{spoke_of, replied_with, begun_with, started_by, affected, obeyed};
 
 use crate::{Board, Line, Saying, Spoke, letters};
+use count::Fault;
 use engine::{Begun, Engine};
 use line::{Direct, Letter};
 
@@ -118,16 +119,12 @@ impl Board {
         ensures { result ≡ obeyed (direct_found d) ports self }
     {
         let e = self.engine;
-        match d {
-            None => self.replies(e, b'5'),
-            Some(d) => {
-                let fault = letters::line_fault(e.axes, self.standing, d);
-                if fault != b'0' {
-                    return self.replies(e, fault);
-                }
-                let words = d.words;
-                self.affect(d.letter, words, ports)
-            }
+        let Some(d) = d else {
+            return self.replies(e, Fault::Shape.letter());
+        };
+        match letters::line_fault(e.axes, self.standing, d) {
+            Ok(()) => self.affect(d.letter, d.words, ports),
+            Err(fault) => self.replies(e, fault.letter()),
         }
     }
 }

@@ -2,10 +2,12 @@
 #![tactic(auto, unfolding(crate::specs::work::Work::axes_fault, crate::specs::work::Work::input_fault, crate::specs::work::Work::output_fault))]
 
 ghost use Rattle.std.specs.Prelude.{◌≡◌, Some};
+ghost use Rattle.record.specs.Fault.{replied};
 ghost use Rattle.line.specs.Said.{letter_said, direct_found};
 ghost use Rattle.board.specs.Direct.{heard_standing, needs_axes};
 ghost use Rattle.board.specs.work.Work.{count_fault, seven_fault, axes_fault, input_fault, output_fault, numbers_fault, line_fault};
 
+use count::Fault;
 use line::{Direct, Letter};
 
 // P, b and S are heard while something stands stopped.
@@ -26,62 +28,68 @@ fn needs_axes(letter: Letter) -> bool
 }
 
 // A line without numbers: 7 if it has some.
-fn count_fault(count: usize) -> u8
-    ensures { result ≡ count_fault count }
+fn count_fault(count: usize) -> Result<(), Fault>
+    ensures { replied result ≡ count_fault count }
 {
-    if count == 0 { b'0' } else { b'7' }
+    if count == 0 {
+        return Ok(());
+    }
+    Err(Fault::Count)
 }
 
 // A circle: 7 unless it has seven numbers.
-fn seven_fault(count: usize) -> u8
-    ensures { result ≡ seven_fault count }
+fn seven_fault(count: usize) -> Result<(), Fault>
+    ensures { replied result ≡ seven_fault count }
 {
-    if count == 7 { b'0' } else { b'7' }
+    if count == 7 {
+        return Ok(());
+    }
+    Err(Fault::Count)
 }
 
 // Setting axes: 7, then 3.
-fn axes_fault(axes: u8, count: usize, w: u32) -> u8
-    ensures { result ≡ axes_fault axes count w }
+fn axes_fault(axes: u8, count: usize, w: u32) -> Result<(), Fault>
+    ensures { replied result ≡ axes_fault axes count w }
 {
     if count != 1 {
-        return b'7';
+        return Err(Fault::Count);
     }
     let few = (w == 1) | (w == 3) | (w == 7);
     if few | ((w == 8) & !((axes == 1) | (axes == 3))) {
-        return b'0';
+        return Ok(());
     }
-    b'3'
+    Err(Fault::Axes)
 }
 
 // An input port: 7, then 1.
-fn input_fault(count: usize, port: u32) -> u8
-    ensures { result ≡ input_fault count port }
+fn input_fault(count: usize, port: u32) -> Result<(), Fault>
+    ensures { replied result ≡ input_fault count port }
 {
     if count != 1 {
-        return b'7';
+        return Err(Fault::Count);
     }
     if count::is_port(port) {
-        return b'0';
+        return Ok(());
     }
-    b'1'
+    Err(Fault::Range)
 }
 
 // An output port and its value: 7, then 1.
-fn output_fault(count: usize, port: u32, value: u32) -> u8
-    ensures { result ≡ output_fault count port value }
+fn output_fault(count: usize, port: u32, value: u32) -> Result<(), Fault>
+    ensures { replied result ≡ output_fault count port value }
 {
     if count != 2 {
-        return b'7';
+        return Err(Fault::Count);
     }
     if count::is_zero(port) & count::is_byte(value) {
-        return b'0';
+        return Ok(());
     }
-    b'1'
+    Err(Fault::Range)
 }
 
-// 7, 3, 1 and D in this order, or 0; A and M are a record's `0` and `m`, n and N its `n`, z, e and f its own. A circle's plan asks the rest.
-fn numbers_fault(letter: Letter, axes: u8, count: usize, words: [u32; 8]) -> u8
-    ensures { result ≡ numbers_fault (letter_said letter) axes count words }
+// 7, 3, 1 and D in this order; A and M are a record's `0` and `m`, n and N its `n`, z, e and f its own. A circle's plan asks the rest.
+fn numbers_fault(letter: Letter, axes: u8, count: usize, words: [u32; 8]) -> Result<(), Fault>
+    ensures { replied result ≡ numbers_fault (letter_said letter) axes count words }
 {
     match letter {
         Letter::Axes => axes_fault(axes, count, words[0]),
@@ -98,17 +106,15 @@ fn numbers_fault(letter: Letter, axes: u8, count: usize, words: [u32; 8]) -> u8
     }
 }
 
-// The first fault of a line whose shape is right: W, 4, 7, 3, 1 and D in this order, or 0.
-pub(crate) fn line_fault(axes: u8, standing: bool, d: Direct) -> u8
-    ensures { result ≡ line_fault axes standing (direct_found (Some d)) }
+// The first fault of a line whose shape is right: W, 4, 7, 3, 1 and D in this order.
+pub(crate) fn line_fault(axes: u8, standing: bool, d: Direct) -> Result<(), Fault>
+    ensures { replied result ≡ line_fault axes standing (direct_found (Some d)) }
 {
-    let letter = d.letter;
-    let words = d.words;
-    if standing & !is_heard(letter) {
-        return b'W';
+    if standing & !is_heard(d.letter) {
+        return Err(Fault::Stands);
     }
-    if needs_axes(letter) & (axes == 0) {
-        return b'4';
+    if needs_axes(d.letter) & (axes == 0) {
+        return Err(Fault::NoAxes);
     }
-    numbers_fault(letter, axes, d.count, words)
+    numbers_fault(d.letter, axes, d.count, d.words)
 }

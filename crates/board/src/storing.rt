@@ -19,12 +19,10 @@ impl Board {
         ensures { spoke result (memory store.new table.new) ≡ kept_said item self (memory store.old table.old) }
     {
         let e = self.engine;
-        let held = e.held;
-        let kept = record::store_record(store, table, held, item);
-        if kept.stored {
-            return self.replies(e.set_held(kept.held), b'0');
+        match record::store_record(store, table, e.held, item) {
+            Some(held) => self.replies(e.set_held(held), b'0'),
+            None => self.replies(e, b'6'),
         }
-        self.replies(e, b'6')
     }
 
     fn record_line(self, code: u8, d: Stored, store: &mut [u8], table: &mut [u16]) -> Spoke
@@ -32,16 +30,13 @@ impl Board {
         ensures { spoke result (memory store.new table.new) ≡ record_said (record_of code (stored_found (Some d))) self (memory store.old table.old) }
     {
         let e = self.engine;
-        let held = e.held;
-        let count = d.count;
         let words = d.words;
-        let fault = record::record_fault(held.axes, code, count, words);
-        if fault != b'0' {
-            return self.replies(e, fault);
+        if let Err(fault) = record::record_fault(e.held.axes, code, d.count, words) {
+            return self.replies(e, fault.letter());
         }
         let item = Record {
             code,
-            count: count as u8,
+            count: d.count as u8,
             words,
         };
         self.keep(item, store, table)

@@ -8,6 +8,7 @@ mod script;
 mod show;
 
 use board::{Board, Received};
+use count::Refusal;
 use host::board_with;
 use record::Held;
 use script::Command;
@@ -48,7 +49,7 @@ impl Lent {
         board.receive(byte, ports, reply, &mut space[..n], &mut table[..k])
     }
 
-    fn fill(self, held: Held, space: &[u8], table: &mut [u16]) -> u16 {
+    fn fill(self, held: Held, space: &[u8], table: &mut [u16]) -> Result<(), Refusal> {
         let n = self.store.min(space.len());
         let k = self.table.min(table.len());
         record::fill(&space[..n], &mut table[..k], held)
@@ -124,16 +125,16 @@ impl Play {
         let mut text = vec![in alloc; 0; 32768]?;
         let listed = self.board.list(self.store(), &mut text);
         self.called(self.board);
-        text.truncate(listed.len as usize);
-        show_listing(rt, alloc, listed.refusal, &text)
+        text.truncate(listed.unwrap_or(0) as usize);
+        show_listing(rt, alloc, listed, &text)
     }
 
     // The table is filled from the store, for what the board says that it holds.
     fn fill(&mut self, rt: &impl Print) -> io::Result<()> {
         let held = self.board.engine.held;
-        let refusal = self.lent.fill(held, &self.space, &mut self.table);
+        let filled = self.lent.fill(held, &self.space, &mut self.table);
         self.called(self.board);
-        show_filled(rt, refusal)
+        show_filled(rt, filled)
     }
 
     // What a command does; says whether it could be done.

@@ -1,12 +1,10 @@
 // What is printed.
 use board::Board;
 use circle::{Direction, Plane};
+use count::Refusal;
 use engine::{Answer, Job};
 use std::alloc::Global;
 use std::io;
-
-// The refusal of a listing or a filling of a store that is not readable.
-const UNREADABLE: u16 = b'G' as u16;
 
 // A clock call: its refusal, or its answer.
 pub(crate) fn show_ticked(rt: &impl Print, refusal: u16, answer: Answer) -> io::Result<()> {
@@ -54,21 +52,20 @@ fn show_lines(rt: &impl Print, alloc: Global, text: &[u8]) -> io::Result<()> {
 pub(crate) fn show_listing(
     rt: &impl Print,
     alloc: Global,
-    refusal: u16,
+    listed: Result<u32, Refusal>,
     text: &[u8],
 ) -> io::Result<()> {
-    match refusal {
-        0 => show_lines(rt, alloc, text),
-        UNREADABLE => println!(rt; "L G"),
-        _ => println!(rt; "L {refusal}"),
+    match listed {
+        Ok(_) => show_lines(rt, alloc, text),
+        Err(refusal) => println!(rt; "L {refusal}"),
     }
 }
 
 // A filling of the table: its refusal, or 0.
-pub(crate) fn show_filled(rt: &impl Print, refusal: u16) -> io::Result<()> {
-    match refusal {
-        UNREADABLE => println!(rt; "F G"),
-        _ => println!(rt; "F {refusal}"),
+pub(crate) fn show_filled(rt: &impl Print, filled: Result<(), Refusal>) -> io::Result<()> {
+    match filled {
+        Ok(()) => println!(rt; "F 0"),
+        Err(refusal) => println!(rt; "F {refusal}"),
     }
 }
 

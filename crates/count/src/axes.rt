@@ -35,5 +35,5 @@ pub fn has(axes: u32, axis: Axis) -> bool
 pub fn axes_set(axes: u8) -> bool
     ensures { result ≡ axes_set axes }
 {
-    (axes == 1) | (axes == 3) | (axes == 7) | (axes == 8) | (axes == 15)
+    matches!(axes, 1 | 3 | 7 | 8 | 15)
 }

@@ -3,6 +3,7 @@ ghost use Rattle.std.specs.Prelude.{◌≡◌};
 ghost use Rattle.count.specs.Refusals.{letter_of, number_of};
 
 use super::{Fault, Refusal};
+use std::fmt;
 
 impl Fault {
     // The reply's character.
@@ -37,6 +38,16 @@ impl Refusal {
             Refusal::Table => 104,
             Refusal::Text => 106,
             Refusal::Program(fault) => u16::from(fault.letter()),
+        }
+    }
+}
+
+// A number, or the character of what is wrong with a program.
+impl fmt::Display for Refusal {
+    fn fmt<W: fmt::Write>(&self, f: &mut fmt::Formatter<W>) -> fmt::Result {
+        match *self {
+            Refusal::Program(fault) => write!(f, "{}", char::from(fault.letter())),
+            refusal => write!(f, "{}", refusal.number()),
         }
     }
 }

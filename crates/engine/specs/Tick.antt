@@ -15,8 +15,9 @@ use Rattle.travel.specs.Next.Next.{Made, Over}
 use Rattle.travel.specs.Plan.{plan_of, circle_of}
 use Rattle.record.specs.declared.Record.{Record}
 use Rattle.record.specs.Fault.{is_movement, is_absolute}
-use Rattle.record.specs.Bytes.{Fetch, made}
-use Rattle.record.specs.Bytes.Fetch.{Got, End, Wrong}
+use Rattle.record.specs.Bytes.{made}
+use Rattle.record.specs.declared.Found.{Found}
+use Rattle.record.specs.declared.Found.TheVariants.{Got, End, Wrong}
 use Rattle.program.specs.Going.{Going}
 use Rattle.program.specs.Going as going
 use Rattle.program.specs.Going.{Way}
@@ -35,7 +36,7 @@ abbrev pub Rule : Type 0
 Rule = Travel → Counters → Next
 
 abbrev pub Fetching : Type 0
-Fetching = ℕ → Fetch
+Fetching = ℕ → Found
 
 -- ---- the answer, and the only place where a clock call moves the counters: a pulse adds its signs
 
@@ -102,7 +103,7 @@ performed rule r e =
     (let o = onward_of r e.run.place e.held.records e.run.loops in leading o o.going (get_or r.words 0 0) e))))))))
 
 -- the record at the place; at the end place one call sends 0; what cannot be found and read ends with G
-abbrev pub fetched : Rule → Fetch → Engine → Told
+abbrev pub fetched : Rule → Found → Engine → Told
 fetched rule (Got r) e = performed rule r e
 fetched rule End e = finished (ch "0") e
 fetched rule Wrong e = failed e

@@ -95,9 +95,8 @@ impl Engine {
     fn ready(self, store: &[u8], table: &[u16]) -> Told
         ensures { result ≡ fetched next_of (fetch_of self.held (memory store.now table.now) self.run.place) self }
     {
-        let f = record::fetch(store, table, self.held, self.run.place);
-        match f.found {
-            Found::Right => self.perform(f.item),
+        match record::fetch(store, table, self.held, self.run.place) {
+            Found::Got(item) => self.perform(item),
             Found::End => self.finish(b'0'),
             Found::Wrong => self.fail(),
         }

@@ -123,9 +123,9 @@ fn keep(
         count: byte_of(w[2]),
         words: words_of(w),
     };
-    let k = record::store_record(store, table, e.held, item);
-    println!(rt; "K {}", u8::from(k.stored))?;
-    Ok(e.set_held(k.held))
+    let stored = record::store_record(store, table, e.held, item);
+    println!(rt; "K {}", u8::from(stored.is_some()))?;
+    Ok(e.set_held(stored.unwrap_or(e.held)))
 }
 
 // A byte of the store or an entry of the table as a host sets it.

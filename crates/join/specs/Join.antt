@@ -1,9 +1,11 @@
 -- A second program put behind a first (02, §4 and §6): its bytes behind the first's, nothing rewritten, since every offset counts from its
 -- own place, and every entry of the table written. Refused, in this order: 102, 104, 3, G, 6; the destination then stays as found.
-use Rattle.std.specs.Prelude.{ℕ, ◌+◌, Bool, not, ◌&&◌, ◌||◌, List, ◌++◌, leb, eqb, length, drop}
+use Rattle.std.specs.Prelude.{ℕ, ◌+◌, Bool, not, ◌&&◌, ◌||◌, List, ◌++◌, Result, Ok, Err, leb, eqb, length, drop}
 use Rattle.count.specs.Sizes.{store_bytes, most_records}
 use Rattle.count.specs.Chars.{ch}
 use Rattle.count.specs.Pick.{pick}
+use Rattle.count.specs.declared.Refusal.{Refusal}
+use Rattle.count.specs.Refusals.{number_of}
 use Rattle.record.specs.declared.Held.{Held}
 use Rattle.record.specs.Memory.{Memory, memory, table_fits}
 use Rattle.record.specs.Places.{in_use, records_of}
@@ -11,7 +13,6 @@ use Rattle.record.specs.Table.{filled}
 use Rattle.count.specs.Axes.{axes_set}
 use Rattle.program.specs.Program.{accepted}
 use Rattle.program.specs.Edges.{leads_out, starts_first, of_these}
-use Rattle.join.specs.declared.Joined.{Joined}
 
 -- ---- the axes
 
@@ -72,6 +73,11 @@ joined_memory a m b t = memory (end_to_end a m.store b t) (filled (both a b) (me
 
 -- ---- what joining comes to, and the destination afterwards
 
+-- the refusal, or 0; and the joined program, or with a refusal the first as it was
+pub record Joined : Type 0 where
+  pub refusal : ℕ
+  pub held : Held
+
 pub record Joining : Type 0 where
   pub joined : Joined
   pub memory : Memory
@@ -82,6 +88,11 @@ joining j m = record { joined = j; memory = m }
 -- a refusal gives the first program back
 abbrev pub answer : ℕ → Held → Joined
 answer refusal h = record { refusal = refusal; held = h }
+
+-- as it is answered
+abbrev pub outcome : Held → Result Held Refusal → Joined
+outcome a (Ok h) = answer 0 h
+outcome a (Err r) = answer (number_of r) a
 
 unfoldable pub join_of : Held → Memory → Held → List ℕ → Joining
 join_of a m b t =

@@ -1,14 +1,15 @@
 // A second program put behind a first, and the table filled: everything is tested before anything is written.
-ghost use Rattle.std.specs.Prelude.{◌≡◌, ◌+◌, ◌≤◌, length};
-ghost use Rattle.std.proofs.Math.Seq.{paste};
+ghost use Rattle.std.specs.Prelude.{◌≡◌};
 ghost use Rattle.record.specs.Memory.{memory};
-ghost use Rattle.join.specs.Join.{axes_beside, counted, axes_right, room_right, refusal_of, joining, join_of};
+ghost use Rattle.record.specs.Table.{refused};
+ghost use Rattle.join.specs.Join.{axes_beside, counted, axes_right, room_right, refusal_of, joining, outcome, join_of};
 
-use crate::Joined;
+use count::{Fault, Refusal};
 use program::accepts;
 use record::Held;
 
 // The axes that a program counts as of beside another: an empty one has the other's, where that one is not empty.
+#[tactic(auto, unfolding(crate::specs::Join::axes_beside))]
 fn axes_beside(held: Held, other: Held) -> u8
     ensures { result ≡ axes_beside held other }
 {
@@ -19,17 +20,18 @@ fn axes_beside(held: Held, other: Held) -> u8
 }
 
 // A program under the axes that it counts as of.
+#[tactic(auto, unfolding(crate::specs::Join::counted))]
 fn counted(held: Held, other: Held) -> Held
     ensures { result ≡ counted held other }
 {
     Held {
-        used: held.used,
-        records: held.records,
         axes: axes_beside(held, other),
+        ..held
     }
 }
 
 // 3: whether both are of the same axes, and of allowed ones.
+#[tactic(auto, unfolding(crate::specs::Join::axes_right))]
 fn axes_right(first: Held, second: Held) -> bool
     ensures { result ≡ axes_right first second }
 {
@@ -38,76 +40,68 @@ fn axes_right(first: Held, second: Held) -> bool
 }
 
 // 6: whether there is room for both.
+#[tactic(auto, unfolding(crate::specs::Join::room_right))]
 fn room_right(first: Held, second: Held) -> bool
     ensures { result ≡ room_right first second }
 {
-    let records = (first.records as u32) + (second.records as u32);
-    let used = (first.used as u32) + (second.used as u32);
+    let records = u32::from(first.records) + u32::from(second.records);
+    let used = u32::from(first.used) + u32::from(second.used);
     (records <= 1000) & (used <= 16384)
 }
 
-// The first refusal that applies, or 0. Each store is read once.
-fn refusal_of(first: Held, store: &[u8], table: &[u16], second: Held, other: &[u8]) -> u16
-    ensures { result ≡ refusal_of first (memory store.now table.now) second other.now }
+// The first refusal that applies. Each store is read once.
+fn refusal_of(
+    first: Held,
+    store: &[u8],
+    table: &[u16],
+    second: Held,
+    other: &[u8],
+) -> Result<(), Refusal>
+    ensures { refused result ≡ refusal_of first (memory store.now table.now) second other.now }
 {
     if (store.len() != 16384) | (other.len() != 16384) {
-        return 102;
+        return Err(Refusal::Store);
     }
     if table.len() != 1000 {
-        return 104;
+        return Err(Refusal::Table);
     }
     if !axes_right(first, second) {
-        return 51; // 3
+        return Err(Refusal::Program(Fault::Axes));
     }
     let Some(a) = accepts(store, counted(first, second)) else {
-        return 71; // G
+        return Err(Refusal::Program(Fault::Refused));
     };
     let Some(b) = accepts(other, counted(second, first)) else {
-        return 71;
+        return Err(Refusal::Program(Fault::Refused));
     };
     if a.out & b.first {
-        return 71;
+        return Err(Refusal::Program(Fault::Refused));
     }
     if !room_right(first, second) {
-        return 54; // 6
+        return Err(Refusal::Program(Fault::Full));
     }
-    0
+    Ok(())
 }
 
-// The first `n` bytes of another store at byte `at`.
-fn put_bytes(store: &mut [u8], at: usize, other: &[u8], n: usize)
-    requires { (at + n ≤ length store.old) × (n ≤ length other.now) }
-    ensures { store.new ≡ paste store.old at other.now n }
+// The second program put behind the first, whose store and table are the destination; or the refusal, and the first stays.
+pub fn join(
+    first: Held,
+    store: &mut [u8],
+    table: &mut [u16],
+    second: Held,
+    other: &[u8],
+) -> Result<Held, Refusal>
+    ensures { joining (outcome first result) (memory store.new table.new) ≡ join_of first (memory store.old table.old) second other.now }
 {
-    let mut i = 0;
-    while i < n {
-        let b = other[i];
-        store[at + i] = b;
-        i = i + 1;
-    }
-}
-
-// The second program put behind the first, whose store and table are the destination.
-pub fn join(first: Held, store: &mut [u8], table: &mut [u16], second: Held, other: &[u8]) -> Joined
-    ensures { joining result (memory store.new table.new) ≡ join_of first (memory store.old table.old) second other.now }
-{
-    let refusal = refusal_of(first, &store[..], &table[..], second, other);
-    if refusal != 0 {
-        return Joined {
-            refusal,
-            held: first,
-        };
-    }
-    let at = first.used as usize;
-    let n = second.used as usize;
-    put_bytes(&mut *store, at, other, n);
-    let used = (at + n) as u16;
-    let records = first.records + second.records;
+    refusal_of(first, store, table, second, other)?;
+    let at = usize::from(first.used);
+    let n = usize::from(second.used);
+    store[at..at + n].copy_from_slice(&other[..n]);
     let held = Held {
-        used,
-        records,
+        used: (at + n) as u16,
+        records: first.records + second.records,
         axes: axes_beside(first, second),
     };
-    let refusal = record::fill(&store[..], table, held);
-    Joined { refusal, held }
+    record::fill(store, table, held)?;
+    Ok(held)
 }

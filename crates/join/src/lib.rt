@@ -4,11 +4,3 @@
 mod joining;
 
 pub use joining::join;
-use record::Held;
-
-// The refusal, or 0; and the joined program, or with a refusal the first as it was.
-#[derive(Clone, Copy)]
-pub struct Joined {
-    pub refusal: u16,
-    pub held: Held,
-}

@@ -69,7 +69,7 @@ fn list(pace: Pace, store: &[u8], text: &mut [u8]) -> Pace {
     let listed = pace.board.list(store, text);
     Pace {
         calls: pace.calls.wrapping_add(1),
-        sum: pace.sum.wrapping_add(listed.len as u64),
+        sum: pace.sum.wrapping_add(listed.unwrap_or(0) as u64),
         ..pace
     }
 }

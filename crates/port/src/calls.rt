@@ -156,8 +156,10 @@ pub fn board_list(state: State, store: &[u8], text: &mut [u8]) -> Written
     if !state.is_known() {
         return written(state, 0, 103);
     }
-    let t = state.open().list(store, text);
-    written(state, t.len, t.refusal)
+    match state.open().list(store, text) {
+        Ok(len) => written(state, len, 0),
+        Err(refusal) => written(state, 0, refusal.number()),
+    }
 }
 
 // ---- what a host shows

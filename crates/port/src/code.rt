@@ -166,12 +166,8 @@ fn byte_over(job: Job, old: u8) -> u8
 {
     match job {
         Job::Wait(c, _) => c,
-        Job::Idle
-        | Job::Storing
-        | Job::Direct(_)
-        | Job::Ready
-        | Job::Moving(_)
-        | Job::Delay(_) => old,
+        Job::Idle | Job::Storing | Job::Direct(_) | Job::Ready | Job::Moving(_) | Job::Delay(_) =>
+            old,
     }
 }
 
@@ -296,11 +292,12 @@ impl State {
     pub(crate) fn open(self) -> Board
         ensures { result ≡ board_of self }
     {
+        let bytes = self.line;
         Board {
             engine: self.engine(),
             standing: self.standing == 1,
             line: Line {
-                bytes: self.line,
+                bytes,
                 len: self.len,
                 over: self.over == 1,
             },
@@ -338,8 +335,9 @@ impl State {
     pub(crate) fn with_board(self, b: Board) -> State
         ensures { result ≡ over self b }
     {
+        let line = b.line.bytes;
         State {
-            line: b.line.bytes,
+            line,
             len: b.line.len,
             over: as_flag(b.line.over),
             standing: as_flag(b.standing),

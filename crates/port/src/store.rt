@@ -19,7 +19,10 @@ pub fn board_fill(used: u16, records: u16, axes: u8, store: &[u8], table: &mut [
         records,
         axes,
     };
-    record::fill(store, table, part)
+    match record::fill(store, table, part) {
+        Ok(()) => 0,
+        Err(refusal) => refusal.number(),
+    }
 }
 
 // A second program put behind a first, whose part in use, store and table are the destination; or the refusal, and they stay.
@@ -46,12 +49,15 @@ pub fn board_join(
         records: more_records,
         axes: more_axes,
     };
-    let j = join::join(first, store, table, second, more);
-    let both = j.held;
-    *used = both.used;
-    *records = both.records;
-    *axes = both.axes;
-    j.refusal
+    match join::join(first, store, table, second, more) {
+        Ok(both) => {
+            *used = both.used;
+            *records = both.records;
+            *axes = both.axes;
+            0
+        }
+        Err(refusal) => refusal.number(),
+    }
 }
 
 // Distances in thousandths of a mm as relative distances in steps, for an axis of this lead, these steps per turn and this gear.

@@ -4,7 +4,6 @@ use mathlib.Core.Path.{◌≡◌, refl, sym, ◌∙◌, ap, subst, fun_ext}
 use mathlib.Core.Bool.{Bool, true, false}
 use mathlib.Core.List.{List, [], ◌∷◌, ◌++◌, append_assoc, append-nil}
 use native.Mathlib.Omega.{arith}
-use native.Mathlib.Numerals.{sub-one}
 use borrow.Author.Tests.{le-leb, lt-leb}
 use lib.Dec.{leb, eqb}
 use lib.ListN.{length, get_or, drop, set, replicate, length-append, length-drop}
@@ -15,9 +14,10 @@ use Rattle.count.proofs.laws.Words.{pad-put}
 use Rattle.count.specs.Words.{pad}
 use Rattle.record.specs.declared.Held.{Held}
 use Rattle.record.specs.declared.Record.{Record}
-use Rattle.record.specs.declared.Fetched.{Fetched}
-use Rattle.record.specs.Bytes.{Fetch, Got, End, Wrong, front, length_of, made, is_right}
-use Rattle.record.specs.Places.{in_use, record_at, answered, Records, are, none-are, onto, then, records_from, records_of}
+use Rattle.record.specs.Bytes.{front, length_of, made, is_right}
+use Rattle.record.specs.declared.Found.{Found}
+use Rattle.record.specs.declared.Found.TheVariants.{Got, End, Wrong}
+use Rattle.record.specs.Places.{in_use, record_at, Records, are, none-are, onto, then, records_from, records_of}
 use Rattle.record.proofs.laws.Walk.{front-stands}
 use Rattle.program.specs.Program.{record_in}
 use Rattle.program.specs.work.Aims.{Aim, goes, jumps, waits, loops, aim_of, is_loop, is_turn, offset_of, aim_at, loop_at, turn_at, far_at}
@@ -26,7 +26,7 @@ use Rattle.program.specs.work.Decode.{kind_of, kept, Arrays, noted, unread, mapp
 use Rattle.program.proofs.laws.Decode.{kept_same}
 use Rattle.program.proofs.laws.Accepting.{Rights, rights, records-count}
 
-abbrev pub found : Fetch → (Record → Arrays) → Arrays
+abbrev pub found : Found → (Record → Arrays) → Arrays
 found (Got r) f = f r
 found End f = unread
 found Wrong f = unread
@@ -132,7 +132,7 @@ module _ (h : Held) (s : List ℕ) where
       let d : suc (length u) ≡ length (in_use h s) - at = ap length (sym e) ∙ length-drop at (in_use h s) in
       rw (lt-leb (length (in_use h s)) at (omega arith))
 
-  same_next : (k at : ℕ) (l : List Record) (x : Fetch) → record_at h s at ≡ x → Same k
+  same_next : (k at : ℕ) (l : List Record) (x : Found) → record_at h s at ≡ x → Same k
       → found x (λ r. walk h s k (at + length_of r) (length l + 1) (set (kinds_of l) (length l) (kind r)) (set (offsets_of l) (length l) (kept r)))
       ≡ arrays_on (behind l (then x (λ r. records_from h.axes k (drop (length_of r) (drop at (in_use h s))))))
   unfolding record_at
@@ -207,33 +207,21 @@ module _ (h : Held) (s : List ℕ) (few : h.records ≤ 1000) (ks os : List ℕ)
 
 -- ---- one step of the walk, as the code takes it
 
-none-by : (x : Fetch) (f : Record → Arrays) → (answered x).len ≡ 0 → found x f ≡ unread
-none-by (Got r) f e = absurd (omega arith)
-none-by End f e = refl
-none-by Wrong f e = refl
-
-on-by : (x : Fetch) (f : Record → Arrays) → ((answered x).len ≡ 0 → ⊥) → (found x f ≡ f (answered x).item) × ((answered x).len ≡ length_of (answered x).item)
-on-by (Got r) f e = (refl, refl)
-on-by End f e = absurd (e refl)
-on-by Wrong f e = absurd (e refl)
+none-by : (x : Found) (f : Record → Arrays) → ((r : Record) → x ≡ Got r → ⊥) → found x f ≡ unread
+none-by (Got r) f n = absurd (n r refl)
+none-by End f n = refl
+none-by Wrong f n = refl
 
 module _ (h : Held) (s : List ℕ) (at i : ℕ) (ks os : List ℕ) where
   abbrev on : ℕ → Record → Arrays
   on k r = walk h s k (at + length_of r) (i + 1) (set ks i (kind_of (aim_of r))) (set os i (kept r))
 
-  next : {w : Arrays} (k : ℕ) → w ≡ walk h s k at i ks os → 0 < k → w ≡ found (record_at h s at) (on (k - 1))
-  next zero v l = absurd (omega arith)
-  next (suc k) v l = rw sub-one v
+  pub lost : {w : Arrays} {x : Found} → x ≡ record_at h s at → (k : ℕ) → w ≡ walk h s (suc k) at i ks os → ((r : Record) → x ≡ Got r → ⊥) → unread ≡ w
+  lost {x = x} e k v n = sym (v ∙ rw (← e) (none-by x (on k) n))
 
-  pub lost : {w : Arrays} {f : Fetched} → f ≡ answered (record_at h s at) → (k : ℕ) → w ≡ walk h s k at i ks os → 0 < k → f.len ≡ 0 → unread ≡ w
-  lost e k v l z = sym (next k v l ∙ none-by (record_at h s at) (on (k - 1)) (ap (λ (x : Fetched). x.len) (sym e) ∙ z))
-
-  pub gone-on : {w : Arrays} {f : Fetched} → f ≡ answered (record_at h s at) → (k : ℕ) {kind off : ℕ} → w ≡ walk h s k at i ks os → 0 < k → (f.len ≡ 0 → ⊥)
-      → kind ≡ kind_of (aim_of f.item) → off ≡ kept f.item → w ≡ walk h s (k - 1) (at + f.len) (i + 1) (set ks i kind) (set os i off)
-  gone-on {f = f} e k v l z p q =
-      let d = on-by (record_at h s at) (on (k - 1)) (λ y. z (ap (λ (x : Fetched). x.len) e ∙ y)) in
-      let g : f.len ≡ length_of f.item = ap (λ (x : Fetched). x.len) e ∙ d.1 ∙ ap (λ (x : Fetched). length_of x.item) (sym e) in
-      next k v l ∙ d.0 ∙ ap (λ (x : Fetched). on (k - 1) x.item) (sym e) ∙ rw (p, q, g)
+  pub gone-on : {w : Arrays} {r : Record} → Got r ≡ record_at h s at → (k : ℕ) {kind off : ℕ} → w ≡ walk h s (suc k) at i ks os
+      → kind ≡ kind_of (aim_of r) → off ≡ kept r → w ≡ walk h s k (at + length_of r) (i + 1) (set ks i kind) (set os i off)
+  gone-on e k v p q = v ∙ rw (← e, p, q)
 
 module _ (h : Held) (s : List ℕ) (at i : ℕ) (ks os : List ℕ) {w : Arrays} {e : ℕ} (p : e ≡ length (in_use h s)) where
   pub over : (k : ℕ) → w ≡ walk h s k at i ks os → k ≤ 0 → pick (leb e at) (noted ks os) unread ≡ w

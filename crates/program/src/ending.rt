@@ -1,5 +1,5 @@
 // The check at the end line, from the bytes of a store: each record is read once, into the arrays of the call.
-ghost use Rattle.std.specs.Prelude.{◌≡◌, ◌≤◌, length, take, replicate};
+ghost use Rattle.std.specs.Prelude.{◌≡◌, ◌≤◌, replicate};
 ghost use Rattle.count.specs.Pick.{pick};
 ghost use Rattle.record.specs.Places.{records_of};
 ghost use Rattle.program.specs.work.Aims.{aim_of};
@@ -10,14 +10,7 @@ ghost use Rattle.program.specs.work.Decode.{kind_of, clip, kept, noted, unread, 
 use crate::Flaw;
 use crate::arrays::Places;
 use crate::pass::check_places;
-use record::{Held, Record, record_at};
-
-// The length of the part in use, as far as it lies in the store.
-fn in_use(store: &[u8], used: u16) -> usize
-    ensures { result ≡ length (take used store.now) }
-{
-    usize::from(used).min(store.len())
-}
+use record::{Found, Held, Record, record_at};
 
 // A word's offset, counted from -32,768.
 #[tactic(auto, unfolding(crate::specs::work::Decode::clip))]
@@ -62,15 +55,14 @@ pub(crate) fn decode(store: &[u8], held: Held, kinds: &mut [u8], offsets: &mut [
 {
     let mut at = 0;
     for i in 0..usize::from(held.records) {
-        let f = record_at(store, held, at);
-        if f.len == 0 {
+        let Found::Got(item) = record_at(store, held, at) else {
             return false;
-        }
-        kinds[i] = kind_of(f.item);
-        offsets[i] = offset_of(f.item);
-        at += usize::from(f.len);
+        };
+        kinds[i] = kind_of(item);
+        offsets[i] = offset_of(item);
+        at += usize::from(item.len());
     }
-    in_use(store, held.used) <= at
+    held.end(store) <= at
 }
 
 // The check of a store's part in use.

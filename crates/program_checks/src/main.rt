@@ -3,7 +3,7 @@
 #![tactic(auto)]
 
 use program::{Flaw, Going, Loop, Loops};
-use record::Held;
+use record::{Found, Held};
 use std::alloc::Global;
 use std::io;
 use std::io::Read;
@@ -38,22 +38,20 @@ fn run(rt: &impl Print, store: &[u8], table: &[u16], held: Held) -> io::Result<(
     };
     let mut hears = false;
     for _ in 0..40 {
-        let fetched = record::fetch(store, table, held, place);
-        if fetched.len == 0 {
+        let Found::Got(item) = record::fetch(store, table, held, place) else {
             return print!(rt; " E");
-        }
+        };
         print!(rt; " {place}")?;
-        let way = program::onward(fetched.item, place, held.records, loops);
-        loops = way.loops;
+        let way = program::onward(item, place, held.records, loops);
         place = match way.going {
             Going::To(next) => next,
             Going::Waits { place, target } => {
-                let next = if hears { target } else { place };
                 hears = !hears;
-                next
+                if hears { place } else { target }
             }
             Going::Wrong => return print!(rt; " G"),
         };
+        loops = way.loops;
     }
     Ok(())
 }
@@ -64,7 +62,9 @@ fn walk(store: &[u8], held: Held) -> [u16; 1000] {
     let mut at: u16 = 0;
     for start in table.iter_mut() {
         *start = at;
-        at = at.wrapping_add(record::record_at(store, held, usize::from(at)).len);
+        if let Found::Got(item) = record::record_at(store, held, usize::from(at)) {
+            at = at.wrapping_add(item.len());
+        }
     }
     table
 }

@@ -4,7 +4,8 @@ use Rattle.std.specs.Prelude.{ℕ, ◌<◌, true, false, List, [], ◌∷◌, �
 use Rattle.count.specs.Chars.{ch}
 use Rattle.record.specs.declared.Held.{Held}
 use Rattle.record.specs.declared.Record.{Record}
-use Rattle.record.specs.Bytes.{Got, Below}
+use Rattle.record.specs.Bytes.{Below}
+use Rattle.record.specs.declared.Found.TheVariants.{Got}
 use Rattle.record.specs.Memory.{Memory, memory}
 use Rattle.record.specs.Places.{records_of}
 use Rattle.record.specs.Places.Records.{are}

@@ -1,3 +1,4 @@
+pub mod Replies
 pub mod Walk
 pub mod Below
 pub mod Right

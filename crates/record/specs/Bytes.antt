@@ -5,6 +5,8 @@ use Rattle.count.specs.Chars.{ch}
 use Rattle.count.specs.Pick.{pick}
 use Rattle.count.specs.Words.{pad}
 use Rattle.record.specs.declared.Record.{Record}
+use Rattle.record.specs.declared.Found.{Found}
+use Rattle.record.specs.declared.Found.TheVariants.{Got, Wrong}
 use Rattle.record.specs.Fault.{fault_of}
 
 -- ---- written
@@ -36,12 +38,6 @@ words_of (suc n) s = word_at s ∷ words_of n (drop 4 s)
 abbrev pub made : ℕ → List ℕ → Record
 made code l = record { code = code; count = length l; words = pad 8 l }
 
--- what is found at a place or a byte: a record, the end, or something wrong
-pub data Fetch : Type 0 where
-  Got : Record → Fetch
-  End : Fetch
-  Wrong : Fetch
-
 -- the bytes of a record
 abbrev pub length_of : Record → ℕ
 length_of r = 4 + 4 * r.count
@@ -50,11 +46,11 @@ length_of r = 4 + 4 * r.count
 abbrev pub is_right : ℕ → Record → Bool
 is_right axes r = eqb (fault_of axes r.code r.count r.words) (ch "0")
 
-abbrev pub if_right : ℕ → Record → Fetch
+abbrev pub if_right : ℕ → Record → Found
 if_right axes r = pick (is_right axes r) (Got r) Wrong
 
 -- the record at the front of s: right in mark, code, count, ranges and speeds, and whole
-unfoldable pub front : ℕ → List ℕ → Fetch
+unfoldable pub front : ℕ → List ℕ → Found
 front axes s =
     pick (ltb (length s) 4) Wrong
     (pick (eqb (get_or s 0 0) 0xD7 && eqb (get_or s 1 0) 0x2B)

@@ -1,11 +1,13 @@
 -- What a record's code asks of its numbers under given axes, and what is wrong with them: replies 5, 7, 3, 1 and D in this order (01,
 -- "Lines": the paragraph on storing, the table of replies, and the paragraph under it; 02, §3 for circles, §7 for the A axis). Order is by kind, not by place:
 -- all ranges before all speeds.
-use Rattle.std.specs.Prelude.{ℕ, List, Bool, true, false, not, ◌&&◌, ◌||◌, eqb, ℤ, pos}
+use Rattle.std.specs.Prelude.{ℕ, List, Bool, true, false, not, ◌&&◌, ◌||◌, eqb, ℤ, pos, Result, Ok, Err}
 use Rattle.count.specs.Chars.{ch}
 use Rattle.count.specs.Pick.{pick}
 use Rattle.count.specs.Numbers.{within}
 use Rattle.count.specs.declared.Axis.TheVariants.{X, A}
+use Rattle.count.specs.declared.Fault.{Fault}
+use Rattle.count.specs.Refusals.{letter_of}
 use Rattle.count.specs.Axes.{part, has}
 use Rattle.count.specs.Ranges.{in_offset, in_back, in_loop, in_delay, in_character, in_switch, in_zero, in_speed, in_plane, in_direction, nth, right_count, right_distances, right_speeds, right_arc}
 
@@ -134,6 +136,11 @@ numbers_reply count values ranges speeds other =
     (pick (not values) (ch "3")
     (pick (not ranges) (ch "1")
     (pick (not speeds) (ch "D") other)))
+
+-- as it is answered: what is wrong, by its character; 0 where nothing is
+abbrev pub replied : {A : Type 0} → Result A Fault → ℕ
+replied (Ok x) = ch "0"
+replied (Err f) = letter_of f
 
 -- a code that is none has the wrong shape, 5; 0 where the record is right
 unfoldable pub fault_of : ℕ → ℕ → ℕ → List ℕ → ℕ

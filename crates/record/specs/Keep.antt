@@ -1,13 +1,22 @@
 -- Storing a record (01, "Lines", reply 6; "Calls", the paragraph under the table; 02 §6): it is written at the end of the part in use, its
 -- start into its entry of the table, and nothing else changes; reply 6 if it would exceed 1,000 records or 16,384 bytes.
-use Rattle.std.specs.Prelude.{ℕ, ◌+◌, ◌++◌, Bool, true, false, ◌&&◌, length, take, drop, set, leb}
+use Rattle.std.specs.Prelude.{ℕ, ◌+◌, ◌++◌, Bool, true, false, ◌&&◌, Option, Some, None, length, take, drop, set, leb}
 use Rattle.count.specs.Sizes.{store_bytes, most_records}
 use Rattle.count.specs.Pick.{pick}
 use Rattle.record.specs.declared.Held.{Held}
 use Rattle.record.specs.declared.Record.{Record}
-use Rattle.record.specs.declared.Kept.{Kept}
 use Rattle.record.specs.Memory.{Memory, memory}
 use Rattle.record.specs.Bytes.{encode}
+
+-- whether it was stored, and the part in use afterwards
+pub record Kept : Type 0 where
+  pub stored : Bool
+  pub held : Held
+
+-- as it is answered: a part in use that is longer, or none where there was no room
+abbrev pub kept : Held → Option Held → Kept
+kept h (Some l) = record { stored = true; held = l }
+kept h None = record { stored = false; held = h }
 
 -- what storing comes to, and the memory afterwards
 pub record Storing : Type 0 where

@@ -1,3 +1,2 @@
 pub mod Work
-pub mod Put
 pub mod Writing

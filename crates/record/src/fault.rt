@@ -1,74 +1,67 @@
 // What is wrong with a record's code and numbers under given axes; all ranges are tested before all speeds.
 ghost use Rattle.std.specs.Prelude.{◌≡◌, true, pos};
 ghost use Rattle.count.specs.Numbers.{within, signed};
-ghost use Rattle.record.specs.Fault.{is_movement, is_code, count_right, named_by, axes_right, loop_right, ranges_right, speeds_right, fault_of};
+ghost use Rattle.record.specs.Fault.{is_movement, is_code, count_right, named_by, axes_right, loop_right, ranges_right, speeds_right, replied, fault_of};
 
-use count::Axis;
+use count::{Axis, Fault};
 
 fn is_movement(code: u8) -> bool
     ensures { result ≡ is_movement code }
 {
-    (code == b'0') | (code == b'm')
+    matches!(code, b'0' | b'm')
 }
 
+#[tactic(auto, using(crate::proofs::laws::Rows::rows))]
 fn is_code(code: u8) -> bool
     ensures { result ≡ is_code code }
 {
-    is_movement(code)
-        | ((code == b'n')
-            | (code == b'z')
-            | (code == b'3')
-            | (code == b'5')
-            | (code == b'1')
-            | (code == b'2')
-            | (code == b'e')
-            | (code == b'f')
-            | (code == b'y'))
+    matches!(
+        code,
+        b'0' | b'm' | b'n' | b'z' | b'3' | b'5' | b'1' | b'2' | b'e' | b'f' | b'y'
+    )
 }
 
 // 7: whether a record of this code, which is one, has this many numbers.
+#[tactic(auto, using(crate::proofs::laws::Rows::rows))]
 fn count_right(axes: u8, code: u8, n: usize) -> bool
     requires { is_code code ≡ true }
     ensures { result ≡ count_right axes code n }
 {
-    if is_movement(code) {
-        return count::right_count(axes, n);
+    match code {
+        b'0' | b'm' => count::right_count(axes, n),
+        b'3' | b'2' => n == 2,
+        b'y' => n == 7,
+        _ => n == 1,
     }
-    if (code == b'3') | (code == b'2') {
-        return n == 2;
-    }
-    if code == b'y' {
-        return n == 7;
-    }
-    n == 1
 }
 
 // Whether a number is from `least` to `most`.
+#[tactic(auto, using(crate::proofs::laws::Rows::rows))]
 fn from_to(least: u8, most: u8, w: u32) -> bool
     ensures { result ≡ within (pos least) (pos most) (signed w) }
 {
-    ((least as u32) <= w) & (w <= (most as u32))
+    (u32::from(least) <= w) & (w <= u32::from(most))
 }
 
 // Whether these are axes of x, y and z that are set, or A alone where it is.
+#[tactic(auto, unfolding(crate::specs::Fault::named_by))]
 fn axes_named(axes: u8, w: u32) -> bool
     ensures { result ≡ named_by axes (signed w) }
 {
-    let few = count::has(axes as u32, Axis::X) & from_to(1, 7, w) & from_to(1, axes, w);
-    few | (count::has(axes as u32, Axis::A) & from_to(8, 8, w))
+    let few = count::has(u32::from(axes), Axis::X) & from_to(1, 7, w) & from_to(1, axes, w);
+    few | (count::has(u32::from(axes), Axis::A) & from_to(8, 8, w))
 }
 
 // 3: whether the axes of `n` are some of the axes set.
+#[tactic(auto, using(crate::proofs::laws::Rows::rows))]
 fn axes_right(axes: u8, code: u8, words: [u32; 8]) -> bool
     ensures { result ≡ axes_right axes code words }
 {
-    if code == b'n' {
-        return axes_named(axes, words[0]);
-    }
-    true
+    (code != b'n') || axes_named(axes, words[0])
 }
 
 // Whether a number and an offset are a loop's or a jump's.
+#[tactic(auto, unfolding(crate::specs::Fault::loop_right))]
 fn loop_right(number: u32, offset: u32) -> bool
     ensures { result ≡ loop_right (signed number) (signed offset) }
 {
@@ -77,6 +70,7 @@ fn loop_right(number: u32, offset: u32) -> bool
 }
 
 // 1: whether every other number is in its range.
+#[tactic(auto, unfolding(crate::specs::Fault::ranges_right))]
 fn ranges_right(axes: u8, code: u8, words: [u32; 8]) -> bool
     ensures { result ≡ ranges_right axes code words }
 {
@@ -96,36 +90,36 @@ fn ranges_right(axes: u8, code: u8, words: [u32; 8]) -> bool
 }
 
 // D: whether every speed of a movement or a circle is one.
+#[tactic(auto, using(crate::proofs::laws::Rows::rows))]
 fn speeds_right(axes: u8, code: u8, words: [u32; 8]) -> bool
     ensures { result ≡ speeds_right axes code words }
 {
-    if is_movement(code) {
-        return count::right_speeds(axes, words);
+    match code {
+        b'0' | b'm' => count::right_speeds(axes, words),
+        b'y' => count::is_speed(words[1]),
+        _ => true,
     }
-    if code == b'y' {
-        return count::is_speed(words[1]);
-    }
-    true
 }
 
-// The reply's character for a code and its numbers: 5, 7, 3, 1 or D, and 0 where nothing is wrong.
-pub fn record_fault(axes: u8, code: u8, count: usize, words: [u32; 8]) -> u8
-    ensures { result ≡ fault_of axes code count words }
+// What is wrong with a code and its numbers.
+#[tactic(auto, unfolding(crate::specs::Fault::fault_of))]
+pub fn record_fault(axes: u8, code: u8, count: usize, words: [u32; 8]) -> Result<(), Fault>
+    ensures { replied result ≡ fault_of axes code count words }
 {
     if !is_code(code) {
-        return b'5';
+        return Err(Fault::Shape);
     }
     if !count_right(axes, code, count) {
-        return b'7';
+        return Err(Fault::Count);
     }
     if !axes_right(axes, code, words) {
-        return b'3';
+        return Err(Fault::Axes);
     }
     if !ranges_right(axes, code, words) {
-        return b'1';
+        return Err(Fault::Range);
     }
     if !speeds_right(axes, code, words) {
-        return b'D';
+        return Err(Fault::Speed);
     }
-    b'0'
+    Ok(())
 }

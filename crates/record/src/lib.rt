@@ -1,6 +1,10 @@
 // Records of the store: what is wrong with one, its bytes, its place, the table of the places, storing it, listing it.
 #![tactic(auto)]
 
+ghost use Rattle.std.specs.Prelude.{◌≡◌, length};
+ghost use Rattle.record.specs.Bytes.{numbers_of, length_of};
+ghost use Rattle.record.specs.Places.{in_use};
+
 mod bytes;
 mod fault;
 mod keep;
@@ -24,6 +28,15 @@ pub struct Held {
     pub axes: u8,
 }
 
+impl Held {
+    // Where it ends in a store.
+    pub fn end(self, store: &[u8]) -> usize
+        ensures { result ≡ length (in_use self store.now) }
+    {
+        store.len().min(usize::from(self.used))
+    }
+}
+
 // A record: its code, and its numbers in the first `count` of the words; the words past them are 0.
 #[derive(Clone, Copy)]
 pub struct Record {
@@ -32,38 +45,26 @@ pub struct Record {
     pub words: [u32; 8],
 }
 
+impl Record {
+    // Its numbers.
+    fn numbers(&self) -> &[u32]
+        ensures { result.now ≡ numbers_of self.now }
+    {
+        &self.words[..usize::from(self.count).min(8)]
+    }
+
+    // How many bytes it takes.
+    pub fn len(self) -> u16
+        ensures { result ≡ length_of self }
+    {
+        4 + 4 * u16::from(self.count)
+    }
+}
+
+// What is found at a place or a byte: a record, the end place, or nothing that can be read.
 #[derive(Clone, Copy)]
 pub enum Found {
-    Right,
+    Got(Record),
     End,
     Wrong,
-}
-
-// What is found at a place or a byte: a record with the bytes that it takes, both 0 unless it is right.
-#[derive(Clone, Copy)]
-pub struct Fetched {
-    pub found: Found,
-    pub item: Record,
-    pub len: u16,
-}
-
-// The byte where a place starts, or that none is known.
-#[derive(Clone, Copy)]
-pub enum Spot {
-    At(u16),
-    Wrong,
-}
-
-// Whether a record was stored, and the part in use afterwards.
-#[derive(Clone, Copy)]
-pub struct Kept {
-    pub stored: bool,
-    pub held: Held,
-}
-
-// What listing comes to: the refusal, or 0 and the length of the text.
-#[derive(Clone, Copy)]
-pub struct Listed {
-    pub refusal: u16,
-    pub len: u32,
 }

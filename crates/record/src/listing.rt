@@ -1,13 +1,13 @@
 // The listing: the text of each record of a readable store, and the end line.
-ghost use Rattle.std.specs.Prelude.{◌≡◌, true, ◌++◌, ◌+◌, ◌≤◌, length, take, drop};
+ghost use Rattle.std.specs.Prelude.{◌≡◌, true, ◌++◌, ◌+◌, ◌≤◌, length, drop};
 ghost use Rattle.record.specs.Places.{records_from, is_list};
-ghost use Rattle.record.specs.Listing.{line_text, list_text, telling, list_of};
+ghost use Rattle.record.specs.Listing.{line_text, list_text, told, list_of};
 ghost use Rattle.record.specs.work.Writing.{item_text, line_left, list_in};
 
-use super::bytes::{end_of, record_in};
-use super::keep::few;
+use super::bytes::record_in;
 use super::places::readable;
-use super::{Held, Listed, Record};
+use super::{Found, Held, Record};
+use count::{Fault, Refusal};
 
 // The number that follows `i` others, with a comma before it unless it is the first; answers how many bytes.
 fn put_item(text: &mut [u8], i: usize, w: u32) -> usize
@@ -23,17 +23,13 @@ fn put_item(text: &mut [u8], i: usize, w: u32) -> usize
 }
 
 // The numbers of a line and its carriage return; answers how many bytes.
-fn put_tail(text: &mut [u8], n: usize, words: [u32; 8]) -> usize
-    requires { (n ≤ 8) × (120 ≤ length text.old) }
-    ensures { (result ≡ length (line_left 0 (take n words))) × (text.new ≡ line_left 0 (take n words) ++ drop (length (line_left 0 (take n words))) text.old) }
+fn put_tail(text: &mut [u8], numbers: &[u32]) -> usize
+    requires { (length numbers.now ≤ 8) × (120 ≤ length text.old) }
+    ensures { (result ≡ length (line_left 0 numbers.now)) × (text.new ≡ line_left 0 numbers.now ++ drop (length (line_left 0 numbers.now)) text.old) }
 {
-    let mut at: usize = 0;
-    let mut i: usize = 0;
-    while i < n {
-        let w = words[i];
-        let k = put_item(&mut text[at..], i, w);
-        at = at + k;
-        i = i + 1;
+    let mut at = 0;
+    for (i, w) in numbers.iter().enumerate() {
+        at += put_item(&mut text[at..], i, *w);
     }
     text[at] = b'\r';
     at + 1
@@ -44,9 +40,7 @@ fn put_line(text: &mut [u8], item: Record) -> usize
     requires { 128 ≤ length text.old }
     ensures { (result ≡ length (line_text item)) × (text.new ≡ line_text item ++ drop (length (line_text item)) text.old) }
 {
-    let n = few(item.count);
-    let words = item.words;
-    let k = put_tail(&mut text[1..], n, words);
+    let k = put_tail(&mut text[1..], item.numbers());
     text[0] = item.code;
     k + 1
 }
@@ -58,46 +52,32 @@ fn put_lines(text: &mut [u8], s: &[u8], axes: u8, k: u16) -> usize
 {
     let mut at: usize = 0;
     let mut out: usize = 0;
-    let mut left = k;
-    while 0 < left {
-        let f = record_in(&s[at..], axes);
-        let item = f.item;
-        let n = put_line(&mut text[out..], item);
-        out = out + n;
-        at = at + (f.len as usize);
-        left = left - 1;
+    for _ in 0..k {
+        let Found::Got(item) = record_in(&s[at..], axes) else {
+            unreachable!()
+        };
+        out += put_line(&mut text[out..], item);
+        at += usize::from(item.len());
     }
     text[out] = b'9';
     text[out + 1] = b'\r';
     out + 2
 }
 
-// The listing of the store, written at the front of a text buffer; nothing is written unless all is right.
-pub fn list(store: &[u8], held: Held, text: &mut [u8]) -> Listed
-    ensures { telling result.refusal result.len text.new ≡ list_of held store.now text.old }
+// The listing of the store, written at the front of a text buffer; nothing is written unless all is right. Answers how many bytes.
+pub fn list(store: &[u8], held: Held, text: &mut [u8]) -> Result<u32, Refusal>
+    ensures { told result text.new ≡ list_of held store.now text.old }
 {
     if 16384 < held.used {
-        return Listed {
-            refusal: 103,
-            len: 0,
-        };
+        return Err(Refusal::State);
     }
     if text.len() < 32768 {
-        return Listed {
-            refusal: 106,
-            len: 0,
-        };
+        return Err(Refusal::Text);
     }
     if !readable(store, held) {
-        return Listed {
-            refusal: 71, // G
-            len: 0,
-        };
+        return Err(Refusal::Program(Fault::Refused));
     }
-    let end = end_of(store, held.used);
+    let end = held.end(store);
     let n = put_lines(text, &store[..end], held.axes, held.records);
-    Listed {
-        refusal: 0,
-        len: n as u32,
-    }
+    Ok(n as u32)
 }

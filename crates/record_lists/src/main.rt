@@ -2,7 +2,7 @@
 // how many kinds of record follow, and eleven numbers for each: how often it is stored, its code, its count of numbers and eight words.
 #![tactic(auto)]
 
-use record::{Held, Record};
+use record::{Found, Held, Record};
 use std::io;
 use std::io::Read;
 
@@ -30,11 +30,10 @@ impl Filled {
     // Stores a record so many times, as far as there is room.
     fn put(&mut self, item: Record, times: u32) {
         for _ in 0..times {
-            let kept = record::store_record(&mut self.store, &mut self.table, self.held, item);
-            if !kept.stored {
-                break;
+            match record::store_record(&mut self.store, &mut self.table, self.held, item) {
+                Some(longer) => self.held = longer,
+                None => break,
             }
-            self.held = kept.held;
         }
     }
 
@@ -42,8 +41,9 @@ impl Filled {
     fn again(&self) -> Filled {
         let mut other = Filled::empty(self.held.axes);
         for place in 0..self.held.records {
-            let fetched = record::fetch(&self.store, &self.table, self.held, place);
-            other.put(fetched.item, 1);
+            if let Found::Got(item) = record::fetch(&self.store, &self.table, self.held, place) {
+                other.put(item, 1);
+            }
         }
         other
     }
@@ -61,7 +61,7 @@ impl Filled {
     // Whether the table is the one that is filled from the store.
     fn is_filled(&self) -> bool {
         let mut table = [0; 1000];
-        record::fill(&self.store, &mut table, self.held) == 0 && self.table == table
+        record::fill(&self.store, &mut table, self.held).is_ok() && self.table == table
     }
 }
 
@@ -81,11 +81,10 @@ fn show_listing(rt: &impl Print, text: &[u8], len: u32) -> io::Result<()> {
 // is filled too; or what refuses the listing.
 fn show_store(rt: &impl Print, filled: &Filled) -> io::Result<()> {
     let mut lines = [0; 32768];
-    let listed = record::list(&filled.store, filled.held, &mut lines);
-    if listed.refusal != 0 {
-        return println!(rt; "refused {}", listed.refusal);
+    match record::list(&filled.store, filled.held, &mut lines) {
+        Ok(len) => show_listing(rt, &lines, len)?,
+        Err(refusal) => return println!(rt; "refused {}", refusal.number()),
     }
-    show_listing(rt, &lines, listed.len)?;
     if filled.is_same(&filled.again()) && filled.is_filled() {
         println!(rt; "same")
     } else {

@@ -90,10 +90,13 @@ impl Session {
         self.finish_run(rt)
     }
 
-    // All bytes of a piece of input, or those up to a run that is not over.
+    // All bytes of a piece of input, or those up to a run that is not over. Each turn takes one or more.
     fn take_all(&mut self, rt: &impl Print, input: &[u8]) -> io::Result<()> {
         let mut left = input;
-        while self.walk.over {
+        for _ in 0..input.len() {
+            if !self.walk.over {
+                break;
+            }
             let fed = self.walk.feed(left);
             self.walk = fed.walk;
             let Some((byte, behind)) = left.get(fed.count..).and_then(|rest| rest.split_first())

@@ -9,14 +9,13 @@ use lib.Dec.{eqb}
 use lib.ListN.{length}
 use Rattle.count.specs.Pick.{pick}
 use Rattle.record.specs.declared.Held.{Held}
-use Rattle.record.specs.declared.Kept.{Kept}
 use Rattle.record.specs.declared.Record.{Record}
 use Rattle.record.specs.Memory.{Memory}
 use Rattle.record.specs.Bytes.{encode}
 use Rattle.record.specs.Fault.{is_code, count_right, axes_right, ranges_right, speeds_right, numbers_reply, fault_of}
 use Rattle.record.proofs.laws.Faultless.{fault-none}
 use Rattle.record.proofs.laws.Shapes.{Shape, one, two, seven, eight, shape, four as four-numbers}
-use Rattle.record.specs.Keep.{Storing, storing, longer, has_room, store_of}
+use Rattle.record.specs.Keep.{Kept, Storing, storing, longer, has_room, store_of}
 use Rattle.line.specs.Code.{Code}
 use Rattle.line.specs.Code as code
 use Rattle.line.specs.Said.{Stored}

@@ -15,7 +15,7 @@ use Rattle.count.specs.Pick.{pick}
 use Rattle.travel.specs.declared.Travel.{Travel}
 use Rattle.record.specs.declared.Record.{Record}
 use Rattle.record.specs.Bytes.{is_right}
-use Rattle.record.specs.Bytes.Fetch.{Got, End, Wrong}
+use Rattle.record.specs.declared.Found.TheVariants.{Got, End, Wrong}
 use Rattle.program.specs.declared.Loops.{Loops}
 use Rattle.program.specs.Going.{Way, Going}
 use Rattle.program.specs.Onward.{onward_of}

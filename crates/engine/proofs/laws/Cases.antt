@@ -20,8 +20,8 @@ use Rattle.travel.specs.Next.Next.{Made, Over}
 use Rattle.travel.specs.Plan.{plan_of, circle_of}
 use Rattle.record.specs.declared.Record.{Record}
 use Rattle.record.specs.Fault.{is_movement, is_absolute}
-use Rattle.record.specs.Bytes.{Fetch}
-use Rattle.record.specs.Bytes.Fetch.{Got, End, Wrong}
+use Rattle.record.specs.declared.Found.{Found}
+use Rattle.record.specs.declared.Found.TheVariants.{Got, End, Wrong}
 use Rattle.program.specs.Going.{Way, Going}
 use Rattle.program.specs.Going as going
 use Rattle.program.specs.Onward.{onward_of}
@@ -166,7 +166,7 @@ pub record Cases (rule : Rule) (fetch : Fetching) (e : Engine) (P : Told → Typ
   pub got : reads_by e.run.job ≡ true → (r : Record) → fetch e.run.place ≡ Got r → P (performed rule r e)
 
 module _ (rule : Rule) (fetch : Fetching) (e : Engine) (P : Told → Type 0) (c : Cases rule fetch e P) where
-  fetched-by : reads_by e.run.job ≡ true → (x : Fetch) → fetch e.run.place ≡ x → P (fetched rule x e)
+  fetched-by : reads_by e.run.job ≡ true → (x : Found) → fetch e.run.place ≡ x → P (fetched rule x e)
   fetched-by l (Got r) q = c.got l r q
   fetched-by l End q = c.end l q
   fetched-by l Wrong q = c.wrong l q

@@ -22,8 +22,8 @@ use Rattle.travel.proofs.laws.Onward.{next-is-pulse}
 use Rattle.travel.proofs.laws.Plans.{plan-sound, circle-sound}
 use Rattle.record.specs.declared.Record.{Record}
 use Rattle.record.specs.Fault.{is_movement}
-use Rattle.record.specs.Bytes.{Fetch}
-use Rattle.record.specs.Bytes.Fetch.{Got, End, Wrong}
+use Rattle.record.specs.declared.Found.{Found}
+use Rattle.record.specs.declared.Found.TheVariants.{Got, End, Wrong}
 use Rattle.engine.specs.declared.Answer.{Answer}
 use Rattle.engine.specs.declared.Answer.TheVariants as answer
 use Rattle.engine.specs.declared.Job.{Job}
@@ -75,7 +75,7 @@ module _ (e : Engine) (h : counted e.at ≡ true) where
       (both (eqb r.code 102) refl
       (both (eqb r.code 121) (round_same r) refl)))))))
 
-  fetched-same : (x : Fetch) → fetched next_of x e ≡ fetched pulse_of x e
+  fetched-same : (x : Found) → fetched next_of x e ≡ fetched pulse_of x e
   fetched-same (Got r) = performed-same r
   fetched-same End = refl
   fetched-same Wrong = refl

@@ -1,6 +1,6 @@
 -- What the engine answers by what the crates below say on paper: a plan's reply, a pulse, where a record leads, what is found at a
 -- place. Assumes nothing.
-use Rattle.std.specs.Prelude.{Result, Ok, Err}
+use Rattle.std.specs.Prelude.{Option, Some, None, Result, Ok, Err}
 use Rattle.count.specs.declared.Fault.{Fault}
 use mathlib.Core.Path.{◌≡◌, refl, sym, ap, ◌∙◌}
 use mathlib.Core.Bool.{Bool, true, false, not}
@@ -18,11 +18,10 @@ use Rattle.travel.specs.Next.{Next, next_paper}
 use Rattle.travel.specs.Next.Next.{Made, Over}
 use Rattle.travel.specs.Plan.{plan_of, circle_of, travel_paper, planned_paper}
 use Rattle.record.specs.declared.Held.{Held}
-use Rattle.record.specs.declared.Spot.{Spot}
-use Rattle.record.specs.declared.Spot.TheVariants as spot
-use Rattle.record.specs.Bytes.{Fetch}
-use Rattle.record.specs.Bytes.Fetch.{Got, End, Wrong}
-use Rattle.record.specs.Places.{record_at, answered, found_paper, spot_paper}
+use Rattle.record.specs.declared.Record.{Record}
+use Rattle.record.specs.declared.Found.{Found}
+use Rattle.record.specs.declared.Found.TheVariants.{Got, End, Wrong}
+use Rattle.record.specs.Places.{record_at, found_paper, spot_paper}
 use Rattle.record.specs.Table.{record_from}
 use Rattle.program.specs.Going.{Going}
 use Rattle.program.specs.Going as going
@@ -100,25 +99,25 @@ module _ (e : Engine) where
   lead-paper o going.Wrong c = refl
 
   -- WHAT IS FOUND at a place is sent, 0 at the end place and G where nothing right is; a record, 4, is performed
-  pub found-paper : (rule : Rule) (f : Fetch) → ((found_paper (answered f).found).number ≡ 4 → ⊥) → paper (fetched rule f e).answer ≡ sent (found_paper (answered f).found)
+  pub found-paper : (rule : Rule) (f : Found) → ((found_paper f).number ≡ 4 → ⊥) → paper (fetched rule f e).answer ≡ sent (found_paper f)
   found-paper rule (Got r) n = absurd (n refl)
   found-paper rule End n = refl
   found-paper rule Wrong n = refl
 
-  pub found-record : (rule : Rule) (f : Fetch) → (found_paper (answered f).found).number ≡ 4 → fetched rule f e ≡ performed rule (answered f).item e
-  found-record rule (Got r) n = refl
+  pub found-record : (rule : Rule) (f : Found) → (found_paper f).number ≡ 4 → (r : Record) × (f ≡ Got r) × (fetched rule f e ≡ performed rule r e)
+  found-record rule (Got r) n = (r, refl, refl)
   found-record rule End n = absurd (omega arith)
   found-record rule Wrong n = absurd (omega arith)
 
   -- AND SO IS A PLACE: no byte of the part in use is its start
-  pub spot-paper : (rule : Rule) (p : Spot) (h : Held) (s : List ℕ) → ((spot_paper p).number ≡ 4 → ⊥) → paper (fetched rule (record_from p h s) e).answer ≡ sent (spot_paper p)
-  spot-paper rule (spot.At at) h s n = absurd (n refl)
-  spot-paper rule spot.Wrong h s n = refl
+  pub spot-paper : (rule : Rule) (p : Option ℕ) (h : Held) (s : List ℕ) → ((spot_paper p).number ≡ 4 → ⊥) → paper (fetched rule (record_from p h s) e).answer ≡ sent (spot_paper p)
+  spot-paper rule (Some at) h s n = absurd (n refl)
+  spot-paper rule None h s n = refl
 
 -- a place whose start is found is read at the byte on paper
-pub spot-read : (p : Spot) (h : Held) (s : List ℕ) (at : ℕ) → spot_paper p ≡ says 4 (pos at ∷ []) → record_from p h s ≡ record_at h s at
-spot-read (spot.At at') h s at e =
+pub spot-read : (p : Option ℕ) (h : Held) (s : List ℕ) (at : ℕ) → spot_paper p ≡ says 4 (pos at ∷ []) → record_from p h s ≡ record_at h s at
+spot-read (Some at') h s at e =
     let f : pos at' ∷ [] ≡ pos at ∷ [] = ap (λ (x : Paper). x.values) e in
     let q : at' ≡ at = cc in
     ap (λ (i : ℕ). record_at h s i) q
-spot-read spot.Wrong h s at e = let q : ◌≡◌ {A = ℕ} 71 4 = ap (λ (x : Paper). x.number) e in absurd (omega arith)
+spot-read None h s at e = let q : ◌≡◌ {A = ℕ} 71 4 = ap (λ (x : Paper). x.number) e in absurd (omega arith)

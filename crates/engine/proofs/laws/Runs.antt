@@ -13,7 +13,7 @@ use Rattle.travel.specs.Next.{Next}
 use Rattle.travel.specs.Next.Next.{Over}
 use Rattle.record.specs.declared.Held.{Held}
 use Rattle.record.specs.declared.Record.{Record}
-use Rattle.record.specs.Bytes.{Fetch}
+use Rattle.record.specs.declared.Found.{Found}
 use Rattle.record.specs.Memory.{Memory}
 use Rattle.record.specs.Table.{fetch_of, TableTrue}
 use Rattle.program.specs.Program.{accepted}
@@ -123,7 +123,7 @@ module _ (axes : ℕ) (l : List Record) (a : Accepted axes l) (rule : Rule) wher
 -- WHERE IT REACHES THE END PLACE IT SENDS 0 AND IS IDLE
 module _ (l : List Record) (rule : Rule) (e : Engine) (p : e.run.place ≡ length l) where
   end_by : (j : Job) → j ≡ job.Ready → ticked_by rule (list_fetch l) j e ≡ finished 48 e
-  end_by j q = ap (λ (k : Job). ticked_by rule (list_fetch l) k e) q ∙ ap (λ (x : Fetch). fetched rule x e) (list-end l e.run.place p)
+  end_by j q = ap (λ (k : Job). ticked_by rule (list_fetch l) k e) q ∙ ap (λ (x : Found). fetched rule x e) (list-end l e.run.place p)
 
   pub ends-ready : e.run.job ≡ job.Ready → ticked rule (list_fetch l) e ≡ finished 48 e
   unfolding ticked
@@ -133,7 +133,7 @@ module _ (l : List Record) (rule : Rule) (e : Engine) (p : e.run.place ≡ lengt
   unfolding ticked
   ends-moved m q o =
       ap (λ (k : Job). ticked_by rule (list_fetch l) k e) q ∙ ap (λ (n : Next). moving_on rule (list_fetch l) n e) o
-      ∙ ap (λ (x : Fetch). fetched rule x e) (list-end l e.run.place p)
+      ∙ ap (λ (x : Found). fetched rule x e) (list-end l e.run.place p)
 
 -- ---- on the store
 

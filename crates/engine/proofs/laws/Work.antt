@@ -1,5 +1,5 @@
 -- What the code of a clock call leans on: what a fetch that found a record says of it, and the counters after a pulse. Assumes nothing.
-use Rattle.std.specs.Prelude.{Some, None}
+use Rattle.std.specs.Prelude.{Option, Some, None}
 use Prim.Native.Nat.{ℕ, zero, suc, ◌+◌, ◌-◌, ◌<◌, ◌≤◌}
 use mathlib.Core.Path.{◌≡◌, refl, ap, sym, ◌∙◌, subst}
 use mathlib.Core.Bool.{Bool, true, false, ◌&&◌}
@@ -33,15 +33,12 @@ use Rattle.travel.specs.Plan.{plan_of}
 use Rattle.travel.specs.work.Beat.{next_of}
 use Rattle.record.specs.declared.Held.{Held}
 use Rattle.record.specs.declared.Record.{Record}
-use Rattle.record.specs.declared.Found.TheVariants as found
-use Rattle.record.specs.declared.Fetched.{Fetched}
-use Rattle.record.specs.declared.Spot.{Spot}
-use Rattle.record.specs.declared.Spot.TheVariants as spot
 use Rattle.record.specs.Fault.{ranges_right, is_movement, is_absolute}
-use Rattle.record.specs.Bytes.{Fetch, is_right}
-use Rattle.record.specs.Bytes.Fetch.{Got, End, Wrong}
+use Rattle.record.specs.Bytes.{is_right}
+use Rattle.record.specs.declared.Found.{Found}
+use Rattle.record.specs.declared.Found.TheVariants.{Got, End, Wrong}
 use Rattle.record.specs.Memory.{Memory}
-use Rattle.record.specs.Places.{answered, record_at}
+use Rattle.record.specs.Places.{record_at}
 use Rattle.record.specs.Table.{spot_of, record_from, fetch_of}
 use Rattle.record.proofs.laws.Walk.{front-stands}
 use lib.IntN.{ℤ}
@@ -107,39 +104,20 @@ delay-on (suc t) e h = rw sub-one
 
 -- ---- what is fetched
 
-module _ (x : Fetch) {f : Fetched} (e : f ≡ answered x) where
-  found_as : f.found ≡ (answered x).found
-  found_as = ap (λ (g : Fetched). g.found) e
-
-pub got : (x : Fetch) {f : Fetched} → f ≡ answered x → f.found ≡ found.Right → x ≡ Got f.item
-got (Got r) e p = ap Got (sym (ap (λ (g : Fetched). g.item) e))
-got End e p = let q = found_as End e in let z : ◌≡◌ {A = ℕ} 0 1 = cc in absurd (omega arith)
-got Wrong e p = let q = found_as Wrong e in let z : ◌≡◌ {A = ℕ} 0 1 = cc in absurd (omega arith)
-
-pub got-end : (x : Fetch) {f : Fetched} → f ≡ answered x → f.found ≡ found.End → x ≡ End
-got-end (Got r) e p = let q = found_as (Got r) e in let z : ◌≡◌ {A = ℕ} 0 1 = cc in absurd (omega arith)
-got-end End e p = refl
-got-end Wrong e p = let q = found_as Wrong e in let z : ◌≡◌ {A = ℕ} 0 1 = cc in absurd (omega arith)
-
-pub got-wrong : (x : Fetch) {f : Fetched} → f ≡ answered x → f.found ≡ found.Wrong → x ≡ Wrong
-got-wrong (Got r) e p = let q = found_as (Got r) e in let z : ◌≡◌ {A = ℕ} 0 1 = cc in absurd (omega arith)
-got-wrong End e p = let q = found_as End e in let z : ◌≡◌ {A = ℕ} 0 1 = cc in absurd (omega arith)
-got-wrong Wrong e p = refl
-
 -- a record found is right, and its place below the end place
 pub record Stood (h : Held) (place : ℕ) (r : Record) : Type 0 where
   pub below : place < h.records
   pub right : is_right h.axes r ≡ true
 
 module _ (h : Held) (m : Memory) (place : ℕ) {r : Record} where
-  found_right : (x : Spot) → record_from x h m.store ≡ Got r → is_right h.axes r ≡ true
+  found_right : (x : Option ℕ) → record_from x h m.store ≡ Got r → is_right h.axes r ≡ true
   unfolding record_at
-  found_right (spot.At at) e = (front-stands h.axes _ e).right
-  found_right spot.Wrong e = let z : ◌≡◌ {A = ℕ} 0 1 = cc in absurd (omega arith)
+  found_right (Some at) e = (front-stands h.axes _ e).right
+  found_right None e = let z : ◌≡◌ {A = ℕ} 0 1 = cc in absurd (omega arith)
 
   -- no place from the end place on is found
-  found-by : (a b : Bool) (x y : Spot) → ltb place h.records ≡ a → eqb place h.records ≡ b
-      → pick b End (record_from (pick a x (pick b y spot.Wrong)) h m.store) ≡ Got r → Stood h place r
+  found-by : (a b : Bool) (x y : Option ℕ) → ltb place h.records ≡ a → eqb place h.records ≡ b
+      → pick b End (record_from (pick a x (pick b y None)) h m.store) ≡ Got r → Stood h place r
   found-by a true x y p q e = let z : ◌≡◌ {A = ℕ} 0 1 = cc in absurd (omega arith)
   found-by true false x y p q e = record { below = ltb-true place h.records p; right = found_right x e }
   found-by false false x y p q e = let z : ◌≡◌ {A = ℕ} 0 1 = cc in absurd (omega arith)
@@ -170,11 +148,10 @@ module _ (axes : ℕ) (r : Record) (h : is_right axes r ≡ true) where
     pauses = λ e. delay-small (get_or r.words 0 0) (right-at 53 e);
   }
 
-pub ready-fits : (h : Held) (m : Memory) (place : ℕ) {f : Fetched} → f ≡ answered (fetch_of h m place) → f.found ≡ found.Right → h.records ≤ 65535
-    → (place < 65535) × Fits f.item
-ready-fits h m place {f} e p l =
-    let g = stood h m place (got (fetch_of h m place) e p) in
-    (omega (arith, g.below), fits h.axes f.item g.right)
+pub ready-fits : (h : Held) (m : Memory) (place : ℕ) {r : Record} → Got r ≡ fetch_of h m place → h.records ≤ 65535 → (place < 65535) × Fits r
+ready-fits h m place {r} e l =
+    let g = stood h m place (sym e) in
+    (omega (arith, g.below), fits h.axes r g.right)
 
 -- ---- a movement is told by two codes
 

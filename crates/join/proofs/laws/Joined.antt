@@ -14,7 +14,8 @@ use Rattle.count.proofs.laws.Truth.{and-false}
 use Rattle.record.specs.declared.Held.{Held}
 use Rattle.record.specs.declared.Record.{Record}
 use Rattle.record.specs.Memory.{Memory, memory}
-use Rattle.record.specs.Bytes.{Below, Got, made}
+use Rattle.record.specs.Bytes.{Below, made}
+use Rattle.record.specs.declared.Found.TheVariants.{Got}
 use Rattle.record.specs.Places.{in_use, Records, records_of}
 use Rattle.record.specs.Places.Records.{are}
 use Rattle.record.specs.Table.{fetch_of, TableTrue, Filling, filling, fill_of}
@@ -175,6 +176,10 @@ module _ (a : Held) (m : Memory) (b : Held) (t : List ℕ) (p : Passed a m b t) 
 
 zero-fills : {r : ℕ} {t u : List ℕ} → filling r t ≡ filling 0 u → (r ≡ 0) × (t ≡ u)
 zero-fills e = (ap (λ (x : Filling). x.refusal) e, ap (λ (x : Filling). x.table) e)
+
+pub joined-zero : (a : Held) (m : Memory) (b : Held) (t : List ℕ) → refusal_of a m b t ≡ 0 → Below 256 m.store → Below 256 t
+    → {r : ℕ} {u : List ℕ} → filling r u ≡ fill_of (both a b) (memory (end_to_end a m.store b t) m.table) → r ≡ 0
+joined-zero a m b t z c d e = (zero-fills (e ∙ sym (joined-fills a m b t (passed a m b t z) c d))).0
 
 pub joined-so : (a : Held) (m : Memory) (b : Held) (t : List ℕ) → refusal_of a m b t ≡ 0 → Below 256 m.store → Below 256 t
     → {r : ℕ} {u : List ℕ} → filling r u ≡ fill_of (both a b) (memory (end_to_end a m.store b t) m.table)

@@ -11,7 +11,9 @@ use lib.ListN.{length, drop}
 use Rattle.count.proofs.laws.Truth.{never, and_parts, and-false}
 use Rattle.record.specs.declared.Held.{Held}
 use Rattle.record.specs.declared.Record.{Record}
-use Rattle.record.specs.Bytes.{Fetch, Got, End, Wrong, front, length_of, is_right}
+use Rattle.record.specs.Bytes.{front, length_of, is_right}
+use Rattle.record.specs.declared.Found.{Found}
+use Rattle.record.specs.declared.Found.TheVariants.{Got, End, Wrong}
 use Rattle.record.specs.work.Writing.{list_in}
 use Rattle.record.proofs.laws.Fills.{counts}
 use Rattle.record.specs.Places.{in_use, Records, are, none-are, onto, then, records_from, records_of, is_list}
@@ -70,7 +72,7 @@ rights-onto : (axes : ℕ) (r : Record) (x : Records) → is_right axes r ≡ tr
 rights-onto axes r (are l) h f = one_more axes r l h f
 rights-onto axes r none-are h f = tt
 
-rights-then : (axes k : ℕ) (s : List ℕ) (x : Fetch) → front axes s ≡ x → ((t : List ℕ) → Rights axes (records_from axes k t))
+rights-then : (axes k : ℕ) (s : List ℕ) (x : Found) → front axes s ≡ x → ((t : List ℕ) → Rights axes (records_from axes k t))
     → Rights axes (then x (λ r. records_from axes k (drop (length_of r) s)))
 rights-then axes k s (Got r) e f = rights-onto axes r (records_from axes k (drop (length_of r) s)) (front-stands axes s e).right (f (drop (length_of r) s))
 rights-then axes k s End e f = tt

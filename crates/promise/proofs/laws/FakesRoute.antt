@@ -1,5 +1,6 @@
 -- The client's fault and its like: a machine whose loops go back one record short, and one that passes over a record after a movement, come
 -- by another route through a program than demand 2 says. Each program is typed in from the machine's first state. Assumes nothing.
+use Rattle.std.specs.Prelude.{Some}
 use Prim.Native.Nat.{ℕ, zero, suc, ◌<◌, ◌≤◌}
 use native.Mathlib.Omega.{arith}
 use mathlib.Core.Bool.{true}
@@ -38,7 +39,6 @@ use Rattle.board.specs.State.{gathered, sound}
 use Rattle.board.specs.Storing.{record_reply, stored_said}
 use Rattle.record.specs.declared.Held.{Held}
 use Rattle.record.specs.declared.Record.{Record}
-use Rattle.record.specs.declared.Spot.TheVariants as spot
 use Rattle.record.specs.Memory.{Memory}
 use Rattle.record.specs.Bytes.{made}
 use Rattle.record.specs.Places.Records.{are}
@@ -60,11 +60,11 @@ abbrev in_store : (m : Machine) → Place m → Held
 in_store m p = (board_at m p).engine.held
 
 -- a table that is true of three records, entry by entry
-three-true : (h : Held) (m : Memory) → h.records ≡ 3 → 3 ≤ length m.table → walk_to h m.store 0 ≡ spot.At (get_or m.table 0 0)
-    → walk_to h m.store 1 ≡ spot.At (get_or m.table 1 0) → walk_to h m.store 2 ≡ spot.At (get_or m.table 2 0) → TableTrue h m
+three-true : (h : Held) (m : Memory) → h.records ≡ 3 → 3 ≤ length m.table → walk_to h m.store 0 ≡ Some (get_or m.table 0 0)
+    → walk_to h m.store 1 ≡ Some (get_or m.table 1 0) → walk_to h m.store 2 ≡ Some (get_or m.table 2 0) → TableTrue h m
 three-true h m n long a b c = record { long = omega arith; starts = λ i p. by i (omega arith) }
   where
-    by : (i : ℕ) → i < 3 → walk_to h m.store i ≡ spot.At (get_or m.table i 0)
+    by : (i : ℕ) → i < 3 → walk_to h m.store i ≡ Some (get_or m.table i 0)
     by zero p = a
     by (suc zero) p = b
     by (suc (suc zero)) p = c

@@ -1,5 +1,6 @@
 -- Two tables that are not true (02 §6): a machine that enters the start of the next record, and a way to join that leaves the table as it
 -- was, fail the history theorem, each by one record. The second fails the request to join (02 §4) too. Assumes nothing.
+use Rattle.std.specs.Prelude.{Option, Some, None}
 use Prim.Native.Nat.{ℕ}
 use mathlib.Core.List.{List, [], ◌∷◌}
 use mathlib.Core.Path.{refl, ap}
@@ -12,8 +13,6 @@ use Rattle.motion.specs.Sound.{counted}
 use Rattle.line.specs.Lines.{behind, letter_of, after_address, direct_of, code_of, stored_of}
 use Rattle.line.specs.Numbers.{digits_behind, digits_of, number_of, parted, items_of, numbers_of}
 use Rattle.record.specs.declared.Held.{Held}
-use Rattle.record.specs.declared.Spot.{Spot}
-use Rattle.record.specs.declared.Spot.TheVariants as spot
 use Rattle.record.specs.Memory.{Memory, memory}
 use Rattle.record.specs.Bytes.{bytes4, num_bytes, encode, word_at, words_of, front}
 use Rattle.record.specs.Fault.{is_code, count_right, axes_right, loop_right, ranges_right, speeds_right, fault_of}
@@ -44,9 +43,9 @@ use Rattle.promise.proofs.laws.FakesBytes.{zeros-below}
 use Rattle.promise.proofs.laws.FakesJoin.{in_store, letter_a, holding, stored-below}
 
 -- the byte of a spot
-abbrev byte_of : Spot → ℕ
-byte_of (spot.At n) = n
-byte_of spot.Wrong = 0
+abbrev byte_of : Option ℕ → ℕ
+byte_of (Some n) = n
+byte_of None = 0
 
 -- ---- one that enters the next start: the first record's entry is 8, whatever the way to join
 

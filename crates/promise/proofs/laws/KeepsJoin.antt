@@ -14,7 +14,8 @@ use Rattle.count.proofs.laws.Truth.{and_parts}
 use Rattle.record.specs.declared.Held.{Held}
 use Rattle.record.specs.declared.Record.{Record}
 use Rattle.record.specs.Memory.{Memory, memory}
-use Rattle.record.specs.Bytes.{Below, Got}
+use Rattle.record.specs.Bytes.{Below}
+use Rattle.record.specs.declared.Found.TheVariants.{Got}
 use Rattle.record.specs.Places.{records_of}
 use Rattle.record.specs.Places.Records.{are}
 use Rattle.record.specs.Table.{fetch_of, TableTrue}

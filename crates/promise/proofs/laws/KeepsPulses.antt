@@ -30,8 +30,8 @@ use Rattle.travel.proofs.laws.Onward.{taken}
 use Rattle.travel.proofs.laws.Plans.{plan-sound, circle-sound}
 use Rattle.record.specs.declared.Record.{Record}
 use Rattle.record.specs.Fault.{is_movement, is_absolute}
-use Rattle.record.specs.Bytes.{Fetch}
-use Rattle.record.specs.Bytes.Fetch.{Got, End, Wrong}
+use Rattle.record.specs.declared.Found.{Found}
+use Rattle.record.specs.declared.Found.TheVariants.{Got, End, Wrong}
 use Rattle.record.specs.Memory.{Memory}
 use Rattle.record.specs.Table.{fetch_of}
 use Rattle.program.specs.Going.{Going}
@@ -132,7 +132,7 @@ module _ (a : Axis) (e : Engine) where
       (sum-planned (circle_of e.held.axes e.circling e.at r.words) c (λ m p. circle-sound e.held.axes e.circling e.at r.words m p))
       (sum-leading o o.going w))))))))
 
-  sum-fetched : (f : Fetch) → counted e.at ≡ true → Sums a e.at (fetched pulse_of f e)
+  sum-fetched : (f : Found) → counted e.at ≡ true → Sums a e.at (fetched pulse_of f e)
   sum-fetched (Got r) c = sum-performed r c
   sum-fetched End c = sum_told a (ceased e) (answer.Send 48) tt
   sum-fetched Wrong c = sum_told a (ceased (emptied e)) (answer.Send 71) tt

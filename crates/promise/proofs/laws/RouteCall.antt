@@ -18,7 +18,7 @@ use Rattle.travel.specs.Next.Next.{Made, Over}
 use Rattle.travel.specs.Sound.{under_way}
 use Rattle.travel.proofs.laws.Whole.{over-left, none_left}
 use Rattle.record.specs.declared.Record.{Record}
-use Rattle.record.specs.Bytes.Fetch.{Got, End, Wrong}
+use Rattle.record.specs.declared.Found.TheVariants.{Got, End, Wrong}
 use Rattle.program.specs.declared.Loops.{Loops}
 use Rattle.program.specs.Going.{Going}
 use Rattle.program.specs.Onward.{onward_of}

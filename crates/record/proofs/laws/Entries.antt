@@ -1,4 +1,5 @@
 -- THE TABLE IS TRUE of an empty store, after every stored record, and once it is filled (02 §6). Assumes nothing.
+use Rattle.std.specs.Prelude.{Some}
 use Prim.Native.Nat.{ℕ, zero, suc, ◌+◌, ◌<◌, ◌≤◌}
 use mathlib.Core.Path.{◌≡◌, refl, ap, sym, ◌∙◌}
 use mathlib.Core.List.{List, [], ◌∷◌, ◌++◌}
@@ -10,7 +11,6 @@ use lib.ListN.{length, get_or, drop, set, length-append, length-set, length-drop
 use lib.Seq.{length-take-le, get_or-set_same, get_or-set_other}
 use Rattle.record.specs.declared.Held.{Held}
 use Rattle.record.specs.declared.Record.{Record}
-use Rattle.record.specs.declared.Spot.TheVariants as spot
 use Rattle.record.specs.Memory.{Memory, memory}
 use Rattle.record.specs.Bytes.{Below, length_of}
 use Rattle.record.specs.Places.{in_use, Records, are, records_of}
@@ -28,7 +28,7 @@ module _ (h : Held) (m : Memory) (l : List Record) (e : records_of h m.store ≡
 
   pub starts-true : h.records ≤ length m.table → ((i : ℕ) → i < h.records → get_or m.table i 0 ≡ start_of l i) → TableTrue h m
   starts-true long f =
-      record { long = long; starts = λ i p. walk-is-start h m.store l e i (omega arith) ∙ ap (λ (n : ℕ). spot.At n) (sym (f i p)) }
+      record { long = long; starts = λ i p. walk-is-start h m.store l e i (omega arith) ∙ ap (λ (n : ℕ). Some n) (sym (f i p)) }
 
 -- ---- an empty store, whatever the entries
 

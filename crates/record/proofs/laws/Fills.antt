@@ -1,25 +1,26 @@
 -- Filling the table, as the code goes: one start a turn, and the refusals in their order. Assumes nothing.
 use Prim.Native.Nat.{ℕ, zero, suc, ◌+◌, ◌-◌, ◌<◌, ◌≤◌}
-use mathlib.Core.Path.{◌≡◌, refl, ap, subst, ◌∙◌}
+use mathlib.Core.Path.{◌≡◌, refl, ap, sym, subst, ◌∙◌}
 use mathlib.Core.List.{List, [], ◌∷◌}
 use mathlib.Core.Bool.{true, false, ◌&&◌}
-use native.Mathlib.Numerals.{sub-one, add-one}
+use native.Mathlib.Numerals.{add-one}
 use native.Mathlib.Omega.{arith}
 use borrow.Author.Tests.{leb-true, le-leb, eq-eqb, ne_eqb}
 use lib.Dec.{leb}
 use lib.ListN.{length, get_or, take, drop, set}
 use lib.Seq.{take_all, drop-drop, paste, paste-suc}
-use Rattle.count.proofs.laws.Lists.{rest}
 use Rattle.count.proofs.laws.Truth.{and_parts}
 use Rattle.record.specs.declared.Held.{Held}
 use Rattle.record.specs.declared.Record.{Record}
-use Rattle.record.specs.declared.Fetched.{Fetched}
 use Rattle.record.specs.Memory.{Memory}
-use Rattle.record.specs.Bytes.{Fetch, Got, End, Wrong, length_of, front}
-use Rattle.record.specs.Places.{in_use, answered, Records, are, none-are, onto, then, records_from, records_of, is_list, readable_of}
+use Rattle.record.specs.Bytes.{length_of, front}
+use Rattle.record.specs.declared.Found.{Found}
+use Rattle.record.specs.declared.Found.TheVariants.{Got, End, Wrong}
+use Rattle.record.specs.Places.{in_use, Records, are, none-are, onto, then, records_from, records_of, is_list, readable_of}
 use Rattle.record.specs.Table.{starts_from, starts_of, filled, filling, can_fill, fill_of}
 use Rattle.record.specs.work.Writing.{list_in}
 use Rattle.record.proofs.laws.Work.{part-within, part-all}
+use Rattle.record.proofs.laws.Walk.{step-got}
 use Rattle.record.proofs.laws.Entries.{starts-long}
 
 -- ---- one turn of `put_starts`
@@ -30,22 +31,14 @@ unfolding starts_from
 onto-starts r at (are l) e = (refl, refl)
 onto-starts r at none-are e = absurd (let z : ◌≡◌ {A = ℕ} 0 1 = cc in omega arith)
 
-module _ (axes k : ℕ) (s : List ℕ) (at : ℕ) where
-  starts_by : (x : Fetch) → is_list (then x (λ r. records_from axes k (drop (length_of r) (drop at s)))) ≡ true
-      → (starts_from at (list_in (then x (λ r. records_from axes k (drop (length_of r) (drop at s)))))
-      ≡ at ∷ starts_from (at + (answered x).len) (list_in (records_from axes k (drop (at + (answered x).len) s))))
-      × (is_list (records_from axes k (drop (at + (answered x).len) s)) ≡ true)
-  starts_by (Got r) e = rw (← drop-drop (length_of r) at s) (onto-starts r at (records_from axes k (drop (length_of r) (drop at s))) e)
-  starts_by End e = absurd (let z : ◌≡◌ {A = ℕ} 0 1 = cc in omega arith)
-  starts_by Wrong e = absurd (let z : ◌≡◌ {A = ℕ} 0 1 = cc in omega arith)
-
-starts-next : (axes left : ℕ) (s : List ℕ) (at : ℕ) {f : Fetched} → f ≡ answered (front axes (take (length s - at) (drop at s))) → 0 < left
-    → is_list (records_from axes left (drop at s)) ≡ true
-    → (starts_from at (list_in (records_from axes left (drop at s))) ≡ at ∷ starts_from (at + f.len) (list_in (records_from axes (left - 1) (drop (at + f.len) s))))
-    × (is_list (records_from axes (left - 1) (drop (at + f.len) s)) ≡ true)
+starts-next : (axes left : ℕ) (s : List ℕ) (at : ℕ) {r : Record} → Got r ≡ front axes (take (length s - at) (drop at s))
+    → is_list (records_from axes (suc left) (drop at s)) ≡ true
+    → (starts_from at (list_in (records_from axes (suc left) (drop at s))) ≡ at ∷ starts_from (at + length_of r) (list_in (records_from axes left (drop (at + length_of r) s))))
+    × (is_list (records_from axes left (drop (at + length_of r) s)) ≡ true)
 unfolding records_from
-starts-next axes zero s at q h e = absurd (omega arith)
-starts-next axes (suc left) s at q h e = rw (q, rest, sub-one) (starts_by axes left s at (front axes (drop at s)) e)
+starts-next axes left s at {r} q e =
+    let g = step-got axes left s at q in
+    rw (g, ← drop-drop (length_of r) at s) (onto-starts r at (records_from axes left (drop (length_of r) (drop at s))) (rw g at e))
 
 -- what is still to be written of the starts, behind the first i of them
 pub record Starting (axes n : ℕ) (s : List ℕ) (at i : ℕ) : Type 0 where
@@ -59,20 +52,22 @@ cons-at [] (suc i) x k e = absurd (let z : ◌≡◌ {A = ℕ} 0 1 = cc in omega
 cons-at (y ∷ l) zero x k e = (omega arith, cc, cc)
 cons-at (y ∷ l) (suc i) x k e = let f = cons-at l i x k e in (omega (arith, f.0), f.1, f.2)
 
-module _ (axes n : ℕ) (s : List ℕ) (at i : ℕ) {f : Fetched} (q : f ≡ answered (front axes (take (length s - at) (drop at s)))) (p : i < n) (w : Starting axes n s at i) where
-  turned : drop i (starts_of (records_from axes n s)) ≡ at ∷ starts_from (at + f.len) (list_in (records_from axes (n - i - 1) (drop (at + f.len) s)))
-  turned = w.left ∙ (starts-next axes (n - i) s at q (omega arith) w.listed).0
+module _ (axes n : ℕ) (s : List ℕ) (at i : ℕ) {r : Record} (q : Got r ≡ front axes (take (length s - at) (drop at s))) (p : i < n) (w : Starting axes n s at i) where
+  m : n - i ≡ suc (n - (i + 1))
+  m = omega arith
+
+  turned : drop i (starts_of (records_from axes n s)) ≡ at ∷ starts_from (at + length_of r) (list_in (records_from axes (n - (i + 1)) (drop (at + length_of r) s)))
+  turned = rw m at w.left ∙ (starts-next axes (n - (i + 1)) s at q (rw m at w.listed)).0
 
   pub start-here : (i < length (starts_of (records_from axes n s))) × (get_or (starts_of (records_from axes n s)) i 0 ≡ at)
   start-here = let c = cons-at _ i at _ turned in (c.0, c.1)
 
-  pub start-next : Starting axes n s (at + f.len) (i + 1)
+  pub start-next : Starting axes n s (at + length_of r) (i + 1)
   start-next =
-      let m : n - i - 1 ≡ n - (i + 1) = omega arith in
       record {
         few = omega arith;
-        listed = rw (← m) (starts-next axes (n - i) s at q (omega arith) w.listed).1;
-        left = rw (← m, add-one) (cons-at _ i at _ turned).2;
+        listed = (starts-next axes (n - (i + 1)) s at q (rw m at w.listed)).1;
+        left = subst (λ (j : ℕ). drop j (starts_of (records_from axes n s)) ≡ starts_from (at + length_of r) (list_in (records_from axes (n - (i + 1)) (drop (at + length_of r) s)))) (sym (add-one i)) (cons-at _ i at _ turned).2;
       }
 
 first_by : (x : Records) → is_list x ≡ true → starts_of x ≡ starts_from 0 (list_in x)
@@ -95,7 +90,7 @@ onto-count : (r : Record) (k : ℕ) (x : Records) → is_list (onto r x) ≡ tru
 onto-count r k (are l) e f = ap suc (f refl)
 onto-count r k none-are e f = absurd (let z : ◌≡◌ {A = ℕ} 0 1 = cc in omega arith)
 
-count_by : (axes k : ℕ) (s : List ℕ) (x : Fetch) → is_list (then x (λ r. records_from axes k (drop (length_of r) s))) ≡ true
+count_by : (axes k : ℕ) (s : List ℕ) (x : Found) → is_list (then x (λ r. records_from axes k (drop (length_of r) s))) ≡ true
     → ((t : List ℕ) → is_list (records_from axes k t) ≡ true → length (list_in (records_from axes k t)) ≡ k)
     → length (list_in (then x (λ r. records_from axes k (drop (length_of r) s)))) ≡ suc k
 count_by axes k s (Got r) e f = onto-count r k (records_from axes k (drop (length_of r) s)) e (f (drop (length_of r) s))

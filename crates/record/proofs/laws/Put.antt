@@ -1,13 +1,13 @@
 -- How the code writes a record, and the laws that join it to the definitions. Assumes nothing.
-use Prim.Native.Nat.{ℕ, min, ◌+◌, ◌-◌, ◌*◌, ◌<◌, ◌≤◌}
-use mathlib.Core.Path.{◌≡◌, refl, ap, sym, ◌∙◌}
+use Prim.Native.Nat.{ℕ, ◌+◌, ◌-◌, ◌*◌, ◌<◌, ◌≤◌}
+use mathlib.Core.Path.{◌≡◌, refl, ap, ◌∙◌}
 use mathlib.Core.List.{List, [], ◌∷◌, ◌++◌, append_assoc}
 use mathlib.Core.Bool.{true, false, ◌&&◌}
 use borrow.Author.Tests.{leb-true}
 use lib.Dec.{leb}
 use native.Mathlib.Numerals.{add-one}
 use native.Mathlib.Omega.{arith}
-use lib.ListN.{length, get_or, take, drop, set, length-append, length-take}
+use lib.ListN.{length, get_or, take, drop, set}
 use borrow.Rule.Slice.PartMut.{put_mid}
 use lib.Seq.{length-take-le, take-suc, take_at, drop_at, drop-drop}
 use Rattle.count.proofs.laws.Lists.{rest, to_end}
@@ -17,8 +17,6 @@ use Rattle.record.specs.declared.Record.{Record}
 use Rattle.record.specs.Memory.{Memory, memory}
 use Rattle.record.specs.Bytes.{bytes4, num_bytes, numbers_of, encode}
 use Rattle.record.specs.Keep.{storing, longer, has_room, store_of}
-use Rattle.record.proofs.laws.Work.{take_short}
-use Rattle.record.specs.work.Put.{head_bytes}
 
 pub length-num_bytes : (l : List ℕ) → length (num_bytes l) ≡ 4 * length l
 unfolding num_bytes bytes4
@@ -42,21 +40,17 @@ put-more s₀ s ys v i h es ew ey =
     let n : 4 * i + 4 ≡ 4 * (i + 1) = omega arith in
     to_end (4 * i) s ys ∙ rw (ey, t, rest, d, drop-drop, n, add-one, take-suc v i 0, num_bytes-behind, append_assoc, ew)
 
--- a head and numbers written behind each other at byte `at`
-pub record-put : (buf h n : List ℕ) (at code count : ℕ) (v : List ℕ) → at + 4 ≤ length buf
-    → h ≡ head_bytes code count ++ drop 4 (take (length buf - at) (drop at buf))
-    → (b : List ℕ) → b ≡ put_mid at (length buf - at) buf h
-    → n ≡ num_bytes (take count v) ++ drop (4 * count) (take (length b - (at + 4)) (drop (at + 4) b))
-    → put_mid (at + 4) (length b - (at + 4)) b n
-    ≡ take at buf ++ (head_bytes code count ++ num_bytes (take count v)) ++ drop (at + (4 + 4 * count)) buf
-record-put buf h n at code count v room eh b eb en =
-    let p : List ℕ = take at buf ++ head_bytes code count in
-    let e : b ≡ p ++ drop (at + 4) buf = eb ∙ to_end at buf h ∙ rw (eh, rest, drop-drop, append_assoc) in
-    let l : length p ≡ at + 4 = rw (length-append, length-take-le at buf (omega arith)) in
-    let t : take (at + 4) b ≡ p = rw e (take_at p (drop (at + 4) buf) (at + 4) l) in
-    let d : drop (at + 4) b ≡ drop (at + 4) buf = rw e (drop_at p (drop (at + 4) buf) (at + 4) l) in
-    let j : at + 4 + 4 * count ≡ at + (4 + 4 * count) = omega arith in
-    to_end (at + 4) b n ∙ rw (en, t, rest, d, drop-drop, j) (simp append_assoc)
+-- a head, and the numbers behind it
+pub record-put : (s h n : List ℕ) (r : Record) → h ≡ 0xD7 ∷ 0x2B ∷ r.code ∷ length (numbers_of r) ∷ []
+    → n ≡ num_bytes (numbers_of r) ++ drop (4 * length (numbers_of r)) (take (length (h ++ drop 4 s) - 4) (drop 4 (h ++ drop 4 s)))
+    → put_mid 4 (length (h ++ drop 4 s) - 4) (h ++ drop 4 s) n ≡ encode r ++ drop (length (encode r)) s
+unfolding encode
+record-put s h n r eh en =
+    let k : length (num_bytes (numbers_of r)) ≡ 4 * length (numbers_of r) = length-num_bytes (numbers_of r) in
+    let j : 4 + 4 * length (numbers_of r) ≡ length (encode r) = omega arith in
+    let d : drop (4 * length (numbers_of r)) (drop 4 s) ≡ drop (length (encode r)) s = drop-drop (4 * length (numbers_of r)) 4 s ∙ ap (λ (m : ℕ). drop m s) j in
+    to_end 4 (h ++ drop 4 s) n
+    ∙ rw (en, rest, eh) (ap (λ (x : List ℕ). 0xD7 ∷ 0x2B ∷ r.code ∷ length (numbers_of r) ∷ num_bytes (numbers_of r) ++ x) d)
 
 -- ---- storing, as the code goes
 
@@ -69,30 +63,17 @@ room-so h n size entries e =
     let q = and_parts (leb (h.records + 1) 1000) (leb (h.used + n) 16384) p.0 in
     (leb-true (h.records + 1) 1000 q.0, leb-true (h.used + n) 16384 q.1, leb-true (h.used + n) size p.1, leb-true (h.records + 1) entries o.1)
 
-module _ (r : Record) {n : ℕ} (long : length r.words ≡ 8) (e : n ≡ min r.count 8) where
-  count-as : length (numbers_of r) ≡ n
-  count-as = length-take r.count r.words ∙ rw long (sym e)
+pub encode-long : (r : Record) → length (encode r) ≡ 4 + 4 * length (numbers_of r)
+unfolding encode
+encode-long r = omega (arith, length-num_bytes (numbers_of r))
 
-  pub numbers_as : numbers_of r ≡ take n r.words
-  numbers_as = sym (take_short r.count r.words) ∙ ap (λ (k : ℕ). take k r.words) count-as
+module _ (r : Record) (h : Held) (m : Memory) where
+  pub kept-not : has_room h (4 + 4 * length (numbers_of r)) (length m.store) (length m.table) ≡ false → storing (record { stored = false; held = h }) m ≡ store_of h r m
+  unfolding store_of
+  kept-not p = rw (encode-long r, p)
 
-  pub encode-as : encode r ≡ head_bytes r.code n ++ num_bytes (take n r.words)
-  unfolding encode
-  encode-as = rw (numbers_as, ap length (sym numbers_as) ∙ count-as)
-
-  pub encode-long : length (encode r) ≡ 4 + 4 * n
-  unfolding encode
-  encode-long =
-      let l : length (num_bytes (numbers_of r)) ≡ 4 * n = length-num_bytes (numbers_of r) ∙ ap (λ (k : ℕ). 4 * k) count-as in
-      omega arith
-
-  module _ (h : Held) (m : Memory) where
-    pub kept-not : has_room h (4 + 4 * n) (length m.store) (length m.table) ≡ false → storing (record { stored = false; held = h }) m ≡ store_of h r m
-    unfolding store_of
-    kept-not p = rw (encode-long, p)
-
-    pub kept-so : has_room h (4 + 4 * n) (length m.store) (length m.table) ≡ true
-        → {t : List ℕ} → t ≡ take h.used m.store ++ (head_bytes r.code n ++ num_bytes (take n r.words)) ++ drop (h.used + (4 + 4 * n)) m.store
-        → storing (record { stored = true; held = longer h (4 + 4 * n) }) (memory t (set m.table h.records h.used)) ≡ store_of h r m
-    unfolding store_of
-    kept-so p q = rw (encode-long, p, encode-as, q)
+  pub kept-so : has_room h (4 + 4 * length (numbers_of r)) (length m.store) (length m.table) ≡ true
+      → {t : List ℕ} → t ≡ encode r ++ drop (length (encode r)) (take (length m.store - h.used) (drop h.used m.store))
+      → storing (record { stored = true; held = longer h (4 + 4 * length (numbers_of r)) }) (memory (put_mid h.used (length m.store - h.used) m.store t) (set m.table h.records h.used)) ≡ store_of h r m
+  unfolding store_of
+  kept-so p {t} q = rw (encode-long r, p, to_end h.used m.store t, q, rest, encode-long r, drop-drop, append_assoc)

@@ -11,7 +11,8 @@ use Rattle.count.specs.Pick.{pick}
 use Rattle.count.proofs.laws.Words.{length-pad}
 use Rattle.count.specs.Words.{pad}
 use Rattle.record.specs.declared.Record.{Record}
-use Rattle.record.specs.Bytes.{Got, Wrong, bytes4, num_bytes, numbers_of, encode, word_at, words_of, made, length_of, is_right, if_right, front}
+use Rattle.record.specs.Bytes.{bytes4, num_bytes, numbers_of, encode, word_at, words_of, made, length_of, is_right, if_right, front}
+use Rattle.record.specs.declared.Found.TheVariants.{Got, Wrong}
 use Rattle.record.specs.Bytes.{Below}
 use Rattle.record.proofs.laws.Below.{below_none, below-cons, below-take, below-pad, below-drop}
 use Rattle.record.proofs.laws.Work.{length-words}

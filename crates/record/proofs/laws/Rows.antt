@@ -4,7 +4,10 @@ use mathlib.Core.Path.{◌≡◌, refl, ap}
 use mathlib.Core.List.{List}
 use mathlib.Core.Bool.{true, false, ◌||◌}
 use lib.Dec.{eqb}
+use Rattle.std.proofs.Common.{lt-ltb, le-ltb, le-leb, eq-eqb, ne_eqb}
+use Rattle.std.proofs.lemmas.Bool.{lt-leb}
 use Rattle.count.specs.Pick.{pick}
+use Rattle.count.proofs.laws.Laws.{within-up}
 use Rattle.count.specs.Ranges.{in_speed, nth, right_count, right_speeds}
 use Rattle.record.specs.Fault.{Asks, axes_named, is_movement, is_code, count_right, axes_right, ranges_right, speeds_right}
 use Rattle.record.proofs.laws.Faultless.{row-none, one_byte, by_byte, by_code-each}
@@ -43,3 +46,6 @@ unfolding ranges_right
 ranges-none axes c l p q r s t u v x y z =
     one_byte (λ (k : ℕ). ranges_right axes k l ≡ true) c 110 refl
     (λ e. ap (λ (a : Asks). a.ranges axes l) (row-none c (record { not-0 = p; not-m = q; not-n = e; not-z = r; not-3 = s; not-5 = t; not-1 = u; not-2 = v; not-e = x; not_f = y; not-y = z })))
+
+-- the columns, for the functions that read them
+pub ruleset rows = (code-so, count-so, axes-so, speeds-so, lt-ltb, le-ltb, le-leb, lt-leb, eq-eqb, ne_eqb, within-up)

@@ -9,7 +9,9 @@ use lib.Seq.{length-take-le, take_at, drop_at}
 use Rattle.count.specs.Pick.{pick}
 use Rattle.record.specs.declared.Held.{Held}
 use Rattle.record.specs.declared.Record.{Record}
-use Rattle.record.specs.Bytes.{Fetch, Got, End, Wrong, encode, length_of, front}
+use Rattle.record.specs.Bytes.{encode, length_of, front}
+use Rattle.record.specs.declared.Found.{Found}
+use Rattle.record.specs.declared.Found.TheVariants.{Got, End, Wrong}
 use Rattle.record.specs.Memory.{Memory}
 use Rattle.record.specs.Places.{in_use, Records, are, none-are, onto, then, records_from, records_of, is_list, readable_of, encode_all}
 use Rattle.record.specs.Keep.{Storing, storing, longer, has_room, with_record, store_of}
@@ -47,7 +49,7 @@ module _ (axes k : ℕ) (s : List ℕ) (b : Below 256 s) where
       }
   onto-reading r none-are l e ih p = absurd (let z : ◌≡◌ {A = ℕ} 0 1 = cc in omega arith)
 
-  then-reading : (x : Fetch) (l : List Record) → front axes s ≡ x
+  then-reading : (x : Found) (l : List Record) → front axes s ≡ x
       → ((r : Record) (m : List Record) → records_from axes k (drop (length_of r) s) ≡ are m → Reading axes k (drop (length_of r) s) m)
       → then x (λ r. records_from axes k (drop (length_of r) s)) ≡ are l → Reading axes (suc k) s l
   then-reading (Got r) l e ih p = onto-reading r (records_from axes k (drop (length_of r) s)) l e (ih r) p

@@ -1,9 +1,9 @@
 -- What stands at the front of a part where a record is found, and the laws of walking from record to record. Assumes nothing.
-use Prim.Native.Nat.{ℕ, zero, suc, ◌+◌, ◌-◌, ◌*◌, ◌<◌, ◌≤◌}
-use mathlib.Core.Path.{◌≡◌, refl, ap, sym, ◌∙◌}
+use Rattle.std.specs.Prelude.{Option, Some, None}
+use Prim.Native.Nat.{ℕ, zero, suc, ◌+◌, ◌-◌, ◌*◌, ◌≤◌}
+use mathlib.Core.Path.{◌≡◌, refl, sym, ◌∙◌}
 use mathlib.Core.List.{List, [], ◌∷◌}
 use mathlib.Core.Bool.{Bool, true, false, ◌&&◌}
-use native.Mathlib.Numerals.{sub-one}
 use native.Mathlib.Omega.{arith}
 use borrow.Author.Tests.{leb-true, eqb-true, eq-eqb, ne_eqb}
 use lib.Dec.{ltb, leb, eqb}
@@ -14,11 +14,10 @@ use Rattle.count.proofs.laws.Lists.{rest}
 use Rattle.count.proofs.laws.Truth.{and_parts}
 use Rattle.record.specs.declared.Held.{Held}
 use Rattle.record.specs.declared.Record.{Record}
-use Rattle.record.specs.declared.Fetched.{Fetched}
-use Rattle.record.specs.declared.Spot.{Spot}
-use Rattle.record.specs.declared.Spot.TheVariants as spot
-use Rattle.record.specs.Bytes.{Fetch, Got, End, Wrong, words_of, made, length_of, is_right, front}
-use Rattle.record.specs.Places.{in_use, answered, past, spot_from, Records, are, none-are, onto, then, records_from, records_of, is_list, readable_of}
+use Rattle.record.specs.Bytes.{words_of, made, length_of, is_right, front}
+use Rattle.record.specs.declared.Found.{Found}
+use Rattle.record.specs.declared.Found.TheVariants.{Got, End, Wrong}
+use Rattle.record.specs.Places.{in_use, past, spot_from, Records, are, none-are, onto, then, records_from, records_of, is_list, readable_of}
 use Rattle.record.proofs.laws.Work.{length-words, part-within, part-all}
 
 -- ---- a record found
@@ -66,48 +65,48 @@ module _ (axes : ℕ) (s : List ℕ) {r : Record} where
 
 -- ---- one step of the walk, as the code takes it
 
-room_by : (axes : ℕ) (s : List ℕ) (x : Fetch) → front axes s ≡ x → (answered x).len ≤ length s
-room_by axes s (Got r) e = front-room axes s e
-room_by axes s End e = omega arith
-room_by axes s Wrong e = omega arith
+past-wrong : (x : Found) (f : ℕ → Option ℕ) → ((r : Record) → x ≡ Got r → ⊥) → past x f ≡ None
+past-wrong (Got r) f n = absurd (n r refl)
+past-wrong End f n = refl
+past-wrong Wrong f n = refl
 
-past-wrong : (x : Fetch) (f : ℕ → Spot) → (answered x).len ≡ 0 → past x f ≡ spot.Wrong
-past-wrong (Got r) f e = absurd (omega arith)
-past-wrong End f e = refl
-past-wrong Wrong f e = refl
+then-none : (x : Found) (f : Record → Records) → ((r : Record) → x ≡ Got r → ⊥) → is_list (then x f) ≡ true → ⊥
+then-none (Got r) f n e = n r refl
+then-none End f n e = let z : ◌≡◌ {A = ℕ} 0 1 = cc in omega arith
+then-none Wrong f n e = let z : ◌≡◌ {A = ℕ} 0 1 = cc in omega arith
 
-past-on : (x : Fetch) (f : ℕ → Spot) → ((answered x).len ≡ 0 → ⊥) → past x f ≡ f (answered x).len
-past-on (Got r) f e = refl
-past-on End f e = absurd (e refl)
-past-on Wrong f e = absurd (e refl)
+module _ (axes left : ℕ) (s : List ℕ) (at : ℕ) where
+  module _ {x : Found} (e : x ≡ front axes (take (length s - at) (drop at s))) (n : (r : Record) → x ≡ Got r → ⊥) where
+    step-not : front axes (drop at s) ≡ x
+    step-not = sym (rw rest at e)
 
-spot-next : (axes left : ℕ) (s : List ℕ) (at : ℕ) → 0 < left
-    → spot_from axes left s at ≡ past (front axes (drop at s)) (λ n. spot_from axes (left - 1) s (at + n))
-unfolding spot_from
-spot-next axes zero s at h = absurd (omega arith)
-spot-next axes (suc left) s at h = rw sub-one
+    pub step-wrong : spot_from axes (suc left) s at ≡ None
+    unfolding spot_from
+    step-wrong = rw step-not (past-wrong x _ n)
 
-module _ (axes left : ℕ) (s : List ℕ) (at : ℕ) {f : Fetched} (e : f ≡ answered (front axes (take (length s - at) (drop at s)))) where
-  len-as : f.len ≡ (answered (front axes (drop at s))).len
-  len-as = rw rest at (ap (λ (x : Fetched). x.len) e)
+    -- where the part is readable, a record is found
+    pub step-none : is_list (records_from axes (suc left) (drop at s)) ≡ true → ⊥
+    unfolding records_from
+    step-none h = then-none x _ n (rw step-not at h)
 
-  pub step-wrong : 0 < left → f.len ≡ 0 → spot_from axes left s at ≡ spot.Wrong
-  step-wrong h z = spot-next axes left s at h ∙ past-wrong (front axes (drop at s)) _ (sym len-as ∙ z)
+  module _ {r : Record} (e : Got r ≡ front axes (take (length s - at) (drop at s))) where
+    pub step-got : front axes (drop at s) ≡ Got r
+    step-got = sym (rw rest at e)
 
-  pub step-on : 0 < left → (f.len ≡ 0 → ⊥) → spot_from axes left s at ≡ spot_from axes (left - 1) s (at + f.len)
-  step-on h z =
-      spot-next axes left s at h ∙ past-on (front axes (drop at s)) _ (λ y. z (len-as ∙ y)) ∙ ap (λ (n : ℕ). spot_from axes (left - 1) s (at + n)) (sym len-as)
+    pub step-on : spot_from axes (suc left) s at ≡ spot_from axes left s (at + length_of r)
+    unfolding spot_from
+    step-on = rw step-got
 
-  pub step_room : at ≤ length s → at + f.len ≤ length s
-  step_room l =
-      let g : (answered (front axes (drop at s))).len ≤ length s - at = rw length-drop at (room_by axes (drop at s) (front axes (drop at s)) refl) in
-      omega (arith, len-as)
+    pub step_room : at ≤ length s → at + length_of r ≤ length s
+    step_room l =
+        let g : length_of r ≤ length s - at = rw length-drop at (front-room axes (drop at s) step-got) in
+        omega arith
 
 -- ---- readable: the walk past the last record ends where the part in use ends
 
-abbrev pub ends_at : ℕ → Spot → Bool
-ends_at n (spot.At at) = eqb at n
-ends_at n spot.Wrong = false
+abbrev pub ends_at : ℕ → Option ℕ → Bool
+ends_at n (Some at) = eqb at n
+ends_at n None = false
 
 none_left : (axes : ℕ) (l : List ℕ) (n at : ℕ) → length l ≡ n - at → at ≤ n → is_list (records_from axes 0 l) ≡ eqb at n
 unfolding records_from
@@ -118,7 +117,7 @@ is-onto : (r : Record) (x : Records) → is_list (onto r x) ≡ is_list x
 is-onto r (are l) = refl
 is-onto r none-are = refl
 
-list-by : (axes k : ℕ) (s : List ℕ) (at : ℕ) (x : Fetch) → front axes (drop at s) ≡ x → at ≤ length s
+list-by : (axes k : ℕ) (s : List ℕ) (at : ℕ) (x : Found) → front axes (drop at s) ≡ x → at ≤ length s
     → ((a : ℕ) → a ≤ length s → is_list (records_from axes k (drop a s)) ≡ ends_at (length s) (spot_from axes k s a))
     → is_list (then x (λ r. records_from axes k (drop (length_of r) (drop at s)))) ≡ ends_at (length s) (past x (λ n. spot_from axes k s (at + n)))
 list-by axes k s at (Got r) e h f =
@@ -141,7 +140,7 @@ module _ (h : Held) (s : List ℕ) {e : ℕ} (p : e ≡ length (in_use h s)) whe
       let l : length (take e s) ≡ e = length-take-le e s w.0 in
       (sym l, omega arith)
 
-  pub readable-here : {x : Spot} → x ≡ spot_from h.axes h.records (take e s) 0 → ends_at e x ≡ readable_of h s
+  pub readable-here : {x : Option ℕ} → x ≡ spot_from h.axes h.records (take e s) 0 → ends_at e x ≡ readable_of h s
   unfolding readable_of records_of
   readable-here q =
       rw (q, part-all h.used s p, p) (sym (list-walk h.axes h.records (in_use h s) 0 (omega arith)))

@@ -5,10 +5,14 @@ use mathlib.Core.List.{List, [], ◌∷◌, ◌++◌}
 use mathlib.Core.Bool.{Bool, true, false, ◌&&◌}
 use native.Mathlib.Numerals.{add-one}
 use native.Mathlib.Omega.{arith}
-use borrow.Author.Tests.{lt-ltb, eq-eqb, ne_eqb, leb-true}
+use borrow.Author.Tests.{lt-ltb, ne_eqb, leb-true}
 use lib.Dec.{ltb, leb, eqb}
 use lib.ListN.{length, get_or, take, drop, set, length-take, length-drop}
 use lib.Seq.{take-nil, drop-drop}
+use Rattle.std.specs.Prelude.{Some, None}
+use Rattle.std.proofs.lemmas.Option.{none-some, same_Some}
+use Rattle.count.specs.declared.Fault.{Fault}
+use Rattle.count.specs.Refusals.{letter_of}
 use Rattle.count.specs.Pick.{pick}
 use Rattle.count.proofs.laws.Words.{pad-put}
 use Rattle.count.specs.Words.{pad}
@@ -16,9 +20,11 @@ use Rattle.count.proofs.laws.Lists.{rest}
 use Rattle.count.proofs.laws.Truth.{and_parts}
 use Rattle.record.specs.declared.Held.{Held}
 use Rattle.record.specs.Fault.{fault_of}
-use Rattle.record.specs.Bytes.{Got, Wrong, word_at, words_of, made, if_right, front}
+use Rattle.record.specs.Bytes.{word_at, words_of, made, if_right, front}
+use Rattle.record.specs.declared.Found.TheVariants.{Got, Wrong}
 use Rattle.record.specs.Places.{in_use, record_at}
 use Rattle.record.specs.work.Work.{head_of}
+use Rattle.record.proofs.laws.Replies.{letter-some}
 
 -- ---- the numbers of a record, one after the other
 
@@ -42,53 +48,53 @@ read_more s i {w} e =
 
 -- a head that is one
 pub record Whole (axes : ℕ) (s : List ℕ) (n : ℕ) : Type 0 where
+  pub few : n ≤ 8
   pub fits : 4 + 4 * n ≤ length s
   pub reads : front axes s ≡ if_right axes (made (get_or s 2 0) (words_of n (drop 4 s)))
 
 module _ (axes : ℕ) (s : List ℕ) where
   head-by : (a b c : Bool) → ltb (length s) 4 ≡ a → eqb (get_or s 0 0) 0xD7 && eqb (get_or s 1 0) 0x2B ≡ b
-      → leb (get_or s 3 0) 8 && leb (4 + 4 * get_or s 3 0) (length s) ≡ c → head_of s ≤ 8 → Whole axes s (head_of s)
+      → leb (get_or s 3 0) 8 && leb (4 + 4 * get_or s 3 0) (length s) ≡ c → {n : ℕ} → Some n ≡ head_of s → Whole axes s n
   unfolding head_of front
-  head-by true b c p q r h = absurd (omega (arith, rw p at h))
-  head-by false false c p q r h = absurd (omega (arith, rw (p, q) at h))
-  head-by false true false p q r h = absurd (omega (arith, rw (p, q, r) at h))
-  head-by false true true p q r h =
+  head-by true b c p q r {n} h = absurd (none-some n (sym (rw p at h)))
+  head-by false false c p q r {n} h = absurd (none-some n (sym (rw (p, q) at h)))
+  head-by false true false p q r {n} h = absurd (none-some n (sym (rw (p, q, r) at h)))
+  head-by false true true p q r {n} h =
       let e = and_parts (leb (get_or s 3 0) 8) (leb (4 + 4 * get_or s 3 0) (length s)) r in
-      rw (p, q, r) (record { fits = leb-true (4 + 4 * get_or s 3 0) (length s) e.1; reads = rw (p, q, r) })
+      let i : n ≡ get_or s 3 0 = same_Some n (get_or s 3 0) (rw (p, q, r) at h) in
+      rw i (record {
+        few = leb-true (get_or s 3 0) 8 e.0;
+        fits = leb-true (4 + 4 * get_or s 3 0) (length s) e.1;
+        reads = rw (p, q, r);
+      })
 
-  pub head-whole : head_of s ≤ 8 → Whole axes s (head_of s)
+  pub head-whole : {n : ℕ} → Some n ≡ head_of s → Whole axes s n
   head-whole h = head-by _ _ _ refl refl refl h
 
   front_by : (a b c : Bool) → ltb (length s) 4 ≡ a → eqb (get_or s 0 0) 0xD7 && eqb (get_or s 1 0) 0x2B ≡ b
-      → leb (get_or s 3 0) 8 && leb (4 + 4 * get_or s 3 0) (length s) ≡ c → 8 < head_of s → front axes s ≡ Wrong
+      → leb (get_or s 3 0) 8 && leb (4 + 4 * get_or s 3 0) (length s) ≡ c → None ≡ head_of s → front axes s ≡ Wrong
   unfolding head_of front
   front_by true b c p q r h = rw p
   front_by false false c p q r h = rw (p, q)
   front_by false true false p q r h = rw (p, q, r)
-  front_by false true true p q r h =
-      let e = and_parts (leb (get_or s 3 0) 8) (leb (4 + 4 * get_or s 3 0) (length s)) r in
-      absurd (omega (arith, rw (p, q, r) at h, leb-true (get_or s 3 0) 8 e.0))
+  front_by false true true p q r h = absurd (none-some (get_or s 3 0) (rw (p, q, r) at h))
 
-  pub front-none : {n : ℕ} → n ≡ head_of s → 8 < n → front axes s ≡ Wrong
-  front-none e h = front_by _ _ _ refl refl refl (rw e at h)
-
-  pub head-room : {n : ℕ} → n ≡ head_of s → n ≤ 8 → 4 + 4 * n ≤ length s
-  head-room e h = rw e (head-whole (rw e at h)).fits
+  pub front-none : None ≡ head_of s → front axes s ≡ Wrong
+  front-none h = front_by _ _ _ refl refl refl h
 
   -- the code's own reading of a head that is one
-  module _ {n : ℕ} {w : List ℕ} (e : n ≡ head_of s) (h : n ≤ 8) (v : w ≡ pad 8 (words_of n (take (length s - 4) (drop 4 s)))) where
+  module _ {n : ℕ} {w : List ℕ} (h : Some n ≡ head_of s) (v : w ≡ pad 8 (words_of n (take (length s - 4) (drop 4 s)))) where
     read_as : front axes s ≡ pick (eqb (fault_of axes (get_or s 2 0) n w) 48) (Got (record { code = get_or s 2 0; count = n; words = w })) Wrong
     read_as =
         let x : w ≡ pad 8 (words_of n (drop 4 s)) = v ∙ rw rest in
         let y : length (words_of n (drop 4 s)) ≡ n = length-words n (drop 4 s) in
-        (head-whole (rw e at h)).reads ∙ rw (← e, x, y)
+        (head-whole h).reads ∙ rw (← x, y)
 
-    module _ {f : ℕ} (g : f ≡ fault_of axes (get_or s 2 0) n w) where
-      pub front-wrong : (f ≡ 48 → ⊥) → front axes s ≡ Wrong
-      front-wrong o = read_as ∙ rw (← g, ne_eqb f 48 o)
+    pub front-wrong : (f : Fault) → letter_of f ≡ fault_of axes (get_or s 2 0) n w → front axes s ≡ Wrong
+    front-wrong f g = read_as ∙ rw (← g, ne_eqb (letter_of f) 48 (letter-some f))
 
-      pub front-right : f ≡ 48 → front axes s ≡ Got (record { code = get_or s 2 0; count = n; words = w })
-      front-right o = read_as ∙ rw (← g, eq-eqb f 48 o)
+    pub front-right : 48 ≡ fault_of axes (get_or s 2 0) n w → front axes s ≡ Got (record { code = get_or s 2 0; count = n; words = w })
+    front-right g = read_as ∙ rw (← g)
 
 -- ---- a record of the part in use
 

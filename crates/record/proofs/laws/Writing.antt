@@ -1,14 +1,14 @@
 -- A text written piece by piece into a buffer, and the pieces of a listing. Assumes nothing.
-use Prim.Native.Nat.{ℕ, zero, suc, min, ◌+◌, ◌-◌, ◌*◌, ◌<◌, ◌≤◌}
+use Prim.Native.Nat.{ℕ, zero, suc, ◌+◌, ◌-◌, ◌*◌, ◌<◌, ◌≤◌}
 use mathlib.Core.Path.{◌≡◌, refl, ap, sym, ◌∙◌}
 use mathlib.Core.List.{List, [], ◌∷◌, ◌++◌, append_assoc}
 use mathlib.Core.Bool.{Bool, true, false}
-use native.Mathlib.Numerals.{add-one, sub-one}
+use native.Mathlib.Numerals.{add-one}
 use native.Mathlib.Omega.{arith}
 use borrow.Author.Tests.{ne_eqb, eq-eqb}
 use lib.Dec.{eqb}
-use lib.ListN.{length, get_or, take, drop, set, length-append, length-take, length-drop, length-set, drop_of_length-le}
-use lib.Seq.{length-take-le, take_all, take-add, take_at, drop_at, drop-drop, drop-cons, drop-append_seam, take-append_seam, set_at, get_or-take}
+use lib.ListN.{length, get_or, take, drop, set, length-append, length-drop, length-set, drop_of_length-le}
+use lib.Seq.{length-take-le, take_all, take-add, take_at, drop_at, drop-drop, drop-cons, drop-append_seam, take-append_seam, set_at}
 use borrow.Rule.Slice.PartMut.{put_mid, same_len_mid}
 use Rattle.count.specs.Pick.{pick}
 use Rattle.count.specs.Numbers.{signed}
@@ -16,10 +16,10 @@ use Rattle.count.specs.Text.{Written, written, wrote, shown}
 use Rattle.count.proofs.laws.Digits.{wrote-long, shown-most}
 use Rattle.count.proofs.laws.Lists.{rest, to_end, set_front, drop-one}
 use Rattle.record.specs.declared.Record.{Record}
-use Rattle.record.specs.declared.Fetched.{Fetched}
-use Rattle.record.specs.Bytes.{Fetch, Got, End, Wrong, length_of, front}
-use Rattle.record.specs.Places.{answered, Records, are, none-are, onto, then, records_from, is_list}
-use Rattle.record.proofs.laws.Put.{numbers_as}
+use Rattle.record.specs.Bytes.{numbers_of, length_of, front}
+use Rattle.record.specs.declared.Found.TheVariants.{Got}
+use Rattle.record.specs.Places.{Records, are, none-are, onto, records_from, is_list}
+use Rattle.record.proofs.laws.Walk.{step-got}
 use Rattle.record.specs.Listing.{more, numbers_text, line_text, list_text}
 use Rattle.record.specs.work.Writing.{item_text, line_left, list_in}
 
@@ -112,15 +112,11 @@ module _ (i w : ℕ) (s : List ℕ) {k : ℕ} {t : List ℕ} where
 
 -- ---- one turn of `put_tail`
 
-pub tail-next : (i n : ℕ) (v : List ℕ) → i < n → n ≤ length v → line_left i (drop i (take n v)) ≡ item_text i (get_or v i 0) ++ line_left (i + 1) (drop (i + 1) (take n v))
-tail-next i n v h l =
-    let m : i < length (take n v) = rw (length-take-le n v l) h in
-    rw (drop-cons (take n v) i 0 m, get_or-take n v i 0 h, ← add-one i) (line-next i (get_or v i 0) (drop (i + 1) (take n v)))
+pub tail-next : (i : ℕ) (v : List ℕ) → i < length v → line_left i (drop i v) ≡ item_text i (get_or v i 0) ++ line_left (i + 1) (drop (i + 1) v)
+tail-next i v h = rw (drop-cons v i 0 h, ← add-one i) (line-next i (get_or v i 0) (drop (i + 1) v))
 
-pub tail-done : (i n : ℕ) (v : List ℕ) → n ≤ i → line_left i (drop i (take n v)) ≡ 13 ∷ []
-tail-done i n v h =
-    let m : length (take n v) ≤ i = rw length-take (omega arith) in
-    rw (drop_of_length-le (take n v) m) (line-done i)
+pub tail-done : (i : ℕ) (v : List ℕ) → length v ≤ i → line_left i (drop i v) ≡ 13 ∷ []
+tail-done i v h = rw (drop_of_length-le v h) (line-done i)
 
 item_by : (b : Bool) (t : List ℕ) → length t ≤ 11 → length (pick b t (44 ∷ t)) ≤ 12
 item_by true t h = omega arith
@@ -140,38 +136,28 @@ unfolding line_left numbers_text
 tail-most [] = omega arith
 tail-most (w ∷ l) = simp length-append (omega (arith, shown-most (signed w), more-most l))
 
-pub tail-long : (n : ℕ) (v : List ℕ) → n ≤ 8 → length (line_left 0 (take n v)) ≤ 97
-tail-long n v h =
-    let m : length (take n v) ≤ 8 = rw length-take (omega arith) in
-    omega (arith, tail-most (take n v))
+pub tail-long : (v : List ℕ) → length v ≤ 8 → length (line_left 0 v) ≤ 97
+tail-long v h = omega (arith, tail-most v)
 
 -- a whole line from its tail
-pub line_as : (r : Record) {n : ℕ} → length r.words ≡ 8 → n ≡ min r.count 8 → line_text r ≡ r.code ∷ line_left 0 (take n r.words)
+pub line_as : (r : Record) → line_text r ≡ r.code ∷ line_left 0 (numbers_of r)
 unfolding line_text line_left
-line_as r l e = rw (numbers_as r l e)
+line_as r = refl
 
-module _ (axes k : ℕ) (s : List ℕ) (at : ℕ) where
-  onto-lines : (r : Record) (x : Records) → is_list (onto r x) ≡ true → (list_text (list_in (onto r x)) ≡ line_text r ++ list_text (list_in x)) × (is_list x ≡ true)
-  unfolding list_text
-  onto-lines r (are l) e = (refl, refl)
-  onto-lines r none-are e = absurd (let z : ◌≡◌ {A = ℕ} 0 1 = cc in omega arith)
-
-  lines-by : (x : Fetch) → is_list (then x (λ r. records_from axes k (drop (length_of r) (drop at s)))) ≡ true
-      → (list_text (list_in (then x (λ r. records_from axes k (drop (length_of r) (drop at s)))))
-      ≡ line_text (answered x).item ++ list_text (list_in (records_from axes k (drop (at + (answered x).len) s))))
-      × (is_list (records_from axes k (drop (at + (answered x).len) s)) ≡ true)
-  lines-by (Got r) e = rw (← drop-drop (length_of r) at s) (onto-lines r (records_from axes k (drop (length_of r) (drop at s))) e)
-  lines-by End e = absurd (let z : ◌≡◌ {A = ℕ} 0 1 = cc in omega arith)
-  lines-by Wrong e = absurd (let z : ◌≡◌ {A = ℕ} 0 1 = cc in omega arith)
+onto-lines : (r : Record) (x : Records) → is_list (onto r x) ≡ true → (list_text (list_in (onto r x)) ≡ line_text r ++ list_text (list_in x)) × (is_list x ≡ true)
+unfolding list_text
+onto-lines r (are l) e = (refl, refl)
+onto-lines r none-are e = absurd (let z : ◌≡◌ {A = ℕ} 0 1 = cc in omega arith)
 
 -- one turn of `put_lines`
-pub lines_next : (axes left : ℕ) (s : List ℕ) (at : ℕ) {f : Fetched} → f ≡ answered (front axes (take (length s - at) (drop at s))) → 0 < left
-    → is_list (records_from axes left (drop at s)) ≡ true
-    → (list_text (list_in (records_from axes left (drop at s))) ≡ line_text f.item ++ list_text (list_in (records_from axes (left - 1) (drop (at + f.len) s))))
-    × (is_list (records_from axes (left - 1) (drop (at + f.len) s)) ≡ true)
+pub lines_next : (axes left : ℕ) (s : List ℕ) (at : ℕ) {r : Record} → Got r ≡ front axes (take (length s - at) (drop at s))
+    → is_list (records_from axes (suc left) (drop at s)) ≡ true
+    → (list_text (list_in (records_from axes (suc left) (drop at s))) ≡ line_text r ++ list_text (list_in (records_from axes left (drop (at + length_of r) s))))
+    × (is_list (records_from axes left (drop (at + length_of r) s)) ≡ true)
 unfolding records_from
-lines_next axes zero s at q h e = absurd (omega arith)
-lines_next axes (suc left) s at q h e = rw (q, rest, sub-one) (lines-by axes left s at (front axes (drop at s)) e)
+lines_next axes left s at {r} q e =
+    let g = step-got axes left s at q in
+    rw (g, ← drop-drop (length_of r) at s) (onto-lines r (records_from axes left (drop (length_of r) (drop at s))) (rw g at e))
 
 -- what is left behind the last record
 none-by : (axes : ℕ) (l : List ℕ) → is_list (records_from axes 0 l) ≡ true → list_text (list_in (records_from axes 0 l)) ≡ 57 ∷ 13 ∷ []
@@ -182,12 +168,12 @@ none-by axes (x ∷ l) e = absurd (let z : ◌≡◌ {A = ℕ} 0 1 = cc in omega
 pub lines-done : (axes left : ℕ) (l : List ℕ) → left ≡ 0 → is_list (records_from axes left l) ≡ true → list_text (list_in (records_from axes left l)) ≡ 57 ∷ 13 ∷ []
 lines-done axes left l z e = rw z (none-by axes l (rw z at e))
 
-pub lines-turn : (T t₀ t ys s : List ℕ) (axes left at out : ℕ) {f : Fetched} {n : ℕ} → f ≡ answered (front axes (take (length s - at) (drop at s))) → 0 < left
-    → is_list (records_from axes left (drop at s)) ≡ true → length T ≤ length t₀ → Writing T t₀ t out (list_text (list_in (records_from axes left (drop at s))))
-    → length ys ≡ length (take (length t - out) (drop out t)) → n ≡ length (line_text f.item)
-    → ys ≡ line_text f.item ++ drop (length (line_text f.item)) (take (length t - out) (drop out t))
-    → (is_list (records_from axes (left - 1) (drop (at + f.len) s)) ≡ true)
-    × Writing T t₀ (put_mid out (length t - out) t ys) (out + n) (list_text (list_in (records_from axes (left - 1) (drop (at + f.len) s))))
-lines-turn T t₀ t ys s axes left at out {f} q h e fits w kept m y =
-    let x = lines_next axes left s at q h e in
-    (x.1, rw m (write-part T t₀ t out fits (line_text f.item) (list_text (list_in (records_from axes (left - 1) (drop (at + f.len) s)))) ys (write-left x.0 w) kept y))
+pub lines-turn : (T t₀ t ys s : List ℕ) (axes left at out : ℕ) {r : Record} {n : ℕ} → Got r ≡ front axes (take (length s - at) (drop at s))
+    → is_list (records_from axes (suc left) (drop at s)) ≡ true → length T ≤ length t₀ → Writing T t₀ t out (list_text (list_in (records_from axes (suc left) (drop at s))))
+    → length ys ≡ length (take (length t - out) (drop out t)) → n ≡ length (line_text r)
+    → ys ≡ line_text r ++ drop (length (line_text r)) (take (length t - out) (drop out t))
+    → (is_list (records_from axes left (drop (at + length_of r) s)) ≡ true)
+    × Writing T t₀ (put_mid out (length t - out) t ys) (out + n) (list_text (list_in (records_from axes left (drop (at + length_of r) s))))
+lines-turn T t₀ t ys s axes left at out {r} q e fits w kept m y =
+    let x = lines_next axes left s at q e in
+    (x.1, rw m (write-part T t₀ t out fits (line_text r) (list_text (list_in (records_from axes left (drop (at + length_of r) s)))) ys (write-left x.0 w) kept y))

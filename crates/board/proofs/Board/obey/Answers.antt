@@ -2,6 +2,6 @@
 use Rattle.board.specs.work.Work.{line_fault, obeyed}
 use Rattle.board.proofs.Board.obey.Goals as goal
 
-pub returns-in-None : goal.returns-in-None
+pub returns-in_default : goal.returns-in_default
 unfolding obeyed line_fault
-returns-in-None c = rw c.in-None.is c.replies.ensures
+returns-in_default c = rw c.in_default.is (rw c.letter.ensures at c.replies.ensures)

@@ -15,7 +15,14 @@ pub returns-then-not-is_known : goal.returns-then-not-is_known
 unfolding listing_state
 returns-then-not-is_known c = simp (eq-eqb _ _ c.if-store-ne16384.false, ← c.is_known.ensures, (ap not c.if-not-is_known.true), c.written-then-not-is_known.ensures)
 
-pub returns : goal.returns
-returns c = let a = c.args in
-    ap (λ x. listed x c.list-t.new.text) c.written-2.ensures
-    ∙ listed-so a.state (sym c.is_known.ensures ∙ c.if-not-is_known.false) c.«open».ensures a.store.now a.text.now c.if-store-ne16384.false c.list-t.ensures
+pub returns-in-Ok : goal.returns-in-Ok
+returns-in-Ok c =
+    let a = c.args in
+    ap (λ x. listed x c.list.new.text) c.written-in-Ok.ensures
+    ∙ listed-so a.state (sym c.is_known.ensures ∙ c.if-not-is_known.false) c.«open».ensures a.store.now a.text.now c.if-store-ne16384.false c.in-Ok.ensures
+
+pub returns-in-Err : goal.returns-in-Err
+returns-in-Err c =
+    let a = c.args in
+    ap (λ x. listed x c.list.new.text) (rw c.number.ensures at c.written-in-Err.ensures)
+    ∙ listed-so a.state (sym c.is_known.ensures ∙ c.if-not-is_known.false) c.«open».ensures a.store.now a.text.now c.if-store-ne16384.false c.in-Err.ensures

@@ -1,33 +1,30 @@
 -- `record::record_in` meets its contract: the head, the numbers and what is wrong with them. Assumes nothing.
-use mathlib.Core.Path.{ap, sym, ◌∙◌}
-use native.Mathlib.Omega.{arith}
-use Rattle.record.specs.Places.{answered}
-use Rattle.record.proofs.laws.Work.{head-room, front-none, front-wrong, front-right}
+use Rattle.std.proofs.Common.{sym, arith}
+use Rattle.record.proofs.laws.Work.{head-whole, front-none, front-wrong, front-right}
 use Rattle.record.proofs.bytes.record_in.Goals as goal
 
-pub returns-then-n-gt8 : goal.returns-then-n-gt8
-returns-then-n-gt8 c = c.nothing.ensures ∙ sym (ap answered (front-none _ _ c.head-n.ensures c.if-n-gt8.true))
+pub returns-in_default : goal.returns-in_default
+returns-in_default c = sym (front-none _ _ c.in_default.ensures)
 
 pub bounds-s-2 : goal.bounds-s-2
-bounds-s-2 c =
-    omega (arith, head-room 0 c.args.s.now c.head-n.ensures c.if-n-gt8.false)
+bounds-s-2 c = omega (arith, (head-whole 0 c.args.s.now c.in-Some.ensures).fits)
 
 pub slice_bounds-read_numbers-count : goal.slice_bounds-read_numbers-count
-slice_bounds-read_numbers-count c =
-    omega (arith, head-room 0 c.args.s.now c.head-n.ensures c.if-n-gt8.false)
+slice_bounds-read_numbers-count c = omega (arith, (head-whole 0 c.args.s.now c.in-Some.ensures).fits)
 
 pub slice_bounds-read_numbers-start : goal.slice_bounds-read_numbers-start
-slice_bounds-read_numbers-start c =
-    omega (arith, head-room 0 c.args.s.now c.head-n.ensures c.if-n-gt8.false)
+slice_bounds-read_numbers-start c = omega (arith, (head-whole 0 c.args.s.now c.in-Some.ensures).fits)
 
 pub read_numbers-words-requires : goal.read_numbers-words-requires
 read_numbers-words-requires c =
-    omega (arith, head-room 0 c.args.s.now c.head-n.ensures c.if-n-gt8.false)
+    let h = head-whole 0 c.args.s.now c.in-Some.ensures in
+    omega (arith, h.few, h.fits)
 
-pub returns-then-record_fault-ne48 : goal.returns-then-record_fault-ne48
-returns-then-record_fault-ne48 c =
-    c.nothing-then-record_fault-ne48.ensures ∙ sym (ap answered (front-wrong _ _ c.head-n.ensures c.if-n-gt8.false c.read_numbers-words.ensures c.record_fault.ensures c.if-record_fault-ne48.true))
+pub overflow_cast-result : goal.overflow_cast-result
+overflow_cast-result c = omega (arith, (head-whole 0 c.args.s.now c.in-Some.ensures).few)
 
-pub returns : goal.returns
-returns c =
-    sym (ap answered (front-right _ _ c.head-n.ensures c.if-n-gt8.false c.read_numbers-words.ensures c.record_fault.ensures c.if-record_fault-ne48.false))
+pub returns-in-Ok : goal.returns-in-Ok
+returns-in-Ok c = sym (front-right _ _ c.in-Some.ensures c.read_numbers-words.ensures c.in-Ok.ensures)
+
+pub returns-in-Err : goal.returns-in-Err
+returns-in-Err c = sym (front-wrong _ _ c.in-Some.ensures c.read_numbers-words.ensures c.in-Err.field-0 c.in-Err.ensures)

@@ -1,12 +1,8 @@
 -- `record::put_numbers` meets its contract: one number a turn. Assumes nothing.
-use Prim.Native.Nat.{◌-◌, ◌*◌}
-use mathlib.Core.Path.{◌≡◌, refl, ◌∙◌}
-use native.Mathlib.Omega.{arith}
-use lib.ListN.{length}
+use Rattle.std.proofs.Common.{◌-◌, ◌*◌, length, refl, ◌∙◌, rules}
 use borrow.Rule.Slice.PartMut.{same_len_mid}
 use Rattle.record.specs.Bytes.{num_bytes}
 use Rattle.record.proofs.laws.Put.{put-more}
-use borrow.Author.Rules.{rules}
 use Rattle.record.proofs.keep.put_numbers.Goals as goal
 
 pub loop-i-init : goal.loop-i-init
@@ -15,12 +11,6 @@ loop-i-init c = search rules
 
 pub loop-i-preserved : goal.loop-i-preserved
 loop-i-preserved c = (
-  omega arith,
-  same_len_mid (4 * c.loop-i.i) (length c.loop-i.s - 4 * c.loop-i.i) c.loop-i.s c.put_number.new.s c.put_number.auto.s ∙ c.loop-i.invariant.1,
-  put-more c.args.s.now c.loop-i.s c.put_number.new.s c.args.words c.loop-i.i (search rules) c.loop-i.invariant.2 refl c.put_number.ensures,
+  same_len_mid (4 * c.loop-i.i) (length c.loop-i.s - 4 * c.loop-i.i) c.loop-i.s c.put_number.new.s c.put_number.auto.s ∙ c.loop-i.invariant.0,
+  put-more c.args.s.now c.loop-i.s c.put_number.new.s c.args.numbers.now c.loop-i.i c.loop-i-test.true c.loop-i.invariant.1 refl c.put_number.ensures,
 )
-
-pub returns : goal.returns
-returns c =
-    let e : c.loop-i.i ≡ c.args.count = omega arith in
-    c.loop-i.invariant.2 ∙ rw e

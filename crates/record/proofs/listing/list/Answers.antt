@@ -25,25 +25,25 @@ returns-then-not-readable c =
 pub slice_bounds-put_lines-end : goal.slice_bounds-put_lines-end
 slice_bounds-put_lines-end c =
     let a = c.args in
-    (end-part a.held a.store.now c.end_of-end.ensures).0
+    (end-part a.held a.store.now c.end-end.ensures).0
 
 pub put_lines-n-requires : goal.put_lines-n-requires
 put_lines-n-requires c =
     let a = c.args in
-    let b : Below 256 a.store.now = record { at = λ j. omega (arith, c.shared_slice_known-1.given j) } in
-    let g = records-part a.held a.store.now a.text.now c.end_of-end.ensures in
+    let b : Below 256 a.store.now = record { at = λ j. omega (arith, c.type_inv.store j) } in
+    let g = records-part a.held a.store.now a.text.now c.end-end.ensures in
     let u : a.held.used ≤ 16384 = c.if-held-gt16384.false in
     (told-list a.held a.store.now a.text.now (sym c.readable.ensures ∙ c.if-not-readable.false) g, omega (arith, told-room a.held a.store.now g b u, c.if-text-lt32768.false))
 
 pub overflow_cast-result : goal.overflow_cast-result
 overflow_cast-result c =
     let a = c.args in
-    let b : Below 256 a.store.now = record { at = λ j. omega (arith, c.shared_slice_known-1.given j) } in
-    let g = records-part a.held a.store.now a.text.now c.end_of-end.ensures in
+    let b : Below 256 a.store.now = record { at = λ j. omega (arith, c.type_inv.store j) } in
+    let g = records-part a.held a.store.now a.text.now c.end-end.ensures in
     let u : a.held.used ≤ 16384 = c.if-held-gt16384.false in
     omega (arith, told-room a.held a.store.now g b u, c.put_lines-n.ensures.0)
 
 pub returns : goal.returns
 returns c =
     let a = c.args in
-    told-0 a.held a.store.now a.text.now c.if-held-gt16384.false c.if-text-lt32768.false (sym c.readable.ensures ∙ c.if-not-readable.false) (records-part a.held a.store.now a.text.now c.end_of-end.ensures) c.put_lines-n.ensures.0 c.put_lines-n.ensures.1
+    told-0 a.held a.store.now a.text.now c.if-held-gt16384.false c.if-text-lt32768.false (sym c.readable.ensures ∙ c.if-not-readable.false) (records-part a.held a.store.now a.text.now c.end-end.ensures) c.put_lines-n.ensures.0 c.put_lines-n.ensures.1

@@ -27,17 +27,17 @@ returns-then-not-can_fill c =
 pub slice_bounds-put_starts-end : goal.slice_bounds-put_starts-end
 slice_bounds-put_starts-end c =
     let a = c.args in
-    (end-part a.held a.store.now c.end_of-end.ensures).0
+    (end-part a.held a.store.now c.end-end.ensures).0
 
 pub put_starts-requires : goal.put_starts-requires
 put_starts-requires c =
     let a = c.args in
     let m = memory a.store.now a.table.now in
-    let f = fill-ready a.held m (sym c.can_fill.ensures ∙ c.if-not-can_fill.false) c.end_of-end.ensures in
-    (f.0, omega (arith, f.1, c.if-table-ne1000.false), f.2)
+    let f = fill-ready a.held m (sym c.can_fill.ensures ∙ c.if-not-can_fill.false) c.end-end.ensures in
+    rw c.from.ensures (f.0, omega (arith, f.1, c.if-table-ne1000.false), f.2)
 
 pub returns : goal.returns
 returns c =
     let a = c.args in
     let m = memory a.store.now a.table.now in
-    fill_done a.held m (sym c.can_fill.ensures ∙ c.if-not-can_fill.false) c.end_of-end.ensures c.if-store-ne16384.false c.if-table-ne1000.false c.put_starts.ensures
+    fill_done a.held m (sym c.can_fill.ensures ∙ c.if-not-can_fill.false) c.end-end.ensures c.if-store-ne16384.false c.if-table-ne1000.false (rw c.from.ensures at c.put_starts.ensures)

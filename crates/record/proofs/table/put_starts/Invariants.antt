@@ -1,8 +1,6 @@
 -- `record::put_starts` meets its contract: one entry a turn. Assumes nothing.
-use Prim.Native.Nat.{◌≤◌, ◌-◌}
-use mathlib.Core.Path.{◌≡◌}
-use lib.ListN.{length}
-use lib.Seq.{paste}
+use Rattle.std.proofs.Common.{◌≡◌, ◌≤◌, length}
+use Rattle.std.proofs.Math.Seq.{paste}
 use Rattle.record.specs.Places.{records_from}
 use Rattle.record.specs.Table.{starts_of}
 use Rattle.record.proofs.laws.Fills.{Starting}
@@ -10,6 +8,3 @@ use Rattle.record.proofs.table.put_starts.Given as goal
 
 abbrev pub invariant-loop-i : goal.invariant-loop-i
 invariant-loop-i l = (l.at ≤ length l.s) × (length l.table ≡ length l.initial.table) × (l.table ≡ paste l.initial.table 0 (starts_of (records_from l.axes l.n l.s)) l.i) × Starting l.axes l.n l.s l.at l.i
-
-abbrev pub decreases-loop-i : goal.decreases-loop-i
-decreases-loop-i l = l.n - l.i

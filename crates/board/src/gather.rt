@@ -36,7 +36,7 @@ impl Line {
         l
     }
 
-    // The line as one outside storing.
+    // The line as one outside storing. Its length is asked, not kept by the type: a board from outside may have another, which 103 refuses.
     pub(crate) fn as_direct(self) -> Option<Direct>
         requires { self.len ≤ 80 }
         ensures { direct_found result ≡ direct_of (text_of self) }

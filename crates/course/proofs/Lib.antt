@@ -6,6 +6,6 @@ pub mod Outcomes
 pub mod Behind
 pub mod Portions
 pub mod Bytes
-pub mod Runs
+pub mod Answered
 pub mod Only
 pub mod laws

@@ -3,7 +3,7 @@
 use mathlib.Core.Path.{◌≡◌, sym, ap, ◌∙◌}
 use Rattle.count.specs.Text.{Written}
 use Rattle.course.specs.Run.{RunOutcome}
-use Rattle.course.proofs.Runs.{ran-only}
+use Rattle.course.proofs.Answered.{ran-only}
 use Rattle.course.specs.Walk.{Done}
 use Rattle.course.proofs.runs.run.Reads as run
 use Rattle.course.proofs.Walk.new.Reads as new

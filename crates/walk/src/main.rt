@@ -23,15 +23,15 @@ struct Session {
 
 impl Session {
     fn new() -> Session {
-        let mut out = [0u8; 65536];
-        let at = Walk::head(&mut out).min(65536);
-        Session {
+        let mut session = Session {
             walk: Walk::new(),
             store: [0; 16384],
             table: [0; 1000],
-            out,
-            at,
-        }
+            out: [0; 65536],
+            at: 0,
+        };
+        session.at = Walk::head(&mut session.out).min(65536);
+        session
     }
 
     // A portion stands behind what waits.

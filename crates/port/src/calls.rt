@@ -157,8 +157,10 @@ pub fn board_list(state: State, store: &[u8], text: &mut [u8]) -> Written
     if !state.is_known() {
         return written(state, 0, 103);
     }
-    let listed = state.open().list(store, text);
-    written(state, listed.unwrap_or(0), refusal_of(listed))
+    match state.open().list(store, text) {
+        Ok(len) => written(state, len, 0),
+        Err(refusal) => written(state, 0, refusal.number()),
+    }
 }
 
 // ---- what a host shows

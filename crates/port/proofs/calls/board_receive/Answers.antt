@@ -25,5 +25,5 @@ returns-then-not-is_known c = simp (le-ltb _ _ c.if-reply-lt32.false, eq-eqb _ _
 pub returns : goal.returns
 returns c = let a = c.args in
     let k = sym c.is_known.ensures ∙ c.if-not-is_known.false in
-    simp c.with_board.ensures
+    simp (c.with_board.ensures, c.len.ensures, c.refusal_of.ensures)
     (heard-so a.state k c.«open».ensures a.byte (ports_of a.ports) (lent a.reply.now (memory a.store.now a.table.now)) c.if-reply-lt32.false c.if-store-ne16384.false c.ports_of.ensures c.receive-t.ensures)

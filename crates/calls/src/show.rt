@@ -1,6 +1,5 @@
 // What is printed.
 use board::Board;
-use circle::{Direction, Plane};
 use count::Refusal;
 use engine::{Answer, Job};
 use std::alloc::Global;
@@ -83,21 +82,6 @@ pub(crate) fn job_name(job: Job) -> &'static str {
     }
 }
 
-fn plane_number(plane: Plane) -> u8 {
-    match plane {
-        Plane::XY => 0,
-        Plane::XZ => 1,
-        Plane::YZ => 2,
-    }
-}
-
-fn direction_number(direction: Direction) -> i8 {
-    match direction {
-        Direction::Clockwise => 0,
-        Direction::Counter => -1,
-    }
-}
-
 // The state as one line.
 pub(crate) fn show_state(rt: &impl Print, board: Board) -> io::Result<()> {
     let e = board.engine;
@@ -107,7 +91,7 @@ pub(crate) fn show_state(rt: &impl Print, board: Board) -> io::Result<()> {
     print!(rt; " store_axes {} job {}", e.held.axes, job_name(e.run.job))?;
     print!(rt; " standing {}", u8::from(board.standing))?;
     print!(rt; " loops {}", e.run.loops.depth)?;
-    let plane = plane_number(e.circling.plane);
-    let direction = direction_number(e.circling.direction);
+    let plane = e.circling.plane.number();
+    let direction = e.circling.direction.number();
     println!(rt; " plane {plane} direction {direction}")
 }

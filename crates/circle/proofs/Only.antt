@@ -10,6 +10,8 @@ use Rattle.circle.proofs.Arc.with_made.Reads as with-made
 use Rattle.circle.proofs.Arc.left.Reads as left
 use Rattle.circle.proofs.Arc.sound.Reads as sound
 use Rattle.circle.proofs.Arc.look.Reads as look
+use Rattle.circle.proofs.Plane.number.Reads as plane-number
+use Rattle.circle.proofs.Direction.number.Reads as direction-number
 
 pub bend-one : (κs : _) (a : _) (r r' : _) (s s' : _) → bend.Post κs a r s → bend.Post κs a r' s' → r ≡ r'
 bend-one κs a r r' s s' p q = p ∙ sym q
@@ -37,3 +39,9 @@ sound-one κs a r r' s s' p q = p ∙ sym q
 
 pub look_one : (κs : _) (a : _) (r r' : _) (s s' : _) → look.Post κs a r s → look.Post κs a r' s' → r ≡ r'
 look_one κs a r r' s s' p q = p ∙ sym q
+
+pub plane-number-one : (κs : _) (a : _) (r r' : _) (s s' : _) → plane-number.Post κs a r s → plane-number.Post κs a r' s' → r ≡ r'
+plane-number-one κs a r r' s s' p q = p ∙ sym q
+
+pub direction-number-one : (κs : _) (a : _) (r r' : _) (s s' : _) → direction-number.Post κs a r s → direction-number.Post κs a r' s' → r ≡ r'
+direction-number-one κs a r r' s s' p q = p ∙ sym q

@@ -3,6 +3,7 @@
 
 mod beats;
 mod counted;
+mod numbers;
 mod plan;
 mod rule;
 mod sound;

@@ -2,7 +2,6 @@
 // of; what a step prints stands at its function.
 #![tactic(auto)]
 
-use circle::{Direction, Plane};
 use count::Fault;
 use engine::{Answer, Engine, Run};
 use program::Loops;
@@ -29,26 +28,11 @@ fn show_answer(rt: &impl Print, answer: Answer) -> io::Result<()> {
     }
 }
 
-fn plane_number(p: Plane) -> u8 {
-    match p {
-        Plane::XY => 0,
-        Plane::XZ => 1,
-        Plane::YZ => 2,
-    }
-}
-
-fn direction_number(d: Direction) -> i8 {
-    match d {
-        Direction::Clockwise => 0,
-        Direction::Counter => -1,
-    }
-}
-
 // E, the positions, the origins, 3D, plane and direction, the part in use, whether it runs and whether it passes 103.
 fn show_engine(rt: &impl Print, e: Engine) -> io::Result<()> {
     let three = u8::from(e.three);
-    let plane = plane_number(e.circling.plane);
-    let direction = direction_number(e.circling.direction);
+    let plane = e.circling.plane.number();
+    let direction = e.circling.direction.number();
     let Held {
         used,
         records,

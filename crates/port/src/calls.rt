@@ -157,10 +157,8 @@ pub fn board_list(state: State, store: &[u8], text: &mut [u8]) -> Written
     if !state.is_known() {
         return written(state, 0, 103);
     }
-    match state.open().list(store, text) {
-        Ok(len) => written(state, len, 0),
-        Err(refusal) => written(state, 0, refusal.number()),
-    }
+    let listed = state.open().list(store, text);
+    written(state, listed.unwrap_or(0), refusal_of(listed))
 }
 
 // ---- what a host shows

@@ -1,12 +1,11 @@
 // A state read as a board, and what a board says written back over a state.
 ghost use Rattle.std.specs.Prelude.{◌≡◌};
-ghost use Rattle.circle.specs.Rule.{plane_number};
 ghost use Rattle.port.specs.work.Work.{straight_under, round_under, kind_under};
 ghost use Rattle.port.specs.Code.{flag, direction_code, circling_of, arc_of, round_of, travel_of, straight_in, round_in, kind_in, job_of, code_of, byte_over, number_over, known, engine_of, board_of, coded_over, over, no_point, no_move, no_round, no_loops, blank};
 
 use crate::{Round, State};
 use board::{Board, Line};
-use circle::{Arc, Circling, Direction, Pair, Plane};
+use circle::{Arc, Circling, Direction, Pair};
 use engine::{Engine, Job, Run};
 use motion::{Counters, Move};
 use program::{Loop, Loops};
@@ -20,16 +19,6 @@ pub(crate) fn as_flag(b: bool) -> u8
 }
 
 // ---- circles
-
-fn plane_number(plane: Plane) -> u8
-    ensures { result ≡ plane_number plane }
-{
-    match plane {
-        Plane::XY => 0,
-        Plane::XZ => 1,
-        Plane::YZ => 2,
-    }
-}
 
 fn direction_code(direction: Direction) -> u8
     ensures { result ≡ direction_code direction }
@@ -71,7 +60,7 @@ fn round_of(a: Arc) -> Round
         length: a.length,
         made: a.made,
         speed: a.speed,
-        plane: plane_number(a.circling.plane),
+        plane: a.circling.plane.number(),
         direction: direction_code(a.circling.direction),
     }
 }
@@ -321,7 +310,7 @@ impl State {
             loops: e.run.loops,
             axes: e.axes,
             three: as_flag(e.three),
-            plane: plane_number(e.circling.plane),
+            plane: e.circling.plane.number(),
             direction: direction_code(e.circling.direction),
             output: e.output,
             job: code_of(job),

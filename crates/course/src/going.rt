@@ -48,7 +48,8 @@ fn glide_on(e: Engine, limit: u32, out: &mut [u8]) -> Went
     }
 }
 
-// At most so many clock calls, with thirteen bytes of room for each.
+// At most so many clock calls, with thirteen bytes of room for each: a turn makes one or several, so that `n` is no counter of turns. Store, table
+// and buffer are the host's, lent one by one.
 pub(crate) fn go(start: Engine, store: &[u8], table: &[u16], limit: u32, out: &mut [u8]) -> Went
     requires { 13 * limit ≤ length out.old }
     ensures { went_of result out.new ≡ left_by (go_way (memory store.now table.now) limit start) out.old }

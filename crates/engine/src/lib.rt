@@ -64,7 +64,7 @@ pub struct Told {
 }
 
 // What a clock call does, decided before it is done: nothing, since 103 refuses the state; nothing, since nothing runs; a pulse; a pause
-// with so many after it; the 0 after the last pulse; or the record at the place.
+// with so many after it; the 0 after the last pulse; or the record at the place. Six things, and so no Option or Result.
 #[derive(Clone, Copy)]
 pub enum Act {
     Wrong,

@@ -15,7 +15,7 @@ fn right(axes: u8, absolute: bool, words: [u32; 8]) -> bool
     count::right_distances(axes, absolute, words) & count::right_speeds(axes, words)
 }
 
-// Where an axis rests.
+// Where an axis rests. What a line and its engine say is passed on by its parts: one struct of them would be made at each call alone.
 fn goal_of(absolute: bool, at: u32, origin: u32, w: u32) -> Option<u32>
     ensures { result ≡ goal absolute at origin w }
 {

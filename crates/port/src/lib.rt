@@ -57,7 +57,7 @@ pub struct State {
     pub byte: u8,
 }
 
-// What a byte comes to: the next state, the bytes of the reply, and the refusal's number or 0.
+// What a byte comes to: the next state, the bytes of the reply, and the refusal's number or 0. C reads numbers, here and in the structs below.
 #[repr(C)]
 #[derive(Clone, Copy)]
 pub struct Heard {

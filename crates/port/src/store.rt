@@ -11,7 +11,7 @@ use count::Refusal;
 use record::Held;
 use sheet::Axis;
 
-// What refuses a call, by its number; 0 where nothing does.
+// What refuses a call, by its number, as C reads it; 0 where nothing does.
 pub(crate) fn refusal_of<T: Copy>(answer: Result<T, Refusal>) -> u16
     ensures { result ≡ refused answer }
 {

@@ -32,48 +32,44 @@ fn whole(field: &[u8]) -> Option<i64> {
     str::from_utf8(field).ok()?.parse().ok()
 }
 
-fn byte(field: &[u8]) -> Option<u8> {
-    u8::try_from(whole(field)?).ok()
-}
-
-fn half(field: &[u8]) -> Option<u16> {
-    u16::try_from(whole(field)?).ok()
-}
-
-fn word(field: &[u8]) -> Option<u32> {
-    u32::try_from(whole(field)?).ok()
+// A whole number that the type has.
+fn number<T: TryFrom<i64>>(field: &[u8]) -> Option<T>
+where
+    T::Error: Drop,
+{
+    T::try_from(whole(field)?).ok()
 }
 
 // A number from 0 to the largest that is asked for.
 fn at_most(most: usize, field: &[u8]) -> Option<usize> {
-    usize::try_from(whole(field)?).ok().filter(|n| *n <= most)
+    number(field).filter(|n| *n <= most)
 }
 
 impl<'a> Command<'a> {
     // The command of these fields, if they are as many as it asks, and in range.
     pub(crate) fn of(fields: &[&'a [u8]]) -> Option<Command<'a>> {
         Some(match fields {
-            [b"B", n] => Command::Receive(byte(n)?),
-            [b"C", n] => Command::Clock(word(n)?),
+            [b"B", n] => Command::Receive(number(n)?),
+            [b"C", n] => Command::Clock(number(n)?),
             [b"E"] => Command::End,
             [b"F"] => Command::Fill,
             [b"H", name, n] => Command::Set(name, whole(n)?),
-            [b"I", a, b, c, d] => Command::Ports([byte(a)?, byte(b)?, byte(c)?, byte(d)?]),
+            [b"I", a, b, c, d] => Command::Ports([number(a)?, number(b)?, number(c)?, number(d)?]),
             [b"K", used, records, axes] => Command::Hold(Held {
-                used: half(used)?,
-                records: half(records)?,
-                axes: byte(axes)?,
+                used: number(used)?,
+                records: number(records)?,
+                axes: number(axes)?,
             }),
             [b"L"] => Command::List,
             [b"M", n] => Command::LendStore(at_most(65536, n)?),
-            [b"N", n] => Command::Mark(word(n)?),
-            [b"Q", n] => Command::Run(word(n)?),
+            [b"N", n] => Command::Mark(number(n)?),
+            [b"Q", n] => Command::Run(number(n)?),
             [b"R", n] => Command::LendReply(at_most(65536, n)?),
             [b"S"] => Command::State,
-            [b"T", place, start] => Command::Enter(at_most(999, place)?, half(start)?),
+            [b"T", place, start] => Command::Enter(at_most(999, place)?, number(start)?),
             [b"U", n] => Command::LendTable(at_most(2000, n)?),
             [b"V", place] => Command::Look(at_most(999, place)?),
-            [b"W", at, b] => Command::Poke(at_most(16383, at)?, byte(b)?),
+            [b"W", at, b] => Command::Poke(at_most(16383, at)?, number(b)?),
             _ => return None,
         })
     }

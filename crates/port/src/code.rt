@@ -1,7 +1,7 @@
 // A state read as a board, and what a board says written back over a state.
 ghost use Rattle.std.specs.Prelude.{◌≡◌};
 ghost use Rattle.port.specs.work.Work.{straight_under, round_under, kind_under};
-ghost use Rattle.port.specs.Code.{flag, direction_code, circling_of, arc_of, round_of, travel_of, straight_in, round_in, kind_in, job_of, code_of, byte_over, number_over, known, engine_of, board_of, coded_over, over, no_point, no_move, no_round, no_loops, blank};
+ghost use Rattle.port.specs.Code.{flag, direction_code, circling_of, arc_of, round_of, travel_of, job_of, code_of, byte_over, number_over, known, engine_of, board_of, coded_over, over, no_point, no_move, no_round, no_loops, blank};
 
 use crate::{Round, State};
 use board::{Board, Line};
@@ -76,59 +76,36 @@ fn travel_of(kind: u8, straight: Move, round: Round) -> Travel
     Travel::Round(arc_of(round))
 }
 
-fn straight_in(t: Travel, old: Move) -> Move
-    ensures { result ≡ straight_in t old }
-{
-    match t {
-        Travel::Straight(m) => m,
-        Travel::Round(_) => old,
-    }
-}
-
-fn round_in(t: Travel, old: Round) -> Round
-    ensures { result ≡ round_in t old }
-{
-    match t {
-        Travel::Straight(_) => old,
-        Travel::Round(a) => round_of(a),
-    }
-}
-
-fn kind_in(t: Travel) -> u8
-    ensures { result ≡ kind_in t }
-{
-    match t {
-        Travel::Straight(_) => 0,
-        Travel::Round(_) => 1,
-    }
-}
-
 // The straight movement under way, or what stood there.
+#[tactic(auto, unfolding(crate::specs::work::Work::straight_under))]
 fn straight_over(u: Option<Travel>, old: Move) -> Move
     ensures { result ≡ straight_under u old }
 {
     match u {
-        Some(t) => straight_in(t, old),
-        None => old,
+        Some(Travel::Straight(m)) => m,
+        _ => old,
     }
 }
 
 // The arc under way, or what stood there.
+#[tactic(auto, unfolding(crate::specs::work::Work::round_under))]
 fn round_over(u: Option<Travel>, old: Round) -> Round
     ensures { result ≡ round_under u old }
 {
     match u {
-        Some(t) => round_in(t, old),
-        None => old,
+        Some(Travel::Round(a)) => round_of(a),
+        _ => old,
     }
 }
 
 // Which of the two moves, or what stood there.
+#[tactic(auto, unfolding(crate::specs::work::Work::kind_under))]
 fn kind_over(u: Option<Travel>, old: u8) -> u8
     ensures { result ≡ kind_under u old }
 {
     match u {
-        Some(t) => kind_in(t),
+        Some(Travel::Straight(_)) => 0,
+        Some(Travel::Round(_)) => 1,
         None => old,
     }
 }

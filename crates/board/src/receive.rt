@@ -162,17 +162,16 @@ impl Board {
         requires { self.line.len ≤ 80 }
         ensures { spoke result (memory store.new table.new) ≡ returned ports self (memory store.old table.old) }
     {
-        let l = self.line;
         let e = self.engine;
         let run = e.run;
         let job = run.job;
-        if l.over {
+        if self.line.over {
             return self.replies(e, b'5');
         }
         if is_storing(job) & !self.standing {
             return self.store_line(store, table);
         }
-        self.obey(l.as_direct(), ports)
+        self.obey(line::direct_line(self.line.text()), ports)
     }
 
     // No reply.

@@ -60,7 +60,7 @@ impl Board {
         requires { self.line.len ≤ 80 }
         ensures { spoke result (memory store.new table.new) ≡ stored_said (stored_of (text_of self.line)) self (memory store.old table.old) }
     {
-        match self.line.as_stored() {
+        match line::stored_line(self.line.text()) {
             None => self.replies(self.engine, b'5'),
             Some(d) => match d.code {
                 Code::Record(c) => self.record_line(c, d, store, table),

@@ -33,7 +33,7 @@ impl Line {
         l
     }
 
-    // The bytes gathered.
+    // The bytes gathered. The length is asked, not kept by the type: a board from outside may have another, which 103 refuses.
     pub(crate) fn text(&self) -> &[u8]
         requires { self.now.len ≤ 80 }
         ensures { result.now ≡ text_of self.now }

@@ -71,7 +71,8 @@ impl Pulses for Arc {
     }
 }
 
-// At most so many pulses of the phase under way of a kind, with thirteen bytes of room for each.
+// At most so many pulses of the phase under way of a kind, with thirteen bytes of room for each: fixed memory, so the room is asked with the
+// limit.
 fn glide_on<P: Pulses>(start: P, from: Counters, turns: bool, limit: u32, out: &mut [u8]) -> Glided
     requires { 13 * limit ≤ length out.old }
     ensures { (glided result out.new ≡ gliding turns limit (P.travel start) from out.old) × (result.len ≤ 13 * result.calls) }

@@ -63,7 +63,8 @@ impl Engine {
         self.empty().finish(b'G')
     }
 
-    // On to the next record, with a job.
+    // On to the next record, with a job. That a place comes after is asked here and of those who call it: a type that holds it would be made
+    // anew behind each setter in `perform`.
     fn on_to(self, job: Job) -> Engine
         requires { self.run.place < 65535 }
         ensures { result ≡ on_to job self }

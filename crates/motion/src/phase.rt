@@ -23,7 +23,7 @@ pub(crate) fn pulses_of(from: Counters, to: Counters) -> u32
 }
 
 // What the pulse after pulse k of n shows on an axis that goes from one count to another and stands at a third: no division, and the same
-// two products as in the test of 103.
+// two products as in the test of 103. The ends, k and n stay parameters: most functions that ask for them are of one axis, not of points.
 pub(crate) fn sign_here(at: u32, from: u32, to: u32, k: u32, n: u32) -> Sign
     requires { (k < n) × (n < 16777216) × (far from to ≤ n) }
     ensures { (result ≡ sign_here at from to k n) × RoomFor at result }

@@ -171,10 +171,12 @@ impl Board {
         if is_storing(job) & !self.standing {
             return self.store_line(store, table);
         }
-        self.obey(line::direct_line(self.line.text()), ports)
+        // Of a copy: read where it stands, a line takes longer.
+        let l = self.line;
+        self.obey(line::direct_line(l.text()), ports)
     }
 
-    // No reply.
+    // No reply. Of the shape of `refuse`, but another outcome.
     pub(crate) fn quiet(self) -> Received
         ensures { received result ≡ record { board = self; len = 0; refusal = 0 } }
     {

@@ -78,7 +78,7 @@ pub struct Beat {
     pub mark: Mark,
 }
 
-// A movement under way at a clock call: 103 refuses it, its next pulse, or that none is left.
+// A movement under way at a clock call: 103 refuses it, its next pulse, or that none is left. Three outcomes, so no `Option` or `Result`.
 #[derive(Clone, Copy)]
 pub enum Look {
     Wrong,

@@ -1,12 +1,9 @@
 // The line being gathered: an empty one, one byte more, and what it says at its carriage return.
 ghost use Rattle.std.specs.Prelude.{◌≡◌, ◌≤◌};
-ghost use Rattle.line.specs.Said.{direct_found, stored_found};
-ghost use Rattle.line.specs.Lines.{direct_of, stored_of};
 ghost use Rattle.board.specs.State.{no_line, gathered, text_of};
 ghost use Rattle.board.specs.work.Take.{lined_of};
 
 use crate::{Line, Lined};
-use line::{Direct, Stored};
 
 impl Line {
     pub(crate) fn empty() -> Line
@@ -36,24 +33,12 @@ impl Line {
         l
     }
 
-    // The line as one outside storing. Its length is asked, not kept by the type: a board from outside may have another, which 103 refuses.
-    pub(crate) fn as_direct(self) -> Option<Direct>
-        requires { self.len ≤ 80 }
-        ensures { direct_found result ≡ direct_of (text_of self) }
+    // The bytes gathered. The length is asked, not kept by the type: a board from outside may have another, which 103 refuses.
+    pub(crate) fn text(&self) -> &[u8]
+        requires { self.now.len ≤ 80 }
+        ensures { result.now ≡ text_of self.now }
     {
-        let bytes = self.bytes;
-        let n = self.len as usize;
-        line::direct_line(&bytes[..n])
-    }
-
-    // The line as one while storing.
-    pub(crate) fn as_stored(self) -> Option<Stored>
-        requires { self.len ≤ 80 }
-        ensures { stored_found result ≡ stored_of (text_of self) }
-    {
-        let bytes = self.bytes;
-        let n = self.len as usize;
-        line::stored_line(&bytes[..n])
+        &self.bytes[..usize::from(self.len)]
     }
 
     // The bytes up to a carriage return or a control code, one after the other.
@@ -63,23 +48,20 @@ impl Line {
         let mut bytes = self.bytes;
         let mut len = self.len;
         let mut over = self.over;
-        let mut i = 0;
-        while i < input.len() {
-            let b = input[i];
+        for (i, &b) in input.iter().enumerate() {
             if (b == b'\r') | (253 <= b) {
                 let line = Line { bytes, len, over };
                 return Lined { line, count: i };
             }
             if len < 80 {
-                let at = len as usize;
-                bytes[at] = b;
-                len = len + 1;
+                bytes[usize::from(len)] = b;
+                len += 1;
             } else {
                 over = true;
             }
-            i = i + 1;
         }
         let line = Line { bytes, len, over };
-        Lined { line, count: i }
+        let count = input.len();
+        Lined { line, count }
     }
 }

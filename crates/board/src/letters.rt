@@ -1,11 +1,11 @@
 // What each letter asks of its line, and the first fault of a line outside storing.
 #![tactic(auto, unfolding(crate::specs::work::Work::axes_fault, crate::specs::work::Work::input_fault, crate::specs::work::Work::output_fault))]
 
-ghost use Rattle.std.specs.Prelude.{◌≡◌, Some};
-ghost use Rattle.record.specs.Fault.{replied};
+ghost use Rattle.std.specs.Prelude.{◌≡◌, Some, eqb, true};
+ghost use Rattle.record.specs.Fault.{replied, numbers_reply};
 ghost use Rattle.line.specs.Said.{letter_said, direct_found};
 ghost use Rattle.board.specs.Direct.{heard_standing, needs_axes};
-ghost use Rattle.board.specs.work.Work.{count_fault, seven_fault, axes_fault, input_fault, output_fault, numbers_fault, line_fault};
+ghost use Rattle.board.specs.work.Work.{axes_fault, input_fault, output_fault, numbers_fault, line_fault};
 
 use count::Fault;
 use line::{Direct, Letter};
@@ -27,21 +27,11 @@ fn needs_axes(letter: Letter) -> bool
     )
 }
 
-// A line without numbers: 7 if it has some.
-fn count_fault(count: usize) -> Result<(), Fault>
-    ensures { replied result ≡ count_fault count }
+// 7 unless a line has as many numbers as are wanted.
+fn count_fault(count: usize, wanted: usize) -> Result<(), Fault>
+    ensures { replied result ≡ numbers_reply (eqb count wanted) true true true 48 }
 {
-    if count == 0 {
-        return Ok(());
-    }
-    Err(Fault::Count)
-}
-
-// A circle: 7 unless it has seven numbers.
-fn seven_fault(count: usize) -> Result<(), Fault>
-    ensures { replied result ≡ seven_fault count }
-{
-    if count == 7 {
+    if count == wanted {
         return Ok(());
     }
     Err(Fault::Count)
@@ -97,12 +87,12 @@ fn numbers_fault(letter: Letter, axes: u8, count: usize, words: [u32; 8]) -> Res
         Letter::Absolute => record::record_fault(axes, b'm', count, words),
         Letter::Origin | Letter::Zero => record::record_fault(axes, b'n', count, words),
         Letter::Three => record::record_fault(axes, b'z', count, words),
-        Letter::Position | Letter::Store | Letter::Empty | Letter::Start => count_fault(count),
+        Letter::Position | Letter::Store | Letter::Empty | Letter::Start => count_fault(count, 0),
         Letter::Input => input_fault(count, words[0]),
         Letter::Output => output_fault(count, words[0], words[1]),
         Letter::Plane => record::record_fault(axes, b'e', count, words),
         Letter::Direction => record::record_fault(axes, b'f', count, words),
-        Letter::Circle => seven_fault(count),
+        Letter::Circle => count_fault(count, 7),
     }
 }
 

@@ -12,7 +12,7 @@ mod storing;
 use count::Refusal;
 use engine::{Answer, Engine};
 
-// The line being gathered: its bytes, the rest of the array 0, and whether more than 80 came.
+// The line being gathered: its bytes, the rest of the array 0, and whether more than 80 came. An array and a length: fixed memory.
 #[derive(Clone, Copy)]
 pub struct Line {
     pub bytes: [u8; 80],

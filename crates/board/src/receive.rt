@@ -162,20 +162,21 @@ impl Board {
         requires { self.line.len ≤ 80 }
         ensures { spoke result (memory store.new table.new) ≡ returned ports self (memory store.old table.old) }
     {
-        let l = self.line;
         let e = self.engine;
         let run = e.run;
         let job = run.job;
-        if l.over {
+        if self.line.over {
             return self.replies(e, b'5');
         }
         if is_storing(job) & !self.standing {
             return self.store_line(store, table);
         }
-        self.obey(l.as_direct(), ports)
+        // Of a copy: read where it stands, a line takes longer.
+        let l = self.line;
+        self.obey(line::direct_line(l.text()), ports)
     }
 
-    // No reply.
+    // No reply. Of the shape of `refuse`, but another outcome.
     pub(crate) fn quiet(self) -> Received
         ensures { received result ≡ record { board = self; len = 0; refusal = 0 } }
     {

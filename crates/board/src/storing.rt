@@ -60,7 +60,9 @@ impl Board {
         requires { self.line.len ≤ 80 }
         ensures { spoke result (memory store.new table.new) ≡ stored_said (stored_of (text_of self.line)) self (memory store.old table.old) }
     {
-        match self.line.as_stored() {
+        // Of a copy: read where it stands, a line takes longer.
+        let l = self.line;
+        match line::stored_line(l.text()) {
             None => self.replies(self.engine, b'5'),
             Some(d) => match d.code {
                 Code::Record(c) => self.record_line(c, d, store, table),

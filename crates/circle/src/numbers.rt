@@ -1,4 +1,4 @@
-// Planes and directions as numbers.
+// Planes and directions as numbers. Methods, not a `From`: C has another number of a direction.
 ghost use Rattle.std.specs.Prelude.{◌≡◌};
 ghost use Rattle.circle.specs.Rule.{plane_number, direction_number};
 

@@ -4,7 +4,7 @@ ghost use Rattle.count.specs.Axes.{part, has, axes_set};
 
 use super::Axis;
 
-// An axis's part of an axes number.
+// An axis's part of an axes number. A function, not a `From`: an axis has no number but as a part of others.
 fn part_of(axis: Axis) -> u32
     ensures { (result ≡ part axis) × (0 < result) }
 {

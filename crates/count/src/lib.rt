@@ -64,7 +64,7 @@ pub enum Refusal {
     Program(Fault),
 }
 
-// One of two by a test.
+// One of two by a test. The library has no such function, and contracts say `pick` of it.
 pub fn chosen<T: Copy>(b: bool, x: T, y: T) -> T
     ensures { result ≡ pick b x y }
 {

@@ -6,7 +6,7 @@ use super::{Fault, Refusal};
 use std::fmt;
 
 impl Fault {
-    // The reply's character.
+    // The reply's character. A method, not a `From`, so that it is said which byte.
     pub fn letter(self) -> u8
         ensures { result ≡ letter_of self }
     {

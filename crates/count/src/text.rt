@@ -17,7 +17,7 @@ fn hex_digit(n: u32) -> u8
     if d < 10 { b'0' + d } else { b'A' + (d - 10) }
 }
 
-// The last `count` digits of a number in a base of at most 16.
+// The last `count` digits of a number in a base of at most 16: how many are wanted, which is not the buffer's length.
 fn put_last(text: &mut [u8], base: u32, count: usize, n: u32) -> usize
     requires { (0 < base) × (base ≤ 16) }
     ensures { written result text.new ≡ wrote count (last_digits base count n) text.old }
@@ -104,7 +104,7 @@ pub fn put_count(text: &mut [u8], c: u32) -> usize
     put_minus(text, HALF - 1 - c)
 }
 
-// A record's place as four digits.
+// A record's place as four digits. Like `put_byte` no more than a call of `put_last`.
 pub fn put_place(text: &mut [u8], p: u16) -> usize
     ensures { written result text.new ≡ wrote 4 (four_digits p) text.old }
 {

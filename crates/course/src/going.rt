@@ -57,6 +57,7 @@ pub(crate) fn go(start: Engine, store: &[u8], table: &[u16], limit: u32, out: &m
     let mut e = start;
     let mut n: u32 = 0;
     let mut at = 0;
+    // `n` counts clock calls, of which a turn makes several: no `for`.
     while n < limit {
         if !e.runs() {
             return Went {

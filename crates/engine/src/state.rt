@@ -9,7 +9,7 @@ use super::circles::circling_first;
 use super::{Engine, Job, Run};
 use count::{Axis, Fault};
 use motion::Counters;
-use program::{Loop, Loops};
+use program::Loops;
 use record::Held;
 use travel::Travel;
 
@@ -23,13 +23,6 @@ fn at_zero() -> Counters
         z: 8388608,
         a: 8388608,
     }
-}
-
-fn no_loops() -> Loops
-    ensures { result ≡ no_loops }
-{
-    let at = [Loop { place: 0, left: 0 }; 7];
-    Loops { at, depth: 0 }
 }
 
 // The part in use of an empty store.
@@ -74,7 +67,7 @@ impl Run {
         Run {
             job,
             place: 0,
-            loops: no_loops(),
+            loops: Loops::none(),
         }
     }
 

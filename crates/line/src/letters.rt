@@ -7,7 +7,7 @@ ghost use Rattle.line.specs.work.Reading.{lettered};
 use crate::numbers::Items;
 use crate::{Direct, Letter, numbers};
 
-// The letters, and no other; A, M and S may be small.
+// The letters, and no other; A, M and S may be small. A table of the paper, which switches no step.
 #[tactic(auto, unfolding(crate::specs::Lines::letter_of))]
 fn letter_of(b: u8) -> Option<Letter>
     ensures found { letter_found result ≡ letter_of b }

@@ -28,7 +28,7 @@ pub enum Letter {
     Circle,
 }
 
-// A line outside storing: how many numbers it has, and the first eight of them as words.
+// A line outside storing: how many numbers it has, and the first eight of them as words; there may be more, so it is no length of the array.
 #[derive(Clone, Copy)]
 pub struct Direct {
     pub letter: Letter,
@@ -36,14 +36,14 @@ pub struct Direct {
     pub words: [u32; 8],
 }
 
-// A line while storing, by its code.
+// A line while storing, by its code. Two kinds of line, so no `Option`: that is for a line of a wrong shape.
 #[derive(Clone, Copy)]
 pub enum Code {
     Record(u8),
     End,
 }
 
-// A line while storing: how many numbers it has, and the first eight of them as words.
+// The same of a line while storing: how many numbers, and the first eight of them.
 #[derive(Clone, Copy)]
 pub struct Stored {
     pub code: Code,

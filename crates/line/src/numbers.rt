@@ -11,7 +11,7 @@ pub(crate) struct Item {
     pub next: Option<usize>,
 }
 
-// The numbers of a line: how many, and the first eight of them as words.
+// The numbers of a line: how many, and the first eight of them as words; there may be more, so it is no length of the array.
 #[derive(Clone, Copy)]
 pub(crate) struct Items {
     pub count: usize,
@@ -62,7 +62,8 @@ fn read_number(s: &[u8], at: usize) -> Option<Item>
     read_digits(s, false, at)
 }
 
-// One number or more, from byte `start` to the end.
+// One number or more, from byte `start` to the end. A `loop`: each number tells where the next one begins, and to split at the commas first
+// would read each byte twice.
 pub(crate) fn read_numbers(s: &[u8], start: usize) -> Option<Items>
     requires { start ≤ length s.now }
     ensures { result ≡ items (numbers_of (drop start s.now)) }

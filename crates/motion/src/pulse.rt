@@ -54,7 +54,7 @@ pub(crate) fn with_pulse(c: Counters, s: Signs) -> Counters
     counters
 }
 
-// One of four counts by the phase: where it starts. They are the counts of one axis: no type but four numbers.
+// One of four counts by the phase: where it starts. They are of one axis at four points, and go together nowhere else.
 fn from_by(p: u8, a: u32, b: u32, c: u32, d: u32) -> u32
     ensures { result ≡ pick (eqb p 0) a (pick (eqb p 1) b (pick (eqb p 2) c d)) }
 {

@@ -15,7 +15,7 @@ fn right(axes: u8, absolute: bool, words: [u32; 8]) -> bool
     count::right_distances(axes, absolute, words) & count::right_speeds(axes, words)
 }
 
-// Where an axis rests. What a line and its engine say is passed on by its parts: one struct of them would be made at each call alone.
+// Where an axis rests. Parameters, no struct: who calls has points, not counts, and a record's words.
 fn goal_of(absolute: bool, at: u32, origin: u32, w: u32) -> Option<u32>
     ensures { result ≡ goal absolute at origin w }
 {
@@ -45,7 +45,7 @@ fn goal_z2(moves: bool, z1: u32, w: u32) -> Option<u32>
     Some(z1)
 }
 
-// A speed's word as a speed.
+// A speed's word as a speed. `u16::try_from` would be a test that never fails.
 fn narrow(w: u32) -> u16
     requires { w ≤ 10000 }
     ensures { result ≡ w }

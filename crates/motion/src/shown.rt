@@ -5,6 +5,7 @@ ghost use Rattle.motion.specs.Phase.{sign_value, sign_byte};
 use super::{Counters, Sign, Signs};
 use std::fmt;
 
+// Methods, not a `From`, so that it is said which number.
 impl Sign {
     // -1, 0 or 1.
     pub fn value(self) -> i8

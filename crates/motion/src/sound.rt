@@ -27,7 +27,8 @@ pub fn counted_at(c: Counters) -> bool
     count::in_range(c.x) & count::in_range(c.y) & count::in_range(c.z) & count::in_range(c.a)
 }
 
-// Whether an axis of distance d has made s steps after pulse k of n: 01's quotient by its two bounds.
+// Whether an axis of distance d has made s steps after pulse k of n: 01's quotient by its two bounds. k and n stay parameters, here of a
+// distance and below of ends.
 fn has_made(s: u32, k: u32, d: u32, n: u32) -> bool
     requires { (0 < n) × (n < 16777216) × (k ≤ n) × (d ≤ n) }
     ensures { result ≡ eqb s (steps k d n) }

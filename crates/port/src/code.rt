@@ -1,14 +1,14 @@
 // A state read as a board, and what a board says written back over a state.
 ghost use Rattle.std.specs.Prelude.{◌≡◌};
 ghost use Rattle.port.specs.work.Work.{straight_under, round_under, kind_under};
-ghost use Rattle.port.specs.Code.{flag, direction_code, circling_of, arc_of, round_of, travel_of, job_of, code_of, byte_over, number_over, known, engine_of, board_of, coded_over, over, no_point, no_move, no_round, no_loops, blank};
+ghost use Rattle.port.specs.Code.{flag, direction_code, circling_of, arc_of, round_of, travel_of, job_of, code_of, byte_over, number_over, known, engine_of, board_of, coded_over, over, no_point, no_move, no_round, blank};
 
 use crate::{Round, State};
 use board::{Board, Line};
 use circle::{Arc, Circling, Direction, Pair};
 use engine::{Engine, Job, Run};
 use motion::{Counters, Move};
-use program::{Loop, Loops};
+use program::Loops;
 use record::Held;
 use travel::Travel;
 
@@ -209,14 +209,6 @@ fn no_round() -> Round
     }
 }
 
-fn no_loops() -> Loops
-    ensures { result ≡ no_loops }
-{
-    let none = Loop { place: 0, left: 0 };
-    let at = [none; 7];
-    Loops { at, depth: 0 }
-}
-
 // ---- the board
 
 impl State {
@@ -329,7 +321,7 @@ impl State {
             held,
             place: 0,
             number: 0,
-            loops: no_loops(),
+            loops: Loops::none(),
             line: [0u8; 80],
             len: 0,
             over: 0,

@@ -6,6 +6,7 @@ use Rattle.program.proofs.accepting.accepts.Reads as accepts
 use Rattle.program.proofs.ending.check.Reads as check
 use Rattle.program.proofs.running.leap.Reads as leap
 use Rattle.program.proofs.Lead.loops.Reads as loops
+use Rattle.program.proofs.Loops.none.Reads as none
 use Rattle.program.proofs.Rule.letter.Reads as letter
 use Rattle.program.proofs.running.onward.Reads as onward
 
@@ -26,3 +27,6 @@ accepts-one κs a r r' s s' p q = acceptance-only r r' (p ∙ sym q)
 
 pub letter-one : (κs : _) (a : _) (r r' : _) (s s' : _) → letter.Post κs a r s → letter.Post κs a r' s' → r ≡ r'
 letter-one κs a r r' s s' p q = p ∙ sym q
+
+pub none-one : (κs : _) (a : _) (r r' : _) (s s' : _) → none.Post κs a r s → none.Post κs a r' s' → r ≡ r'
+none-one κs a r r' s s' p q = p ∙ sym q

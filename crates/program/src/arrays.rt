@@ -68,10 +68,10 @@ impl<'a> Places<'a> {
         false
     }
 
-    #[tactic(auto, unfolding(crate::specs::work::Marks::early))]
+    #[tactic(auto, unfolding(crate::specs::work::Marks::early, crate::specs::work::Ranges::reach))]
     pub(crate) fn early(&self, p: u16) -> bool
         ensures { result ≡ early (loop_in self.now.kinds.now) (far_in self.now.offsets.now) p }
     {
-        self.is_loop(p) && self.far(p) < 32768
+        self.reaches(p, 32768)
     }
 }

@@ -31,7 +31,7 @@ pub enum Rule {
 }
 
 impl Rule {
-    // The letter that names it.
+    // The letter that names it. A method, not a `From`, so that it is said which byte.
     pub fn letter(self) -> u8
         ensures { result ≡ letter_of self }
     {
@@ -45,7 +45,7 @@ impl Rule {
     }
 }
 
-// Why a check doesn't pass: the store is not readable, or the first fault, with its place.
+// Why a check doesn't pass: the store is not readable, or the first fault, with its place. The errors of a `Result`, so no `Option`.
 #[derive(Clone, Copy, PartialEq, Eq)]
 pub enum Flaw {
     Unreadable,
@@ -67,7 +67,7 @@ pub struct Loop {
     pub left: u16,
 }
 
-// The open loops, the one opened last at depth - 1; the entries past it are 0.
+// The open loops, the one opened last at depth - 1; the entries past it are 0. An array and a depth: fixed memory, and C's struct.
 #[repr(C)]
 #[derive(Clone, Copy)]
 pub struct Loops {
@@ -75,7 +75,7 @@ pub struct Loops {
     pub depth: u8,
 }
 
-// Where a record sends a run: to a place, into a wait with a next place and a target, or nowhere (G).
+// Where a record sends a run: to a place, into a wait with a next place and a target, or nowhere (G). Three outcomes, so no `Option`.
 #[derive(Clone, Copy, PartialEq, Eq)]
 pub enum Going {
     To(u16),
@@ -83,14 +83,14 @@ pub enum Going {
     Wrong,
 }
 
-// Where it sends a run, and the open loops.
+// Where it sends a run, and the open loops: they stay beside a G too, so no `Result`.
 #[derive(Clone, Copy)]
 pub struct Way {
     pub going: Going,
     pub loops: Loops,
 }
 
-// The same without the open loops: how many are open afterwards, and the one entry of theirs that can have changed.
+// The same without the open loops: how many are open afterwards, and the one entry of theirs that can have changed. Likewise beside a G.
 #[derive(Clone, Copy)]
 pub struct Lead {
     pub going: Going,

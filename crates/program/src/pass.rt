@@ -31,7 +31,7 @@ impl<'a> Noted<'a> {
         false
     }
 
-    // What place `p`, which `held` ranges hold, is at fault for.
+    // What place `p`, which `held` ranges hold, is at fault for. That it is a place is asked: a type for it would hold the places too.
     #[tactic(auto, unfolding(crate::specs::work::Ranges::letter_by))]
     fn fault_at(&self, held: u16, p: u16) -> Option<Rule>
         requires { p < self.now.places.n }

@@ -50,7 +50,7 @@ impl<'a> Places<'a> {
 
     // Whether place `i` is a loop whose range starts before mark `s`.
     #[tactic(auto, unfolding(crate::specs::work::Ranges::reach))]
-    fn reaches(&self, i: u16, s: u32) -> bool
+    pub(crate) fn reaches(&self, i: u16, s: u32) -> bool
         ensures { result ≡ reach (loop_in self.now.kinds.now) (far_in self.now.offsets.now) s i }
     {
         self.is_loop(i) && self.far(i) < s

@@ -3,12 +3,24 @@ ghost use Rattle.std.specs.Prelude.{◌≡◌, ◌<◌, ◌≤◌, ◌-◌, get_
 ghost use Rattle.count.specs.Numbers.{signed};
 ghost use Rattle.count.specs.Ranges.{nth};
 ghost use Rattle.program.specs.Going.{To, way_by, way_in};
-ghost use Rattle.program.specs.Onward.{onward_of, aimed, looped, again, opens, counter};
+ghost use Rattle.program.specs.Onward.{no_loops, onward_of, aimed, looped, again, opens, counter};
 ghost use Rattle.program.specs.work.Target.{leads};
 ghost use Rattle.program.specs.work.Leap.{leap_by, leap_of, loops_by, lead_in};
 
 use crate::{Going, Lead, Loop, Loops, Way};
 use record::Record;
+
+impl Loops {
+    // None is open.
+    pub fn none() -> Loops
+        ensures { result ≡ no_loops }
+    {
+        Loops {
+            at: [Loop { place: 0, left: 0 }; 7],
+            depth: 0,
+        }
+    }
+}
 
 // The entry of the loop opened last; the first one if none is open.
 fn top_of(depth: u8) -> u8

@@ -2,7 +2,7 @@
 // bytes` in hexadecimal digits, and a line of the store's bytes, two digits each. Writes the verdict, and the places of its first 40 records.
 #![tactic(auto)]
 
-use program::{Flaw, Going, Loop, Loops};
+use program::{Flaw, Going, Loops};
 use record::{Found, Held};
 use std::alloc::Global;
 use std::io;
@@ -32,10 +32,7 @@ fn show(rt: &impl Print, checked: Result<(), Flaw>) -> io::Result<()> {
 // The places of a run's first records; the first wait hears another character, the second its own, and so on.
 fn run(rt: &impl Print, store: &[u8], table: &[u16], held: Held) -> io::Result<()> {
     let mut place = 0;
-    let mut loops = Loops {
-        at: [Loop { place: 0, left: 0 }; 7],
-        depth: 0,
-    };
+    let mut loops = Loops::none();
     let mut hears = false;
     for _ in 0..40 {
         let Found::Got(item) = record::fetch(store, table, held, place) else {

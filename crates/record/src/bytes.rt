@@ -17,7 +17,7 @@ fn word(s: &[u8]) -> u32
     u32::from_le_bytes([s[0], s[1], s[2], s[3]])
 }
 
-// The numbers at the front of a part.
+// The numbers at the front of a part: `count` is of numbers, and behind them the part goes on.
 fn read_numbers(s: &[u8], count: usize) -> [u32; 8]
     requires { (count ≤ 8) × (4 * count ≤ length s.now) }
     ensures { result ≡ pad 8 (words_of count s.now) }

@@ -52,7 +52,7 @@ fn axes_named(axes: u8, w: u32) -> bool
     few | (count::has(u32::from(axes), Axis::A) & from_to(8, 8, w))
 }
 
-// 3: whether the axes of `n` are some of the axes set.
+// 3: whether the axes of `n` are some of the axes set. Axes, code and words stay parameters: who calls has them apart.
 #[tactic(auto, using(crate::proofs::laws::Rows::rows))]
 fn axes_right(axes: u8, code: u8, words: [u32; 8]) -> bool
     ensures { result ≡ axes_right axes code words }

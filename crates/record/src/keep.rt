@@ -45,7 +45,8 @@ fn has_room(held: Held, n: usize, size: usize, entries: usize) -> bool
     (records <= 1000) & (end <= 16384) & (end <= size) & (records <= entries)
 }
 
-// A record stored at the end of the part in use, where there is room for it; the part in use afterwards.
+// A record stored at the end of the part in use, where there is room for it; the part in use afterwards. C lends store and
+// table one by one.
 pub fn store_record(store: &mut [u8], table: &mut [u16], held: Held, item: Record) -> Option<Held>
     ensures { storing (kept held result) (memory store.new table.new) ≡ store_of held item (memory store.old table.old) }
 {

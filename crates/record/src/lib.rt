@@ -37,7 +37,7 @@ impl Held {
     }
 }
 
-// A record: its code, and its numbers in the first `count` of the words; the words past them are 0.
+// A record: its code, and its numbers in the first `count` of the words; the words past them are 0. An array and a count: fixed memory.
 #[derive(Clone, Copy)]
 pub struct Record {
     pub code: u8,
@@ -61,7 +61,7 @@ impl Record {
     }
 }
 
-// What is found at a place or a byte: a record, the end place, or nothing that can be read.
+// What is found at a place or a byte: a record, the end place, or nothing that can be read. Three outcomes, so no `Option` or `Result`.
 #[derive(Clone, Copy)]
 pub enum Found {
     Got(Record),

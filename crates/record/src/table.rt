@@ -49,7 +49,7 @@ pub fn fetch(store: &[u8], table: &[u16], held: Held, place: u16) -> Found
     }
 }
 
-// Where each of the `n` records that a part holds starts.
+// Where each of the `n` records that a part holds starts; the entries behind them stay.
 fn put_starts(table: &mut [u16], s: &[u8], axes: u8, n: usize)
     requires { (is_list (records_from axes n s.now) ≡ true) × (n ≤ length table.old) × (length s.now ≤ 65535) }
     ensures { table.new ≡ paste table.old 0 (starts_of (records_from axes n s.now)) n }

@@ -45,7 +45,7 @@ fn test(axis: Axis, thousandths: &[i64]) -> Result<(), Refusal>
     Ok(())
 }
 
-// The result at a sum, or what was refused already.
+// The result at a sum, or what was refused already. That a sum is right is asked: a type for it would be made anew for each distance.
 fn next(axis: Axis, last: Result<i32, Refusal>, sum: i64) -> Result<i32, Refusal>
     requires { sum_right sum ≡ true }
     ensures { result ≡ result_after axis last sum }

@@ -39,7 +39,7 @@ pub enum Refusal {
 }
 
 impl Refusal {
-    // The number by which it is told, which is never 0.
+    // The number by which it is told, which is never 0. A method, not a `From`, so that it is said which number.
     pub fn number(self) -> u16
         ensures { result ≡ (refusal_paper self).number }
     {
@@ -66,7 +66,7 @@ pub fn distance(axis: Axis, mm: f64) -> Result<i32, Refusal>
     distance_steps(axis, mm)
 }
 
-// A speed as steps per second.
+// A speed as steps per second. Only the order of the tests is that of `distance`: one function over both would have to be given all three.
 #[tactic(auto, unfolding(crate::specs::Sheet::speed_of))]
 pub fn speed(axis: Axis, rate: Rate) -> Result<i32, Refusal>
     ensures { converted result ≡ speed_of axis rate }

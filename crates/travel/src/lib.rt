@@ -8,6 +8,7 @@ use circle::Arc;
 use motion::Move;
 pub use plans::{circle, plan};
 
+// Each kind carries what moves, so no `Option`.
 #[derive(Clone, Copy)]
 pub enum Travel {
     Straight(Move),

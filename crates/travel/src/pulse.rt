@@ -1,4 +1,5 @@
-// The next pulse of either kind. What moves is only read: a pulse answers its mark.
+// The next pulse of either kind. What moves is only read: a pulse answers its mark. Each method asks the kind for its own: a function over
+// the methods, or a trait of the two kinds, would be no plainer.
 ghost use Rattle.std.specs.Prelude.{◌≡◌};
 ghost use Rattle.travel.specs.Next.{left_of};
 ghost use Rattle.travel.specs.Sound.{under_way};

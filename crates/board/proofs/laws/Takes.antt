@@ -3,7 +3,7 @@ use Prim.Native.Nat.{ℕ, ◌+◌, ◌≤◌, ◌<◌}
 use mathlib.Core.Path.{◌≡◌, refl, sym, ap, ◌∙◌}
 use mathlib.Core.Bool.{Bool, true, false, not, ◌&&◌, ◌||◌}
 use mathlib.Core.List.{List, [], ◌∷◌}
-use native.Mathlib.Nat.{zero-add, add-zero}
+use native.Mathlib.Nat.{add-zero}
 use native.Mathlib.Numerals.{one-add}
 use native.Mathlib.Omega.{arith}
 use borrow.Author.Tests.{lt-ltb, le-ltb, ltb-true, leb-true, leb-false, ne_eqb, not-true}
@@ -31,9 +31,6 @@ use Rattle.board.proofs.laws.Laws.{never-refused}
 
 abbrev pub lined_from : ℕ → List ℕ → Line → Lined
 lined_from i input l = record { line = gathered_all (take (plain_front input) input) l; count = i + plain_front input }
-
-pub lined-first : (input : List ℕ) (l : Line) → lined_of input l ≡ lined_from 0 input l
-lined-first input l = rw zero-add
 
 -- the code's test: it stops at a carriage return and from the first control code on
 abbrev stops : ℕ → Bool

@@ -36,16 +36,20 @@ impl<'a> Fields<'a> {
         Fields { rest }
     }
 
+    // The next field as what it is read as.
+    fn read<T>(&mut self, read: impl FnOnce(&[u8]) -> Option<T>) -> Result<T, Fault> {
+        let field = self.next().ok_or(Fault::Unread)?;
+        read(field).ok_or(Fault::Unread)
+    }
+
     // The next field as the bits of a float.
     pub(crate) fn bits(&mut self) -> Result<u64, Fault> {
-        let field = self.next().ok_or(Fault::Unread)?;
-        reader::read_bits(field).ok_or(Fault::Unread)
+        self.read(reader::read_bits)
     }
 
     // The next field as a whole number.
     pub(crate) fn whole(&mut self) -> Result<i64, Fault> {
-        let field = self.next().ok_or(Fault::Unread)?;
-        reader::read_whole(field).ok_or(Fault::Unread)
+        self.read(reader::read_whole)
     }
 
     // The next field as a number of a smaller type.

@@ -33,11 +33,10 @@ impl Board {
     pub(crate) fn with_engine(self, engine: Engine) -> Board
         ensures { result ≡ board engine self.standing no_line }
     {
-        let line = Line::empty();
         Board {
             engine,
-            standing: self.standing,
-            line,
+            line: Line::empty(),
+            ..self
         }
     }
 
@@ -72,17 +71,18 @@ impl Board {
         ensures { result ≡ started_by self }
     {
         let e = self.engine;
-        let held = e.held;
         if self.standing {
-            let mut b = self.with_engine(e);
-            b.standing = false;
-            return b.says(Saying::Silent);
+            let going = Board {
+                standing: false,
+                ..self.with_engine(e)
+            };
+            return going.says(Saying::Silent);
         }
-        if held.records == 0 {
-            return self.replies(e, b'8');
+        if e.held.records == 0 {
+            return self.replies(e, Fault::Empty.letter());
         }
-        if e.axes != held.axes {
-            return self.replies(e, b'G');
+        if e.axes != e.held.axes {
+            return self.replies(e, Fault::Refused.letter());
         }
         self.with_engine(e.start()).says(Saying::Silent)
     }

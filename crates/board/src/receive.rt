@@ -10,6 +10,7 @@ ghost use Rattle.board.specs.work.Ears.{line_ear, job_ear, byte_ear, ear_for, is
 ghost use Rattle.board.specs.work.Take.{taken_of};
 
 use crate::{Board, Ear, Line, Received, Saying, Spoke, Taken};
+use count::Fault;
 use engine::Job;
 
 fn is_storing(job: Job) -> bool
@@ -87,13 +88,12 @@ impl Board {
     fn stop(self) -> Spoke
         ensures { result ≡ stop_spoke self }
     {
-        let e = self.engine;
-        let run = e.run;
-        let job = run.job;
-        if is_held(job) & !self.standing {
-            let mut b = self;
-            b.standing = true;
-            return b.says(Saying::One(b'F'));
+        if is_held(self.engine.run.job) & !self.standing {
+            let stopped = Board {
+                standing: true,
+                ..self
+            };
+            return stopped.says(Saying::One(b'F'));
         }
         self.says(Saying::Silent)
     }
@@ -101,14 +101,13 @@ impl Board {
     fn quit(self) -> Spoke
         ensures { result ≡ break_spoke self }
     {
-        let e = self.engine;
-        let run = e.run;
-        let job = run.job;
-        if is_ended(job) | self.standing {
-            let mut b = self;
-            b.engine = e.cease();
-            b.standing = false;
-            return b.says(Saying::One(b'F'));
+        if is_ended(self.engine.run.job) | self.standing {
+            let ended = Board {
+                engine: self.engine.cease(),
+                standing: false,
+                ..self
+            };
+            return ended.says(Saying::One(b'F'));
         }
         self.says(Saying::Silent)
     }
@@ -116,45 +115,40 @@ impl Board {
     fn reset(self) -> Spoke
         ensures { result ≡ reset_spoke self }
     {
-        let e = self.engine;
-        let engine = e.reset();
-        let line = Line::empty();
-        let b = Board {
-            engine,
+        let board = Board {
+            engine: self.engine.reset(),
             standing: false,
-            line,
+            line: Line::empty(),
         };
-        b.says(Saying::Silent)
+        board.says(Saying::Silent)
     }
 
     // A byte at a wait.
     fn listen(self, byte: u8) -> Spoke
         ensures { result ≡ spoke_of (board (heard byte self.engine) self.standing self.line) Saying.Silent }
     {
-        let e = self.engine;
-        let mut b = self;
-        b.engine = e.hear(byte);
-        b.says(Saying::Silent)
+        let board = Board {
+            engine: self.engine.hear(byte),
+            ..self
+        };
+        board.says(Saying::Silent)
     }
 
     // One byte more in the line.
     pub(crate) fn gather(self, byte: u8) -> Board
         ensures { result ≡ with_line self (gathered byte self.line) }
     {
-        let l = self.line;
-        let mut b = self;
-        b.line = l.gather(byte);
-        b
+        Board {
+            line: self.line.gather(byte),
+            ..self
+        }
     }
 
     // What a byte is taken for.
     pub(crate) fn ear(self, byte: u8) -> Ear
         ensures { result ≡ ear_for byte self }
     {
-        let e = self.engine;
-        let run = e.run;
-        let job = run.job;
-        byte_ear(job, self.standing, byte)
+        byte_ear(self.engine.run.job, self.standing, byte)
     }
 
     // A carriage return ends the line.
@@ -162,13 +156,10 @@ impl Board {
         requires { self.line.len ≤ 80 }
         ensures { spoke result (memory store.new table.new) ≡ returned ports self (memory store.old table.old) }
     {
-        let e = self.engine;
-        let run = e.run;
-        let job = run.job;
         if self.line.over {
-            return self.replies(e, b'5');
+            return self.replies(self.engine, Fault::Shape.letter());
         }
-        if is_storing(job) & !self.standing {
+        if is_storing(self.engine.run.job) & !self.standing {
             return self.store_line(store, table);
         }
         // Of a copy: read where it stands, a line takes longer.
@@ -213,10 +204,7 @@ impl Board {
     fn gathers(self) -> bool
         ensures { result ≡ self.standing || gathers_by self.engine.run.job }
     {
-        let e = self.engine;
-        let run = e.run;
-        let job = run.job;
-        self.standing | is_gathering(job)
+        self.standing | is_gathering(self.engine.run.job)
     }
 
     // The bytes at the front of an input that only go into the line, all at once.

@@ -9,6 +9,7 @@ ghost use Rattle.board.specs.Storing.{record_of, record_said, stored_said};
 ghost use Rattle.board.specs.work.Work.{spoke, kept_said, Ended};
 
 use crate::{Board, Saying, Spoke};
+use count::Fault;
 use line::{Code, Stored};
 use program::Flaw;
 use record::Record;
@@ -21,7 +22,7 @@ impl Board {
         let e = self.engine;
         match record::store_record(store, table, e.held, item) {
             Some(held) => self.replies(e.set_held(held), b'0'),
-            None => self.replies(e, b'6'),
+            None => self.replies(e, Fault::Full.letter()),
         }
     }
 
@@ -52,7 +53,7 @@ impl Board {
             Err(Flaw::Fault(rule, place)) => self
                 .with_engine(e.empty().cease())
                 .says(Saying::Fault(rule.letter(), place)),
-            Err(Flaw::Unreadable) => self.replies(e.empty().cease(), b'G'),
+            Err(Flaw::Unreadable) => self.replies(e.empty().cease(), Fault::Refused.letter()),
         }
     }
 
@@ -63,7 +64,7 @@ impl Board {
         // Of a copy: read where it stands, a line takes longer.
         let l = self.line;
         match line::stored_line(l.text()) {
-            None => self.replies(self.engine, b'5'),
+            None => self.replies(self.engine, Fault::Shape.letter()),
             Some(d) => match d.code {
                 Code::Record(c) => self.record_line(c, d, store, table),
                 Code::End => self.end_storing(&store[..]),

@@ -21,10 +21,7 @@ const MOST: u32 = 100000;
 fn left_of(calls: u32) -> u32
     ensures { result ≡ most - calls }
 {
-    if calls < MOST {
-        return MOST - calls;
-    }
-    0
+    MOST.saturating_sub(calls)
 }
 
 // The calls before and those of a run that went on.
@@ -48,9 +45,8 @@ impl Walk {
     pub fn new() -> Walk
         ensures { result ≡ first }
     {
-        let board = Board::fresh();
         Walk {
-            board,
+            board: Board::fresh(),
             calls: 0,
             over: true,
         }
@@ -77,8 +73,7 @@ impl Walk {
     fn is_ready(self, store: usize, table: usize, out: usize) -> bool
         ensures { result ≡ leb 64 out && eqb store 16384 && sound self.board && eqb table 1000 }
     {
-        let board = self.board;
-        (64 <= out) & (store == 16384) & board.sound() & (table == 1000)
+        (64 <= out) & (store == 16384) & self.board.sound() & (table == 1000)
     }
 
     // A byte, if the run before it is over: its reply, and as much of its run as the rest of the buffer holds.
@@ -91,8 +86,9 @@ impl Walk {
         if !self.is_ready(store.len(), table.len(), out.len()) {
             return self.stay();
         }
-        let board = self.board;
-        let heard = board.receive(byte, [0u8; 4], &mut out[2..], &mut *store, &mut *table);
+        let heard = self
+            .board
+            .receive(byte, [0u8; 4], &mut out[2..], &mut *store, &mut *table);
         let n = put_reply(&mut *out, heard.len());
         let next = heard.board;
         if !runs_now(next) {
@@ -107,9 +103,8 @@ impl Walk {
             };
         }
         let ran = run(next, &*store, &*table, MOST, &mut out[n..]);
-        let last = ran.board;
         let walk = Walk {
-            board: last,
+            board: ran.board,
             calls: ran.calls,
             over: ran.over,
         };
@@ -121,17 +116,15 @@ impl Walk {
     pub fn feed(self, input: &[u8]) -> Fed
         ensures { result ≡ fed_of input.now self }
     {
-        let board = self.board;
-        let taken = board.take(input);
+        let taken = self.board.take(input);
         if !self.over | (taken.count == 0) {
             return Fed {
                 walk: self,
                 count: 0,
             };
         }
-        let next = taken.board;
         let walk = Walk {
-            board: next,
+            board: taken.board,
             calls: 0,
             over: true,
         };
@@ -151,13 +144,10 @@ impl Walk {
         if !self.is_ready(store.len(), table.len(), out.len()) {
             return self.stay();
         }
-        let board = self.board;
-        let calls = self.calls;
-        let ran = run(board, store, table, left_of(calls), out);
-        let last = ran.board;
+        let ran = run(self.board, store, table, left_of(self.calls), out);
         let walk = Walk {
-            board: last,
-            calls: sum_of(calls, ran.calls),
+            board: ran.board,
+            calls: sum_of(self.calls, ran.calls),
             over: ran.over,
         };
         Portion {
@@ -173,10 +163,8 @@ impl Walk {
         if out.len() < 64 {
             return 0;
         }
-        let board = self.board;
-        let engine = board.engine;
-        let at = engine.at;
-        let turns = is_turning(engine);
+        let at = self.board.engine.at;
+        let turns = is_turning(self.board.engine);
         if self.over {
             return put_end(out, turns, at);
         }

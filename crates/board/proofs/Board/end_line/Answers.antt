@@ -8,7 +8,7 @@ use Rattle.board.proofs.Board.end_line.Goals as goal
 pub returns-then-self : goal.returns-then-self
 returns-then-self c =
     let a = c.args in
-    return-over a.ports a.self (memory a.store.now a.table.now) c.if-self.true c.replies.ensures
+    return-over a.ports a.self (memory a.store.now a.table.now) c.if-self.true (rw c.letter.ensures at c.replies.ensures)
 
 pub returns-then-is_storing-self : goal.returns-then-is_storing-self
 returns-then-is_storing-self c =

@@ -12,4 +12,4 @@ returns-in-Err-Fault c =
 pub returns-in-Err-Unreadable : goal.returns-in-Err-Unreadable
 returns-in-Err-Unreadable c =
     let v = rw c.in-Err-Unreadable.field-0-is at c.in-Err-Unreadable.ensures in
-    λ table. simp (← v, c.empty-in-Err-Unreadable.ensures, c.cease-in-Err-Unreadable.ensures, c.replies-in-Err-Unreadable.ensures)
+    λ table. simp (← v, c.empty-in-Err-Unreadable.ensures, c.cease-in-Err-Unreadable.ensures, c.letter-in-Err-Unreadable.ensures, c.replies-in-Err-Unreadable.ensures)

@@ -2,4 +2,4 @@
 use Rattle.board.proofs.Board.gather.Goals as goal
 
 pub returns : goal.returns
-returns c = rw c.gather-b.ensures
+returns c = rw c.gather.ensures

@@ -11,4 +11,4 @@ pub returns-in-None : goal.returns-in-None
 returns-in-None c =
     let a = c.args in
     let e = not-kept a.self.engine.held a.item (memory a.store.now a.table.now) c.in-None.ensures refl in
-    simp (← c.in-None.ensures, c.replies-in-None.ensures, e)
+    simp (← c.in-None.ensures, c.letter.ensures, c.replies-in-None.ensures, e)

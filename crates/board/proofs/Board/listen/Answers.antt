@@ -2,4 +2,4 @@
 use Rattle.board.proofs.Board.listen.Goals as goal
 
 pub returns : goal.returns
-returns c = simp (c.hear-b.ensures, c.says.ensures)
+returns c = simp (c.hear.ensures, c.says.ensures)

@@ -2,4 +2,4 @@
 use Rattle.board.proofs.Board.reset.Goals as goal
 
 pub returns : goal.returns
-returns c = simp (c.reset-engine.ensures, c.empty-line.ensures, c.says.ensures)
+returns c = simp (c.reset.ensures, c.empty.ensures, c.says.ensures)

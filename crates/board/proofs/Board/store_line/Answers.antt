@@ -13,7 +13,7 @@ record_line-requires c = code-right (text_of c.args.self.line) (c.in-Some.ensure
 pub returns-in-None : goal.returns-in-None
 returns-in-None c =
     let a = c.args in
-    stored_wrong (text_of a.self.line) a.self (memory a.store.now a.table.now) (c.in-None.ensures ∙ ap stored_of c.text.ensures) refl c.replies.ensures
+    stored_wrong (text_of a.self.line) a.self (memory a.store.now a.table.now) (c.in-None.ensures ∙ ap stored_of c.text.ensures) refl (rw c.letter.ensures at c.replies.ensures)
 
 pub returns-in-Record : goal.returns-in-Record
 returns-in-Record c =

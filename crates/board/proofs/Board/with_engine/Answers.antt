@@ -2,4 +2,4 @@
 use Rattle.board.proofs.Board.with_engine.Goals as goal
 
 pub returns : goal.returns
-returns c = rw c.empty-line.ensures
+returns c = rw c.empty.ensures

@@ -2,4 +2,4 @@
 use Rattle.course.proofs.Walk.new.Goals as goal
 
 pub returns : goal.returns
-returns c = rw c.fresh-board.ensures
+returns c = rw c.fresh.ensures

@@ -37,19 +37,21 @@ impl<'a> Fields<'a> {
     }
 
     // The next field as what it is read as.
-    fn read<T>(&mut self, read: impl FnOnce(&[u8]) -> Option<T>) -> Result<T, Fault> {
+    fn read<T, Read: FnOnce(&[u8]) -> Option<T>>(&mut self, read: Read) -> Result<T, Fault>
+        requires { Read.IsAlwaysCallable read }
+    {
         let field = self.next().ok_or(Fault::Unread)?;
         read(field).ok_or(Fault::Unread)
     }
 
     // The next field as the bits of a float.
     pub(crate) fn bits(&mut self) -> Result<u64, Fault> {
-        self.read(reader::read_bits)
+        self.read(|field| reader::read_bits(field))
     }
 
     // The next field as a whole number.
     pub(crate) fn whole(&mut self) -> Result<i64, Fault> {
-        self.read(reader::read_whole)
+        self.read(|field| reader::read_whole(field))
     }
 
     // The next field as a number of a smaller type.

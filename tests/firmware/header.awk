@@ -130,10 +130,28 @@ FILENAME ~ /port\/src/ && /if reply\.len\(\) < [0-9]+ {$/ { length_asked("BOARD_
 FILENAME ~ /port\/src/ && /if store\.len\(\) != [0-9]+ {$/ { length_asked("BOARD_STORE", "BOARD_WRONG_STORE"); next }
 FILENAME ~ /port\/src/ && /if table\.len\(\) != [0-9]+ {$/ { length_asked("BOARD_TABLE", "BOARD_WRONG_TABLE"); next }
 FILENAME ~ /port\/src/ && /if !state\.is_known\(\)/ { awaited = "BOARD_WRONG_STATE"; next }
-FILENAME ~ /record\/src\/listing/ && /if text\.len\(\) < [0-9]+ {$/ { length_asked("BOARD_TEXT", "BOARD_SHORT_TEXT"); next }
-FILENAME ~ /record\/src\/listing/ && /refusal: [0-9]+, \/\/ G$/ { awaited = "BOARD_UNREADABLE" }
-FILENAME ~ /sheet\/src\/chains/ && /steps\.len\(\) != n/ { awaited = "BOARD_WRONG_CHAIN"; next }
-FILENAME ~ /count\/src\/lib/ && /^const HALF: u32 = [0-9]+;$/ { text = $NF; sub(/;$/, "", text); constant("BOARD_ZERO", text) }
+FILENAME ~ /record\/src\/listing/ && /if text\.len\(\) < [0-9]+ {$/ { length_asked("BOARD_TEXT", ""); named = "BOARD_SHORT_TEXT count"; next }
+FILENAME ~ /record\/src\/listing/ && /if !readable\(/ { named = "BOARD_UNREADABLE count"; next }
+FILENAME ~ /sheet\/src\/chains/ && /steps\.len\(\) != n/ { named = "BOARD_WRONG_CHAIN sheet"; next }
+FILENAME ~ /count\/src\/lib/ && /^const HALF: u32 = [0-9_]+;$/ { text = $NF; gsub(/[;_]/, "", text); constant("BOARD_ZERO", text) }
+
+# a refusal by its name, whose number stands once in its crate: return Err(Refusal::Text);  Refusal::Text => 106,  Fault::Refused => b'G',
+named != "" && /Err\(Refusal::[A-Za-z:()]+\)/ {
+    text = $0
+    gsub(/^.*Err\(Refusal::(Program\()?|\)+;$/, "", text)
+    split(named, two, " ")
+    meant[two[1]] = two[2] " " text
+    named = ""
+}
+
+FILENAME ~ /(count|sheet)\/src\/(refusals|lib)/ && /^            (Refusal::[A-Za-z]+ => [0-9]+|Fault::[A-Za-z]+ => b'.'),$/ {
+    text = $1
+    sub(/^Refusal::/, "", text)
+    number = $3
+    gsub(/^b|,$/, "", number)
+    told[(FILENAME ~ /sheet/ ? "sheet " : "count ") text] = number
+    next
+}
 
 awaited != "" && /[^0-9][0-9]+[^0-9]*$/ {
     text = $0
@@ -189,6 +207,10 @@ function show_function(text, name, result, given, n, list, i, two) {
 
 END {
     if (refused) exit 1
+    for (name in meant) {
+        if (!(meant[name] in told)) refuse("there is no number of the refusal " meant[name])
+        constant(name, told[meant[name]])
+    }
     print "#include <stddef.h>"
     print "#include \"board.h\""
     for (i = 1; i <= structs; i++) show_struct(order[i])

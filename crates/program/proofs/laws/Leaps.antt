@@ -104,6 +104,11 @@ module _ (r : Record) (place end : ℕ) (o : Loops) where
       (kept-pick o (eqb r.code (ch "2")) _ _ (kept-aimed o place end (nth r.words 1) r) (kept-stays o)))
 
   -- a leap with the loops made of it is the way
-  pub leap-way : (l : made.Lead) {p : Loops} → lead_in l ≡ leap_of r place end o → p ≡ loops_by (lead_in l) o → way_by l.going p ≡ onward_of r place end o
+  pub leap-way : {l : Lead} {p : Loops} → l ≡ leap_of r place end o → p ≡ loops_by l o
+      → record { going = l.going; place = l.place; target = l.target; loops = p } ≡ onward_of r place end o
   unfolding leap_of
-  leap-way l e d = rw d (rw (ap (λ (x : Lead). loops_by x o) e, leap-loops) (ap (λ (x : Lead). record { going = x.going; place = x.place; target = x.target; loops = (onward_of r place end o).loops }) e))
+  leap-way e d = rw (d, e, leap-loops)
+
+  -- the same of a leap as it is answered
+  pub leap-made : (l : made.Lead) {p : Loops} → lead_in l ≡ leap_of r place end o → p ≡ loops_by (lead_in l) o → way_by l.going p ≡ onward_of r place end o
+  leap-made l e d = leap-way {l = lead_in l} e d

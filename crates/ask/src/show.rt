@@ -11,13 +11,19 @@ pub(crate) fn chained(alloc: Global, steps: &[i32]) -> Result<String, AllocError
     Ok(text)
 }
 
-// Two digits for each byte, or `-` for none.
+// A hexadecimal digit.
+fn digit(n: u8) -> char {
+    char::from_digit(u32::from(n), 16).unwrap_or('0')
+}
+
+// Two digits for each byte, or `-` for none; not by `{:02x}`, with which a byte takes ten times as long.
 fn put_bytes(text: &mut String, bytes: &[u8]) -> Result<(), AllocError> {
     if bytes.is_empty() {
         text.push('-')?;
     }
     for b in bytes {
-        write!(text, "{b:02x}")?;
+        text.push(digit(b / 16))?;
+        text.push(digit(b % 16))?;
     }
     Ok(())
 }

@@ -189,24 +189,38 @@ fn set<T: Copy>(places: &mut [T], at: usize, value: T) {
     }
 }
 
+// The next line with its line feed, or as much as is kept of it; says whether it has one, since behind a line without nothing follows and no more
+// is read: on a terminal more could be typed.
+fn read_row(input: &mut impl BufRead, row: &mut Vec<u8>) -> io::Result<bool> {
+    row.clear();
+    for _ in 0..u64::MAX {
+        let n = input.by_ref().take(KEPT).read_until(b'\n', row)?;
+        if row.ends_with(b"\n") {
+            return Ok(true);
+        }
+        if (n as u64) < KEPT {
+            break;
+        }
+        row.truncate(KEPT as usize);
+    }
+    Ok(false)
+}
+
 // A wrong line prints its number.
 fn main(rt: HostRuntime) -> io::Result<()> {
     let mut play = Play::new();
     let mut input = BufReader::new(rt.alloc(), rt.stdin())?;
-    let mut line = Vec::new(rt.alloc());
+    let mut row = Vec::new(rt.alloc());
     for number in 1..u64::MAX {
-        line.clear();
-        if input.by_ref().take(KEPT).read_until(b'\n', &mut line)? == 0 {
+        let more = read_row(&mut input, &mut row)?;
+        if row.is_empty() {
             break;
         }
-        if !line.ends_with(b"\n") {
-            input.skip_until(b'\n')?;
-        }
-        let row = line.strip_suffix(b"\n").unwrap_or(&line);
-        if !play.take(&rt, rt.alloc(), row)? {
+        let line = row.strip_suffix(b"\n").unwrap_or(&row);
+        if !play.take(&rt, rt.alloc(), line)? {
             println!(rt; "? {number}")?;
         }
-        if !play.more {
+        if !more || !play.more {
             break;
         }
     }

@@ -133,17 +133,24 @@ fn take_all(
     pace
 }
 
+// In pieces, since the chip on which the calls are counted has no heap.
 fn main(rt: HostRuntime) -> io::Result<()> {
     let mut store = [0u8; 16384];
     let mut table = [0u16; 1000];
     let mut text = [0u8; 65536];
-    let mut input = Vec::new(rt.alloc());
-    rt.stdin().take(65536).read_to_end(&mut input)?;
+    let mut from = rt.stdin().take(65536);
+    let mut input = [0u8; 65536];
     let mut pace = Pace {
         board: Board::fresh(),
         calls: 0,
         sum: 0,
     };
-    pace = take_all(pace, &input, &mut store, &mut table, &mut text);
+    for _ in 0..u64::MAX {
+        let n = from.read(&mut input)?;
+        if n == 0 {
+            break;
+        }
+        pace = take_all(pace, &input[..n], &mut store, &mut table, &mut text);
+    }
     println!(rt; "{} {}", pace.calls, pace.sum)
 }

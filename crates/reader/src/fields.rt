@@ -6,14 +6,17 @@ ghost use Rattle.count.specs.Pick.{every};
 ghost use Rattle.reader.specs.Fields.{field_end, signed_whole, whole_of, is_hex, bits_of, is_dash, are_pairs, byte_of, pairs, given, bytes_of};
 ghost use Rattle.reader.specs.work.Sizes.{size_from, sized_whole};
 
-use super::{hex_number, hex_value};
+use super::{behind, hex_number, hex_value};
 use std::num;
 
 // Where the field that starts at a place of the text ends.
 pub fn field_end(text: &[u8], from: usize) -> usize
     ensures { result ≡ field_end text.now from }
 {
-    from + text.iter().skip(from).take_while(|b| **b != b' ').count()
+    from + behind(text, from)
+        .iter()
+        .take_while(|b| **b != b' ')
+        .count()
 }
 
 // A whole number of 64 bits with its sign.

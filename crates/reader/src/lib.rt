@@ -2,7 +2,7 @@
 // hexadecimal ones at a place. And the fields of a line, for the program that answers questions.
 #![tactic(auto)]
 
-ghost use Rattle.std.specs.Prelude.{◌≡◌, ◌≤◌, length};
+ghost use Rattle.std.specs.Prelude.{◌≡◌, ◌≤◌, length, drop};
 ghost use Rattle.reader.specs.Reader.{with_digit, number_at, words_at, behind_words, hex_value, hex_at};
 
 mod fields;
@@ -77,11 +77,18 @@ pub(crate) fn hex_value(b: u8) -> u64
     }
 }
 
+// What stands from a place of the text on; nothing behind its end. It is one step, where `skip` would take one for each byte before it.
+pub(crate) fn behind(text: &[u8], from: usize) -> &[u8]
+    ensures { result.now ≡ drop from text.now }
+{
+    &text[from.min(text.len())..]
+}
+
 // The number of so many hexadecimal digits from a place of the text on, or of those that stand there; the last sixteen count.
 pub fn hex_number(text: &[u8], from: usize, digits: usize) -> u64
     ensures { result ≡ hex_at text.now from digits }
 {
-    text.iter().skip(from).take(digits).fold(0, |n, b| {
+    behind(text, from).iter().take(digits).fold(0, |n, b| {
         n % 0x1000_0000_0000_0000 * 16 + hex_value(*b)
     })
 }

@@ -16,6 +16,7 @@ use mir.Syntax.{w32}
 use mir.Val.{SFits}
 use borrow.Author.Tests.{eqb-true}
 use Rattle.count.specs.Pick.{pick, every}
+use Rattle.count.proofs.laws.Truth.{and_parts}
 use Rattle.std.specs.Prelude.{Result, Ok, Err}
 use Rattle.sheet.specs.declared.Axis.{Axis}
 use Rattle.sheet.specs.declared.Refusal.{Refusal}
@@ -150,6 +151,13 @@ module _ (l : List ℤ) (i : ℕ) (h : i < length l) where
             let z : noted 0 k.refusal ≡ 0 = fault-free a more k.result (drop (i + 1) l) (noted 0 k.refusal) f in
             record { right = e; link = nothing k.refusal z; sound = rw z at f }
         by false e = let z : ◌≡◌ {A = ℕ} 202 0 = sym (fault-stops 0 e) ∙ h in absurd (omega arith)
+
+    -- sums that are all right are so one distance on
+    pub sums-go : every sum_right (sums sum (drop i l)) ≡ true → (sum_right more ≡ true) × (every sum_right (sums more (drop (i + 1) l)) ≡ true)
+    unfolding every sums
+    sums-go e =
+        let f : every sum_right (sums sum (get_or l i (pos 0) ∷ drop (i + 1) l)) ≡ true = ap (λ (r : List ℤ). every sum_right (sums sum r)) (sym next) ∙ e in
+        and_parts (sum_right more) (every sum_right (sums more (drop (i + 1) l))) f
 
     -- one step more is written, and one fewer is left
     pub steps-go : (s : List ℤ) → i < length s

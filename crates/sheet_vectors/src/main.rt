@@ -5,13 +5,10 @@
 
 use sheet::{Axis, Rate, Refusal};
 use std::io;
-use std::io::{BufRead, BufReader, Read};
+use std::io::Read;
 
 // The bytes of a right line.
 const WIDTH: usize = 69;
-
-// The most that is kept of a line, with a carriage return and the line feed. What is longer is none.
-const KEPT: u64 = 71;
 
 // Whether a byte may stand at a place of a line behind the letter.
 fn is_right_at(i: usize, b: u8) -> bool {
@@ -71,26 +68,58 @@ fn answer(rt: &impl Print, number: u64, line: &[u8]) -> io::Result<()> {
     }
 }
 
-// A line without its line feed and a carriage return before that. The last line may be without a line feed, and then is as it stands.
-fn stripped(line: &[u8]) -> &[u8] {
-    match line.strip_suffix(b"\n") {
-        Some(ended) => ended.strip_suffix(b"\r").unwrap_or(ended),
-        None => line,
+// The line being read: its bytes, how many it has (71 stands for more than 70, which is the most with a carriage return), and its number. An
+// array and a length: the page for the classroom runs this program, and nothing of what it runs there asks for a heap.
+#[derive(Drop)]
+struct Row {
+    bytes: [u8; 70],
+    len: usize,
+    number: u64,
+}
+
+impl Row {
+    // What was read of it; a line that is too long is none, as an empty one.
+    fn text(&self) -> &[u8] {
+        self.bytes.get(..self.len).unwrap_or(&[])
+    }
+
+    // One byte. A line feed ends the line, and a carriage return before it is no part of the line.
+    fn take_byte(&mut self, rt: &impl Print, b: u8) -> io::Result<()> {
+        if b == b'\n' {
+            let line = self.text();
+            answer(rt, self.number, line.strip_suffix(b"\r").unwrap_or(line))?;
+            self.len = 0;
+            self.number = self.number.saturating_add(1);
+            return Ok(());
+        }
+        if let Some(place) = self.bytes.get_mut(self.len) {
+            *place = b;
+        }
+        self.len = self.len.saturating_add(1).min(71);
+        Ok(())
     }
 }
 
+// A last line without a line feed is one if it has a byte, and is as it stands.
 fn main(rt: HostRuntime) -> io::Result<()> {
-    let mut input = BufReader::new(rt.alloc(), rt.stdin())?;
-    let mut line = Vec::new(rt.alloc());
-    for number in 1..u64::MAX {
-        line.clear();
-        if input.by_ref().take(KEPT).read_until(b'\n', &mut line)? == 0 {
+    let mut from = rt.stdin();
+    let mut input = [0u8; 65536];
+    let mut row = Row {
+        bytes: [0; 70],
+        len: 0,
+        number: 1,
+    };
+    for _ in 0..u64::MAX {
+        let n = from.read(&mut input)?;
+        if n == 0 {
             break;
         }
-        if !line.ends_with(b"\n") {
-            input.skip_until(b'\n')?;
+        for b in &input[..n] {
+            row.take_byte(&rt, *b)?;
         }
-        answer(&rt, number, stripped(&line))?;
+    }
+    if 0 < row.len {
+        answer(&rt, row.number, row.text())?;
     }
     Ok(())
 }

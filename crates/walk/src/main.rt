@@ -1,7 +1,7 @@
 // `walk`: reads what is sent to a board, runs the board after each byte, and prints its replies and its pulses.
 #![tactic(auto)]
 
-ghost use Rattle.std.specs.Prelude.{◌≤◌};
+ghost use Rattle.std.specs.Prelude.{◌≡◌, ◌≤◌, ◌+◌, min};
 
 use course::Walk;
 use std::io;
@@ -22,20 +22,16 @@ struct Session {
 }
 
 impl Session {
-    fn new() -> Session {
-        let mut session = Session {
-            walk: Walk::new(),
-            store: [0; 16384],
-            table: [0; 1000],
-            out: [0; 65536],
-            at: 0,
-        };
-        session.at = Walk::head(&mut session.out).min(65536);
-        session
+    // What stands before all else.
+    fn begin(&mut self) {
+        let n = Walk::head(&mut self.out);
+        self.advance(n);
     }
 
     // A portion stands behind what waits.
-    fn advance(&mut self, n: usize) {
+    fn advance(&mut self, n: usize)
+        ensures { self.new.at ≡ min (self.old.at + n) 65536 }
+    {
         self.at = self.at.saturating_add(n).min(65536);
     }
 
@@ -131,8 +127,16 @@ impl Session {
     }
 }
 
+// A session is made where it stays: handed on, its buffers would stand on the stack once more for each hand, which a small chip does not have.
 fn main(rt: HostRuntime) -> io::Result<()> {
-    let mut session = Session::new();
+    let mut session = Session {
+        walk: Walk::new(),
+        store: [0; 16384],
+        table: [0; 1000],
+        out: [0; 65536],
+        at: 0,
+    };
+    session.begin();
     session.take_input(&rt, &mut rt.stdin())?;
     session.finish(&rt)
 }

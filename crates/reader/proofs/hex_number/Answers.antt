@@ -1,7 +1,6 @@
 -- `reader::hex_number` meets its contract: as `fold` says.
-use Rattle.std.proofs.Common.{rules, ◌≡◌, ◌∙◌, refl, ◌+◌, ◌*◌, ◌%◌, ℕ, List, [], ◌∷◌, fold}
+use Rattle.std.proofs.Common.{rules, ◌≡◌, ◌∙◌, refl, ◌+◌, ◌*◌, ◌%◌, ℕ, List, [], ◌∷◌, drop, fold}
 use Rattle.std.proofs.lemmas.Iterator.{YieldsList-from_slice, YieldsList-from_take}
-use Rattle.std.proofs.lemmas.Iterator.Adapters.{YieldsList-from_skip}
 use Rattle.std.proofs.lemmas.Iterator.Consumers.{fold_from_yields_List}
 use Rattle.reader.proofs.laws.Chains.{by_source}
 use Rattle.reader.specs.Reader.{hex_value, with_hex}
@@ -18,7 +17,6 @@ folds (b ∷ s) n = folds s (more n b)
 
 pub returns : goal.returns
 returns c =
-    let text = YieldsList-from_slice c.args.text.now c.iter.ensures.rest in
-    let behind = YieldsList-from_skip c.args.from (by_source c.skip.ensures.source text) c.skip.ensures.count in
+    let behind = YieldsList-from_slice (drop c.args.from c.args.text.now) (c.iter.ensures.rest ∙ c.behind.ensures) in
     let near = YieldsList-from_take c.args.digits (by_source c.take.ensures.source behind) c.take.ensures.count in
     fold_from_yields_List _ more 0 _ c.fold.ensures.ran near (λ a x b q h. (refl, search rules)) ∙ folds _ 0

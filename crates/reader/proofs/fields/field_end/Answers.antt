@@ -2,7 +2,6 @@
 use Rattle.std.proofs.Common.{rules, ◌≡◌, ◌≤◌, ◌-◌, ◌∙◌, ℕ, Bool, not, ◌==◌, refl, ap, ◌+◌, arith, drop, length, length-drop}
 use Rattle.std.specs.List.{prefix_len}
 use Rattle.std.proofs.lemmas.Iterator.{YieldsList-from_slice}
-use Rattle.std.proofs.lemmas.Iterator.Adapters.{YieldsList-from_skip}
 use Rattle.std.proofs.lemmas.Iterator.Consumers.{count_from_yields_List}
 use Rattle.std.proofs.lemmas.Iterator.Search.{YieldsList-from_take_while}
 use Rattle.std.proofs.lemmas.List.Folds.{length-prefix_len}
@@ -16,8 +15,7 @@ no_space b = not (b == 32)
 
 count_is : (c : goal.After-count) → c.count.result ≡ prefix_len no_space (drop c.args.from c.args.text.now)
 count_is c =
-    let text = YieldsList-from_slice c.args.text.now c.iter.ensures.rest in
-    let behind = YieldsList-from_skip c.args.from (by_source c.skip.ensures.source text) c.skip.ensures.count in
+    let behind = YieldsList-from_slice (drop c.args.from c.args.text.now) (c.iter.ensures.rest ∙ c.behind.ensures) in
     count_from_yields_List
     _
     _

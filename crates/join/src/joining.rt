@@ -1,5 +1,6 @@
 // A second program put behind a first, and the table filled: everything is tested before anything is written.
-ghost use Rattle.std.specs.Prelude.{◌≡◌};
+ghost use Rattle.std.specs.Prelude.{◌≡◌, ◌+◌, ◌≤◌, length};
+ghost use Rattle.std.proofs.Math.Seq.{paste};
 ghost use Rattle.record.specs.Memory.{memory};
 ghost use Rattle.record.specs.Table.{refused};
 ghost use Rattle.join.specs.Join.{axes_beside, counted, axes_right, room_right, refusal_of, joining, outcome, join_of};
@@ -83,6 +84,16 @@ fn refusal_of(
     Ok(())
 }
 
+// The first `n` bytes of another store at byte `at`: by a loop, not `copy_from_slice`, so that the archives for C ask no `memmove`.
+fn put_bytes(store: &mut [u8], at: usize, other: &[u8], n: usize)
+    requires { (at + n ≤ length store.old) × (n ≤ length other.now) }
+    ensures { store.new ≡ paste store.old at other.now n }
+{
+    for i in 0..n {
+        store[at + i] = other[i];
+    }
+}
+
 // The second program put behind the first, whose store and table are the destination; or the refusal, and the first stays.
 pub fn join(
     first: Held,
@@ -96,7 +107,7 @@ pub fn join(
     refusal_of(first, store, table, second, other)?;
     let at = usize::from(first.used);
     let n = usize::from(second.used);
-    store[at..at + n].copy_from_slice(&other[..n]);
+    put_bytes(store, at, other, n);
     let held = Held {
         used: (at + n) as u16,
         records: first.records + second.records,

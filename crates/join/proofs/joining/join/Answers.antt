@@ -1,7 +1,5 @@
 -- `join::join` meets its contract. Assumes nothing.
-use Rattle.std.proofs.Common.{ℕ, List, ◌≡◌, ◌+◌, ◌-◌, ◌≤◌, ◌++◌, length, take, drop, length-drop, append_assoc, sym, ◌∙◌, arith}
-use Rattle.std.proofs.Math.Seq.{length-take-le, drop-drop}
-use borrow.Rule.Slice.PartMut.{put_mid}
+use Rattle.std.proofs.Common.{ℕ, List, ◌≡◌, ◌+◌, ◌≤◌, length, sym, arith}
 use Rattle.std.proofs.lemmas.Result.{err_from_is_err_and}
 use Rattle.record.specs.declared.Held.{Held}
 use Rattle.record.specs.Bytes.{Below}
@@ -25,37 +23,16 @@ fits a m b t z =
     let l = long a m b t p in
     record { records = f.0; used = f.1; store = l.0; other = l.1 }
 
--- the part between two bytes, replaced
-mid : (s t : List ℕ) (at n : ℕ) → put_mid at (at + n - at) s t ≡ take at s ++ t ++ drop (at + n) s
-mid s t at n =
-    let e : at + n - at ≡ n = omega arith in
-    rw (e, drop-drop) (sym (append_assoc (take at s) t (drop (at + n) s)))
-
 pub returns-in_err-refusal_of : goal.returns-in_err-refusal_of
 returns-in_err-refusal_of c =
     let p = err_from_is_err_and c.from_residual.result c.from_residual.ensures.1 in
     rw (p.1, p.2) (refused _ _ _ _ c.in_err-refusal_of.ensures (number-some c.in_err-refusal_of.field-0.0))
 
-pub slice_bounds-copy_from_slice-end : goal.slice_bounds-copy_from_slice-end
-slice_bounds-copy_from_slice-end c =
+pub put_bytes-requires : goal.put_bytes-requires
+put_bytes-requires c =
     let a = c.args in
     let f = fits a.first (memory a.store.now a.table.now) a.second a.other.now c.in_ok-refusal_of.ensures in
-    omega (arith, f.used, f.store)
-
-pub slice_bounds-copy_from_slice-end-2 : goal.slice_bounds-copy_from_slice-end-2
-slice_bounds-copy_from_slice-end-2 c =
-    let a = c.args in
-    let f = fits a.first (memory a.store.now a.table.now) a.second a.other.now c.in_ok-refusal_of.ensures in
-    sym (length-take-le c.from-n.result a.other.now (omega (arith, f.used, f.other)))
-
-pub copy_from_slice-requires : goal.copy_from_slice-requires
-copy_from_slice-requires c =
-    let a = c.args in
-    let f = fits a.first (memory a.store.now a.table.now) a.second a.other.now c.in_ok-refusal_of.ensures in
-    let n = length-take-le c.from-n.result a.other.now (omega (arith, f.used, f.other)) in
-    let d = length-drop c.from-at.result a.store.now in
-    let k = length-take-le (c.from-at.result + c.from-n.result - c.from-at.result) (drop c.from-at.result a.store.now) (omega (arith, f.used, f.store, d)) in
-    omega (arith, n, k)
+    (omega (arith, f.used, f.store), omega (arith, f.used, f.other))
 
 pub overflow_cast-held : goal.overflow_cast-held
 overflow_cast-held c =
@@ -75,10 +52,7 @@ returns-in_err-fill c =
     let m = memory a.store.now a.table.now in
     let g : Below 256 a.store.now = record { at = λ j. omega (arith, c.slice_known-1.given j) } in
     let h : Below 256 a.other.now = record { at = λ j. omega (arith, c.type_inv.other j) } in
-    let s : put_mid c.from-at.result (c.from-at.result + c.from-n.result - c.from-at.result) a.store.now c.copy_from_slice.new.self
-    ≡ take a.first.used a.store.now ++ take a.second.used a.other.now ++ drop (a.first.used + a.second.used) a.store.now
-    = mid a.store.now c.copy_from_slice.new.self c.from-at.result c.from-n.result ∙ rw (c.copy_from_slice.ensures.after, c.from-at.ensures, c.from-n.ensures) in
-    absurd (number-some _ (joined-zero a.first m a.second a.other.now (sym c.in_ok-refusal_of.ensures) g h (rw (s, c.from-at.ensures, c.from-n.ensures, c.axes_beside.ensures) at c.in_err-fill.ensures)))
+    absurd (number-some _ (joined-zero a.first m a.second a.other.now (sym c.in_ok-refusal_of.ensures) g h (rw (c.put_bytes.ensures, c.from-at.ensures, c.from-n.ensures, c.axes_beside.ensures) at c.in_err-fill.ensures)))
 
 pub returns : goal.returns
 unfolding both end_to_end
@@ -87,8 +61,5 @@ returns c =
     let m = memory a.store.now a.table.now in
     let g : Below 256 a.store.now = record { at = λ j. omega (arith, c.slice_known-1.given j) } in
     let h : Below 256 a.other.now = record { at = λ j. omega (arith, c.type_inv.other j) } in
-    let s : put_mid c.from-at.result (c.from-at.result + c.from-n.result - c.from-at.result) a.store.now c.copy_from_slice.new.self
-    ≡ take a.first.used a.store.now ++ take a.second.used a.other.now ++ drop (a.first.used + a.second.used) a.store.now
-    = mid a.store.now c.copy_from_slice.new.self c.from-at.result c.from-n.result ∙ rw (c.copy_from_slice.ensures.after, c.from-at.ensures, c.from-n.ensures) in
-    rw (s, c.from-at.ensures, c.from-n.ensures, c.axes_beside.ensures)
-    (joined-so a.first m a.second a.other.now (sym c.in_ok-refusal_of.ensures) g h (rw (s, c.from-at.ensures, c.from-n.ensures, c.axes_beside.ensures) at c.in_ok-fill.ensures))
+    rw (c.put_bytes.ensures, c.from-at.ensures, c.from-n.ensures, c.axes_beside.ensures)
+    (joined-so a.first m a.second a.other.now (sym c.in_ok-refusal_of.ensures) g h (rw (c.put_bytes.ensures, c.from-at.ensures, c.from-n.ensures, c.axes_beside.ensures) at c.in_ok-fill.ensures))
